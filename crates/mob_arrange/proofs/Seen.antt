@@ -1,5 +1,5 @@
 -- Rows that were seen, as a set of their texts.
-use Rattle.std.proofs.Common.{◌≡◌, ◌⊎◌, inl, inr, ℕ, ◌+◌, ◌<◌, Bool, true, false, List, [], ◌∷◌, ◌++◌, length, get_or, drop, map, nat_eq, Bor, not, ◌||◌, refl, sym, ap, ap₂, ◌∙◌, subst, append_assoc, append-nil, true≢false, arith, suc, add-one, drop-cons}
+use Rattle.std.proofs.Common.{◌≡◌, ◌⊎◌, inl, inr, ℕ, ◌+◌, ◌<◌, Bool, true, false, List, [], ◌∷◌, ◌++◌, length, get_or, drop, map, nat_eq, Bor, not, ◌||◌, refl, sym, ap, ap₂, ◌∙◌, subst, append_assoc, append-nil, true≢false, arith}
 use Rattle.std.specs.declared.string.String.{String}
 use Rattle.std.specs.declared.vec.Vec.{Vec}
 use Rattle.std.specs.Bool.{Decides}
@@ -10,6 +10,7 @@ use Rattle.std.specs.Cmp.Lexicographic.{pointwise, pointwise_decides, bytes_deci
 use Rattle.std.specs.Cmp.Derive.Mapped.{pointwise-map}
 use Rattle.std.proofs.lemmas.Map.Views.{list_any-from_Contains, Contains-from_any}
 use Rattle.std.proofs.lemmas.List.{drop_all, map-append}
+use Rattle.mob_list.proofs.Entries.{drop_read}
 use Rattle.indexmap.specs.IndexSet.{insert_key}
 use Rattle.mob_arrange.specs.TextsSeen.{strings_of}
 use Rattle.mob_arrange.specs.Rows.{AreFirst}
@@ -55,9 +56,6 @@ seen_or_new k keys next is_new e s = by (list_any (same_strings k) keys) refl
       e ∙ ap not h,
       ap (map strings_of) (s ∙ ap (λ (b : Bool). if b then keys else keys ++ k ∷ []) h) ∙ map-append strings_of keys (k ∷ []),
     )
-
-drop_read : {X : Type 0} (xs : List X) (i : ℕ) (x : X) → i < length xs → x ≡ get_or xs i x → drop i xs ≡ x ∷ drop (i + 1) xs
-drop_read xs i x h e = rw add-one (rw (drop-cons xs i x) (ap (λ y. y ∷ drop (suc i) xs) (sym e)))
 
 module _ {X : Type 0} (all : List X) (i : ℕ) (x : X) (before next : List X) (is_new : Bool) (lt : i < length all) (is : x ≡ get_or all i x) where
   -- the rows that were seen go on with those that are still to come

@@ -13,7 +13,7 @@ use Rattle.mob_ratio.proofs.Signs.{sign_open, sign_point, sign_short}
 use Rattle.mob_cells.specs.Cells.{is_cell, is_cell_of, NoneWithin}
 
 -- the cells are inside
-upto_of : (l c : Ratio) (a b : Bool) → (before l c || (up_to l c && (a || b))) ≡ true → up_to l c ≡ true
+pub upto_of : (l c : Ratio) (a b : Bool) → (before l c || (up_to l c && (a || b))) ≡ true → up_to l c ≡ true
 upto_of l c a b h = grind (arith, h, before-back l c)
 
 abbrev Kept : Ratio → Ratio → SpanOf → SpanOf → Type 0

@@ -6,7 +6,7 @@ use Rattle.std.proofs.Common.{arith, ap, sym, ◌∙◌, subst, true≢false, in
 use Rattle.std.proofs.lemmas.Option.{slice_get_read}
 use Rattle.std.proofs.lemmas.List.Concat.{flat_map-append}
 use Rattle.std.specs.declared.cmp.Ordering.{Ordering}
-use Rattle.mob_list.proofs.Each.{each_both}
+use Rattle.mob_list.proofs.Each.{each_both, each_more}
 use Rattle.mob_ratio.specs.Ratio.{Ratio}
 use Rattle.mob_ratio.specs.Order.{before}
 use Rattle.mob_ratio.specs.Sign.{opposite, root_at, sign_of}
@@ -34,10 +34,6 @@ pub record IsMaking (s : SpanOf) (fs rest : List Ends) (cells : List SpanOf) (pl
   pub fit : AllFit (roots_parts s rest) → AllFit (roots_parts s fs)
   pub fail : AllFit (roots_parts s fs) → AllFit (roots_parts s rest)
 
-pub each_more : {A : Type 0} (P : A → Type 0) (xs : List A) (x : A) → AllByRecursion P xs → P x → AllByRecursion P (xs ++ x ∷ [])
-each_more P [] x h k = (k, tt)
-each_more P (y ∷ xs) x h k = (h.0, each_more P xs x h.1 k)
-
 each_of : {A : Type 0} (P Q : A → Type 0) → ((x : A) → P x → Q x) → (xs : List A) → AllByRecursion P xs → AllByRecursion Q xs
 each_of P Q f [] h = tt
 each_of P Q f (x ∷ xs) h = (f x h.0, each_of P Q f xs h.1)
@@ -64,11 +60,11 @@ new_apart None cells = tt
 new_apart (Some r) cells = split_self r cells
 
 -- ---- where the cells are cut
-in_front : {A : Type 0} (x : A) (xs ys : List A) → IsIn x xs → IsIn x (xs ++ ys)
+pub in_front : {A : Type 0} (x : A) (xs ys : List A) → IsIn x xs → IsIn x (xs ++ ys)
 in_front x [] ys h = absurd h
 in_front x (z ∷ xs) ys h = elim h [ inl e ↦ inl e | inr k ↦ inr (in_front x xs ys k) ]
 
-in_back : {A : Type 0} (x : A) (xs ys : List A) → IsIn x ys → IsIn x (xs ++ ys)
+pub in_back : {A : Type 0} (x : A) (xs ys : List A) → IsIn x ys → IsIn x (xs ++ ys)
 in_back x [] ys h = h
 in_back x (z ∷ xs) ys h = inr (in_back x xs ys h)
 

@@ -9,7 +9,6 @@ use Rattle.mob_frac.specs.Formula.{AllFit}
 use Rattle.mob_span.specs.Span.{SpanOf, has, has_instant}
 use Rattle.mob_span.specs.Meet.{meet_of}
 use Rattle.mob_span.specs.Neighbours.{is_clear, is_inside}
-use Rattle.mob_span.specs.Sets.{in_some}
 use Rattle.mob_span.proofs.SpanLemmas.{no_instant, meet_has, meet_none}
 use Rattle.mob_span.proofs.Insides.{meet_left, clear_has, inside_has, low_inside, high_inside}
 use Rattle.mob_span.specs.Flags.{same_bool}
@@ -99,10 +98,6 @@ module _ (s m : SpanOf) (inside : is_inside s m ≡ true) (some : has_instant m 
 
   abbrev pub span_list : Bool → SpanOf → List SpanOf
   span_list b r = cond b (r ∷ []) []
-
-  list_has : (b : Bool) (r : SpanOf) (t : Ratio) → has_instant r ≡ b → in_some (span_list b r) t ≡ has r t
-  list_has true r t h = grind arith
-  list_has false r t h = sym (no_instant r t h)
 
   three_cells : (a b : Bool) → has_instant (front_span s m) ≡ a → has_instant (back_span s m) ≡ b → AreCells s (span_list a (front_span s m) ++ m ∷ span_list b (back_span s m))
   three_cells true true ha hb = record { clear = (ha, front_clear, (some, back_clear, (hb, tt, tt))); inside = (front_inside, (inside, (back_inside, tt))); covers = λ t. ap (λ z. has (front_span s m) t || (has m t || z)) (or_false (has (back_span s m) t)) ∙ covers_all t }

@@ -10,7 +10,7 @@ use Rattle.mob_ratio.specs.Sign.{sign_of}
 use Rattle.mob_frac.specs.Formula.{AllFit}
 use Rattle.mob_span.specs.Span.{SpanOf, has}
 use Rattle.mob_cells.specs.Roots.{function_at}
-use Rattle.mob_cells.proofs.Making.{each_more}
+use Rattle.mob_list.proofs.Each.{each_more}
 use Rattle.mob_plane.specs.Membership.{is_one_alone}
 use Rattle.mob_plane.specs.EdgeWise.{is_on, crosses, some_on, odd_cross, inside_by}
 use Rattle.mob_plane.specs.declared.edges.EdgeSigns.{EdgeSigns}

@@ -1,6 +1,6 @@
 -- Lists that are made of others, part by part.
 use Rattle.mob_slice.specs.Entries.{IsPartFault}
-use Rattle.std.specs.Prelude.{◌≡◌, List, [], ◌∷◌, ◌++◌, map, refl}
+use Rattle.std.specs.Prelude.{◌≡◌, List, [], ◌∷◌, ◌++◌, map}
 use Rattle.std.specs.List.{flat_map}
 use Rattle.std.proofs.Common.{ap, sym, ◌∙◌, subst, append_assoc, append-nil}
 use Rattle.mob_ratio.specs.Ratio.{Ratio}
@@ -16,9 +16,6 @@ pub record IsChecking {A : Type 0} (parts : A → List Ratio) (all rest : List A
   pub fail : AllFit (flat_map parts all) → AllFit (flat_map parts rest)
 
 module _ {A : Type 0} (parts : A → List Ratio) where
-  pub checking_start : (all : List A) → IsChecking parts all all
-  checking_start all = record { fit = λ h. h; fail = λ h. h }
-
   pub checking_step : (all rest later : List A) (x : A) → rest ≡ x ∷ later → AllFit (parts x) → IsChecking parts all rest → IsChecking parts all later
   checking_step all rest later x e h m = record {
     fit = λ k. m.fit (subst (λ z. AllFit (flat_map parts z)) (sym e) (all_both (parts x) (flat_map parts later) h k));
@@ -28,26 +25,17 @@ module _ {A : Type 0} (parts : A → List Ratio) where
   pub checking_fails : (all rest later : List A) (x : A) → rest ≡ x ∷ later → (¬ AllFit (parts x)) → IsChecking parts all rest → ¬ AllFit (flat_map parts all)
   checking_fails all rest later x e n m h = n (all_first (parts x) (flat_map parts later) (subst (λ z. AllFit (flat_map parts z)) e (m.fail h)))
 
-  pub checking_end : (all rest : List A) → rest ≡ [] → IsChecking parts all rest → AllFit (flat_map parts all)
-  checking_end all rest e m = m.fit (rw e tt)
-
 -- the list so far, with what is made of the rest, is that of all; and all fit where the rest does
 pub record IsMapping {A B : Type 0} (f : A → B) (parts : A → List Ratio) (all rest : List A) (out : List B) : Type 0 where
   pub made : out ++ map f rest ≡ map f all
   pub checked : IsChecking parts all rest
 
 module _ {A B : Type 0} (f : A → B) (parts : A → List Ratio) where
-  pub mapping_start : (all : List A) → IsMapping f parts all all []
-  mapping_start all = record { made = refl; checked = checking_start parts all }
-
   pub mapping_step : (all rest later : List A) (out out' : List B) (x : A) (y : B) → rest ≡ x ∷ later → out' ≡ out ++ y ∷ [] → y ≡ f x → AllFit (parts x) → IsMapping f parts all rest out → IsMapping f parts all later out'
   mapping_step all rest later out out' x y e n i h m = record {
     made = ap (λ z. z ++ map f later) (n ∙ ap (λ z. out ++ z ∷ []) i) ∙ append_assoc out (f x ∷ []) (map f later) ∙ ap (λ z. out ++ map f z) (sym e) ∙ m.made;
     checked = checking_step parts all rest later x e h m.checked;
   }
-
-  pub mapping_end : (all rest : List A) (out : List B) → rest ≡ [] → IsMapping f parts all rest out → (out ≡ map f all) × AllFit (flat_map parts all)
-  mapping_end all rest out e m = (sym (append-nil out) ∙ ap (λ z. out ++ map f z) (sym e) ∙ m.made, checking_end parts all rest e m.checked)
 
 -- a list with nothing behind it
 pub all_made : {A : Type 0} (out rest all : List A) → rest ≡ [] → out ++ rest ≡ all → out ≡ all

@@ -80,9 +80,6 @@ module _ {T : Type 0} (mix : T → T → T) where
     pub whole : (rest : List (Change T)) (t : Ratio) → step_at (mix f g) rest t ≡ mix (step_at f xs t) (step_at g ys t) → step_at (mix f0 g0) (out ++ rest) t ≡ mix (step_at f0 all t) (step_at g0 all' t)
     pub fit : (parts : Ratio → List Ratio) → ChangesFit parts all → ChangesFit parts all' → ChangesFit parts out × ChangesFit parts xs × ChangesFit parts ys
 
-  pub merging_start : (f g : T) (xs ys : List (Change T)) → IsMerging f g xs ys f g xs ys []
-  merging_start f g xs ys = record { whole = λ rest t h. h; fit = λ parts h k. (tt, h, k) }
-
   fit_more : (parts : Ratio → List Ratio) (out : List (Change T)) (c : Change T) → ChangesFit parts out → AllFit (parts c.at) → ChangesFit parts (out ++ c ∷ [])
   fit_more parts [] c h k = (k, tt)
   fit_more parts (d ∷ out) c h k = (h.0, fit_more parts out c h.1 k)

@@ -1,11 +1,11 @@
 -- A comparison on one piece.
-use Rattle.std.specs.Prelude.{◌≡◌, Bool, true, false, List, [], ◌∷◌, ◌++◌, Option, Some, None, Result, Ok, Err, IfErr, MatchResult, refl}
+use Rattle.std.specs.Prelude.{◌≡◌, Bool, true, false, List, [], ◌∷◌, ◌++◌, Option, Some, None, Result, Ok, Err, IfErr, refl}
 use Rattle.std.specs.List.{AllByRecursion, flat_map}
 use Rattle.std.proofs.Common.{ap, sym, ◌∙◌, subst, inl, inr}
 use Rattle.mob_ratio.specs.Ratio.{Ratio}
 use Rattle.mob_ratio.specs.Order.{before}
 use Rattle.mob_frac.specs.Formula.{AllFit}
-use Rattle.mob_span.specs.Span.{has, has_instant}
+use Rattle.mob_span.specs.Span.{has}
 use Rattle.mob_span.specs.Meets.{PieceOf}
 use Rattle.mob_slice.specs.declared.formula.Formula.TheVariants.{F2}
 use Rattle.mob_slice.specs.Course.{IsCourse}
@@ -25,7 +25,7 @@ use Rattle.mob_slice.specs.declared.formula.LookFault.{LookFault}
 use Rattle.mob_slice.specs.declared.formula.LookFault.TheVariants.{Passed as LookPassed, NoMemory as LookNoMemory}
 use Rattle.mob_slice.proofs.Cuts.{all_both, all_first, all_second}
 use Rattle.mob_slice.proofs.Firsts.{one_first}
-use Rattle.mob_lifted.proofs.OnOnePiece.{kept_behind, one_steady}
+use Rattle.mob_lifted.proofs.OnOnePiece.{kept_behind}
 use Rattle.mob_lifted.proofs.Options.{none_some}
 use Rattle.mob_lifted.proofs.Firsts.{first_joined}
 use Rattle.mob_lift.specs.Given.{IsGiven, on_sides}
@@ -94,10 +94,6 @@ module _ {C B : Type 0} {steady copies : Bool} {value : C → Ratio → Ratio �
   steady_first : (p : PieceOf (SideOf C B) (SideOf C B)) → IsFirst (entries_of_gaps value parts gaps p) None
   steady_first p = first_joined (entries_of_ends value parts gaps p) (entry_of_roots p.span (gap_ends (piece_gaps value gaps p p.span.lower) (piece_gaps value gaps p p.span.upper)) ∷ []) None (steady_ends laws comparison s p)
       (subst (λ z. IsFirst (entry_of_roots p.span z ∷ []) None) (sym (ap (λ h. gap_ends h (piece_gaps value gaps p p.span.upper)) (gap_none laws comparison s p p.span.lower))) (inl (tt, refl)))
-
-  pub steady_given : (p : PieceOf (SideOf C B) (SideOf C B)) {V : Type 0} (items : V → List (Slice (Steady Bool))) (rel : Rel) (q : Result V OpFault) (b : Bool) → has_instant p.span ≡ true → ((t : Ratio) → b ≡ relation rel (side_at value p.left t) (side_at value p.right t)) → MatchResult q (λ v. items v ≡ record { span = p.span; course = record { value = b } } ∷ []) (λ e. e ≡ NoMemory) → IsGiven steady_value steady_limit steady_limit items (on_sides value value (relation rel) p) p.span (entries_of_gaps value parts gaps p) q
-  steady_given p items rel (Ok v) b k h m = (rw m (one_steady (λ t. Some (on_sides value value (relation rel) p t)) p.span b k (λ t i. ap Some (h t))), steady_first p)
-  steady_given p items rel (Err f) b k h m = rw m tt
 
   steady_fits : (ps : List (PieceOf (SideOf C B) (SideOf C B))) → IsFirst (flat_map (entries_of_gaps value parts gaps) ps) None
   steady_fits [] = refl

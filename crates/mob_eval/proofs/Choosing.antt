@@ -12,7 +12,7 @@ use Rattle.mob_typed.proofs.TreeFacts.{typed_is}
 use Rattle.mob_remembered.specs.Depends.{names, any_names, reads, NamesOnly}
 use Rattle.mob_eval.specs.SoFar.{trees}
 use Rattle.mob_eval.specs.Remembered.{Recollection, IsOfPlace, AreCopies, names_only, all_name_only, reads_only, place_of, nodes_here, nodes_at, all_nodes_at}
-use Rattle.mob_eval.proofs.Loops.{drop_read}
+use Rattle.mob_list.proofs.Entries.{drop_read}
 
 pub both_true : (a b : Bool) → (a && b) ≡ true → (a ≡ true) × (b ≡ true)
 both_true true b h = (refl, h)

@@ -3,5 +3,4 @@ pub mod OnSpans
 pub mod BothNil
 pub mod Meeting
 pub mod OnPieces
-pub mod Deciding
 pub mod Answering

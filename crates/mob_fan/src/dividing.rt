@@ -16,8 +16,8 @@ use std::thread::{Threads, join};
 
 /// The outcome of all of the work, by so many workers, but no more than there is work. Worker i
 /// passes the gate with its number before it begins. Each takes one piece after another, always the
-/// next that none has taken, so a worker that is slower takes fewer. Where no thread can be made the
-/// workers run one after the other.
+/// next that none has taken, so a worker that is slower takes fewer. Where no thread can be made
+/// the workers run one after the other.
 pub fn fan<R: Threads + Sync, W: Work, G: Gate>(
     rt: &R,
     alloc: Global,

@@ -31,8 +31,8 @@ pub trait Work: Sync {
         ensures outcome { IfOk result (λ o. comes self.now from to (outcome_seen o)) };
 
     /// The places at which work of this size is cut into pieces for so many workers, in order. Any
-    /// places give the same outcome: they decide only how long each piece takes. The default makes 32
-    /// pieces for each worker, about as long as each other.
+    /// places give the same outcome: they decide only how long each piece takes. The default makes
+    /// 32 pieces for each worker, about as long as each other.
     fn cuts(&self, alloc: Global, len: usize, workers: usize) -> Result<Vec<usize>, AllocError>
         requires size { len ≡ size_of self.now }
         requires some { 1 ≤ workers }

@@ -18,3 +18,8 @@ each_map P Q f on (x ∷ xs) h = (on x h.0, each_map P Q f on xs h.1)
 pub each_both : {A : Type 0} (P : A → Type 0) (xs ys : List A) → AllByRecursion P xs → AllByRecursion P ys → AllByRecursion P (xs ++ ys)
 each_both P [] ys h k = k
 each_both P (x ∷ xs) ys h k = (h.0, each_both P xs ys h.1 k)
+
+-- what holds of each of a list holds with one more
+pub each_more : {A : Type 0} (P : A → Type 0) (xs : List A) (x : A) → AllByRecursion P xs → P x → AllByRecursion P (xs ++ x ∷ [])
+each_more P [] x h k = (k, tt)
+each_more P (y ∷ xs) x h k = (h.0, each_more P xs x h.1 k)

@@ -1,5 +1,5 @@
 -- Entries of a list.
-use Rattle.std.proofs.Common.{◌≡◌, ℕ, zero, suc, ◌<◌, List, [], ◌∷◌, length, refl, subst, arith, inl, inr, ◌⊎◌}
+use Rattle.std.proofs.Common.{◌≡◌, ℕ, zero, suc, ◌+◌, ◌<◌, List, [], ◌∷◌, length, get_or, drop, refl, sym, ap, subst, arith, inl, inr, ◌⊎◌, add-one, drop-cons}
 use Rattle.std.specs.Prelude.{Contains, slice_index_or}
 use Rattle.std.specs.List.{AllByRecursion}
 
@@ -30,3 +30,7 @@ each_of_all P (y ∷ ys) h x c = elim (which_in y ys x c) [
   | inl e ↦ subst P e h.0
   | inr d ↦ each_of_all P ys h.1 x d
 ]
+
+-- what is left of a list from an entry on begins with it
+pub drop_read : {X : Type 0} (xs : List X) (i : ℕ) (x : X) → i < length xs → x ≡ get_or xs i x → drop i xs ≡ x ∷ drop (i + 1) xs
+drop_read xs i x h e = rw add-one (rw (drop-cons xs i x) (ap (λ y. y ∷ drop (suc i) xs) (sym e)))

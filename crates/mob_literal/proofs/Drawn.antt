@@ -38,10 +38,6 @@ lawful is_same exact laws = record {
 }
 
 module _ {C B : Type 0} (course : CourseOf C B) (laws : IsLawful course) where
-  pub drawn_start : (step : Bool) → (step ≡ false → course.steady ≡ false) → (a b : B) → course.start (drawn course step a b) ≡ a
-  drawn_start true own a b = laws.level_start a
-  drawn_start false own a b = laws.moves_from (own refl) a b
-
   -- a course is drawn again from its start to b, where it ends with b, and under step interpolation
   -- where it ends as it starts
   pub drawn_again : (step : Bool) → (step ≡ false → course.steady ≡ false) → (c : C) (b : B) → (step ≡ true → course.start c ≡ course.end c) → (step ≡ false → b ≡ course.end c) → drawn course step (course.start c) b ≡ c

@@ -8,9 +8,9 @@ use Rattle.mob_ratio.specs.Order.{before, up_to}
 use Rattle.mob_ratio.specs.Sign.{nil}
 use Rattle.mob_ratio.proofs.IntRing.{linear}
 use Rattle.mob_ratio.proofs.Clear.{clear1, clear6, cleared}
-use Rattle.mob_ratio.proofs.Field.{cases_lt}
+use Rattle.mob_ratio.proofs.Field.{cases_lt, le_lt, lt_le}
 use Rattle.mob_ratio.proofs.Order.{lt-before, before-lt, up_to-le, before-back}
-use Rattle.mob_quadratic.proofs.Convex.{mul_lt, mul_le, sub_lt, sub_le, add_lt_le, lt_le, le_lt}
+use Rattle.mob_quadratic.proofs.Convex.{mul_lt, mul_le, sub_lt, sub_le, add_lt_le}
 use Rattle.mob_plane.specs.Corners.{all_points}
 use Rattle.mob_plane.specs.EdgeWise.{signs_at, signs_to, is_on, crosses, some_on, odd_cross}
 use Rattle.mob_plane.specs.Membership.{inside, lies_between, lies_on, is_one_alone, passes_right, crossing_at}

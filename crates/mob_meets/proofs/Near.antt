@@ -7,9 +7,9 @@ use Rattle.mob_ratio.specs.Order.{up_to}
 use Rattle.mob_ratio.specs.Sign.{nil}
 use Rattle.mob_ratio.proofs.IntRing.{linear}
 use Rattle.mob_ratio.proofs.Clear.{clear2, clear4, cleared}
-use Rattle.mob_ratio.proofs.Field.{le_trans, le_of_lt, le_of_eq, cases_lt, not_both, lt_mul_pos, add_comm, mul_comm}
+use Rattle.mob_ratio.proofs.Field.{le_trans, le_of_lt, le_of_eq, cases_lt, not_both, lt_mul_pos, add_comm, mul_comm, le_lt}
 use Rattle.mob_ratio.proofs.Order.{not-up_to-le}
-use Rattle.mob_quadratic.proofs.Convex.{le_lt, le_mul_pos, square_le}
+use Rattle.mob_quadratic.proofs.Convex.{le_mul_pos, square_le}
 use Rattle.mob_span.specs.Span.{SpanOf, InSpan}
 use Rattle.mob_plane.specs.declared.point.Point.{Point}
 use Rattle.mob_stbox.specs.Areas.{InArea, is_area}

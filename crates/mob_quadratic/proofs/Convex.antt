@@ -3,7 +3,7 @@ use Rattle.std.proofs.Common.{◌≡◌, inl, inr, pos, [], ◌∷◌, arith, re
 use Rattle.mob_ratio.specs.Ratio.{Ratio, ◌+ℚ◌, ◌-ℚ◌, neg_ℚ, ◌*ℚ◌, ◌/ℚ◌, ◌<ℚ◌, ◌≤ℚ◌}
 use Rattle.mob_ratio.proofs.IntRing.{linear, products, lt_mul, le_mul}
 use Rattle.mob_ratio.proofs.Clear.{clear1, clear2, clear3, cleared}
-use Rattle.mob_ratio.proofs.Field.{le_by, lt_by, le_trans, lt_trans, le_of_lt, le_of_eq, cases_lt, not_both, lt_mul_pos, lt_of_mul_pos}
+use Rattle.mob_ratio.proofs.Field.{le_by, lt_by, le_trans, lt_trans, le_of_lt, le_of_eq, cases_lt, not_both, lt_mul_pos, lt_of_mul_pos, le_lt}
 use Rattle.mob_ratio.proofs.Divide.{div-mul}
 use Rattle.mob_ratio.proofs.Ring.{at, lit, minus, ◌⊕◌, ◌⊗◌, ◌⊖◌}
 use Rattle.mob_ratio.proofs.Rings.{ring_ℚ}
@@ -36,12 +36,6 @@ sub_le = clear2 _ (λ D x y p h. let h' = simp cleared at h in simp cleared (ome
 
 pub sub_lt : (a b : Ratio) → a <ℚ b → nil <ℚ (b -ℚ a)
 sub_lt = clear2 _ (λ D x y p h. let h' = simp cleared at h in simp cleared (omega (arith, linear)))
-
-pub le_lt : (a b c : Ratio) → a ≤ℚ b → b <ℚ c → a <ℚ c
-le_lt = clear3 _ (λ D x y z p h k. let h' = simp cleared at h in let k' = simp cleared at k in simp cleared (omega (arith, linear)))
-
-pub lt_le : (a b c : Ratio) → a <ℚ b → b ≤ℚ c → a <ℚ c
-lt_le = clear3 _ (λ D x y z p h k. let h' = simp cleared at h in let k' = simp cleared at k in simp cleared (omega (arith, linear)))
 
 pub le_mul_pos : (a b c : Ratio) → nil ≤ℚ c → a ≤ℚ b → (a *ℚ c) ≤ℚ (b *ℚ c)
 le_mul_pos = clear3 _ (λ D x y z p h k.

@@ -5,13 +5,13 @@ use Rattle.mob_ratio.specs.Order.{before, up_to}
 use Rattle.mob_ratio.proofs.Order.{before-lt, lt-before, before-self, before-back, before-neither, up_to-le, le-up_to, not-up_to-le}
 use Rattle.mob_ratio.proofs.IntRing.{linear}
 use Rattle.mob_ratio.proofs.Clear.{clear2, cleared}
-use Rattle.mob_ratio.proofs.Field.{le_by, lt_by, le_trans, le_of_lt, cases_lt, not_both, le_refl, mul_comm, midpoint, lt_of_mul_pos}
+use Rattle.mob_ratio.proofs.Field.{le_by, lt_by, le_trans, le_of_lt, cases_lt, not_both, le_refl, mul_comm, midpoint, lt_of_mul_pos, le_lt}
 use Rattle.mob_ratio.proofs.Divide.{div-mul}
 use Rattle.mob_ratio.proofs.Ring.{at, lit, minus, ◌⊕◌, ◌⊗◌, ◌⊖◌}
 use Rattle.mob_ratio.proofs.Rings.{ring_ℚ}
 use Rattle.mob_ratio.specs.Sign.{nil}
 use Rattle.mob_quadratic.specs.Quadratic.{one, quadratic, at_one, in_unit, dips, scaled_least, reaches, IsAtMost, infimum, IsUnderAt, IsInfimum}
-use Rattle.mob_quadratic.proofs.Convex.{above_ne, mul_le, add_le, sub_le, sub_lt, le_lt, le_of_mul_pos, le_mul_pos, one_above, least, taken, rises, rises_above, back, mirror, mirror_last, convex, quadratic-first, quadratic-at_one, IsBelowInside, below_first, below_last}
+use Rattle.mob_quadratic.proofs.Convex.{above_ne, mul_le, add_le, sub_le, sub_lt, le_of_mul_pos, le_mul_pos, one_above, least, taken, rises, rises_above, back, mirror, mirror_last, convex, quadratic-first, quadratic-at_one, IsBelowInside, below_first, below_last}
 
 le-up_to' : (s t : Ratio) → s ≤ℚ t → up_to s t ≡ true
 le-up_to' s t h = rw (le-up_to s t h) refl

@@ -142,13 +142,6 @@ module _ (ids : List ℕ) (root : Ref) (old : List TreeNode) (tree : IsTree root
       let t = tied_height root old tree i h.0 j p k inside is h.1 lt (get_or_default p.kids.items j d k lt) in
       absurd (omega (arith, low, h.1, t.1, ap (height_at old) same, height_of old n c there c-is))
 
-  pub begin_sift : IsSiftedUpTo ids old 0 0 old
-  begin_sift = record {
-    size = refl;
-    done = λ i p q lt p-is q-is before. elim before [ inl l ↦ absurd (omega (arith, l)) | inr l ↦ absurd (let m = l.1 in omega (arith, m)) ];
-    rest = λ i p q lt p-is q-is behind. same_read old i q p lt q-is p-is;
-  }
-
   module _ (h n : ℕ) (ps : List TreeNode) (up : IsSiftedUpTo ids old h n ps) where
     inside_old : n < length ps → n < length old
     inside_old lt = omega (arith, lt, up.size)

@@ -80,10 +80,6 @@ module _ {X Y : Type 0} where
   pub shared_right : (v : List (CutOf X)) (d : CutOf Y) (ds : List (CutOf Y)) (p : SpanOf) → AreAllClear (λ c. c.span) p v → shared_cuts v (d ∷ ds) ≡ shared_cuts v (left_after p (d ∷ ds))
   shared_right v d ds p h = col_behind d.of d.span p v ds h ∙ sym (kept_col v (record { span = back_of d.span p; of = d.of }) ds)
 
-  pub shared_none : (v : List (CutOf X)) → shared_cuts {Y = Y} v [] ≡ []
-  shared_none [] = refl
-  shared_none (c ∷ cs) = shared_none cs
-
   -- Both first ones are cut by what they share: it is the first of what is shared.
   pub shared_both : (c : CutOf X) (cs : List (CutOf X)) (d : CutOf Y) (ds : List (CutOf Y)) → has_instant (meet_of c.span d.span) ≡ true → AreAllClear (λ c. c.span) (meet_of c.span d.span) cs → AreAllClear (λ d. d.span) (meet_of c.span d.span) ds
       → shared_cuts (c ∷ cs) (d ∷ ds) ≡ record { span = meet_of c.span d.span; left = c.of; right = d.of } ∷ shared_cuts (left_after (meet_of c.span d.span) (c ∷ cs)) (left_after (meet_of c.span d.span) (d ∷ ds))

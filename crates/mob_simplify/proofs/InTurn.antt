@@ -1,5 +1,5 @@
 -- The tests of one break, in turn.
-use Rattle.std.specs.Prelude.{◌≡◌, true, false, cond, ◌&&◌, List, [], ◌∷◌, Option, Some, None, refl}
+use Rattle.std.specs.Prelude.{◌≡◌, true, cond, ◌&&◌, List, [], ◌∷◌, Option, Some, None, refl}
 use Rattle.std.specs.List.{AllByRecursion}
 use Rattle.std.proofs.Common.{ap, sym, ◌∙◌, subst}
 use Rattle.mob_ratio.specs.Ratio.{Ratio, ◌*ℚ◌}
@@ -27,12 +27,6 @@ module _ (d : Ratio) (p : Break) (all rest : List Break) (n : Break) where
     firsts = λ f h. m.firsts f (subst (λ r. IsFirst (tests_of d p r n) f) (sym e) (first_joined (entries_of_test d p n b) (cond (up_to (off_course p n b) (d *ℚ d)) (tests_of d p later n) []) f fit (subst (λ z. IsFirst (cond z (tests_of d p later n) []) f) near h)));
     hold = (subst (AllByRecursion (IsWithin p.instant n.instant)) e m.hold).1;
   }
-
-  pub passing_stops : (later : List Break) (b : Break) → rest ≡ b ∷ later → false ≡ up_to (off_course p n b) (d *ℚ d) → IsFirst (entries_of_test d p n b) None → IsPassing d p all rest n → (false ≡ passes d p all n) × IsFirst (tests_of d p all n) None
-  passing_stops later b e near fit m = (
-    sym (ap (λ r. passes d p r n) e ∙ ap (λ z. z && passes d p later n) (sym near)) ∙ m.ahead,
-    m.firsts None (subst (λ r. IsFirst (tests_of d p r n) None) (sym e) (first_joined (entries_of_test d p n b) (cond (up_to (off_course p n b) (d *ℚ d)) (tests_of d p later n) []) None fit (subst (λ z. IsFirst (cond z (tests_of d p later n) []) None) near refl))),
-  )
 
   pub passing_fails : (later : List Break) (b : Break) (f : Formula) → rest ≡ b ∷ later → IsFirst (entries_of_test d p n b) (Some f) → IsPassing d p all rest n → IsFirst (tests_of d p all n) (Some f)
   passing_fails later b f e bad m = m.firsts (Some f) (subst (λ r. IsFirst (tests_of d p r n) (Some f)) (sym e) (first_front (entries_of_test d p n b) (cond (up_to (off_course p n b) (d *ℚ d)) (tests_of d p later n) []) f bad))

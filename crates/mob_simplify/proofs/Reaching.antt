@@ -36,10 +36,6 @@ part_is (Err f) l u t a b ha hb h =
     λ all. h (subst Fits (sym e) all.1.1.0)
 
 module _ (x0 x1 q : Ratio) (slanted : same x0 x1 ≡ false) where
-  -- the way does not fit
-  pub way_unfit : (Fits (x1 -ℚ x0) → ⊥) → AllFit (moved_parts x0 x1 q) → ⊥
-  way_unfit h = rw slanted (λ all. h all.0)
-
   module _ (c : Ratio) (way : (c ≡ x1 -ℚ x0) × Fits (x1 -ℚ x0)) where
     -- its part does not
     pub gone_unfit : (Fits (c *ℚ q) → ⊥) → AllFit (moved_parts x0 x1 q) → ⊥

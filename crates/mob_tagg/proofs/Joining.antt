@@ -47,10 +47,6 @@ module _ {V B D Z : Type 0} (there : V → Ratio → Option B) (result : D → R
       by None = refl
       by (Some x) = refl
 
-  -- the aggregate of no value is none
-  pub aggregate_none : Of [] None
-  aggregate_none = λ t. refl
-
   -- Two lists: their aggregates united by the operation are the aggregate of both. A fold is the
   -- case of one value behind, and so is any tree.
   pub aggregate_both : (op : Z → Z → Z) → JoinsBy op f → (vs ws : List V) (r s u : List (Slice D)) → Of vs (Some r) → Of ws (Some s) → IsNormal start end continues u → AreUnited result op r s u → Of (vs ++ ws) (Some u)

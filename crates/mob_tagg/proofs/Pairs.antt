@@ -5,7 +5,6 @@ use Rattle.std.proofs.Common.{sym, subst}
 use Rattle.mob_ratio.specs.Ratio.{Ratio}
 use Rattle.mob_frac.specs.Formula.{AllFit}
 use Rattle.mob_span.specs.Meets.{PieceOf}
-use Rattle.mob_slice.specs.Course.{IsCourse}
 use Rattle.mob_slice.specs.Cut.{slice_parts}
 use Rattle.mob_slice.specs.Entries.{OnFormula, operator_fault}
 use Rattle.mob_slice.specs.Look.{IsLookFault}
@@ -51,14 +50,6 @@ module _ {C : Type 0} (parts : C → Ratio → Ratio → Ratio → List Ratio) (
 
   pub both_fit : AllFit lefts → AllFit rights → AllFit (piece_parts parts q)
   both_fit h k = all_both lefts rights h k
-
-module _ {C B : Type 0} {steady copies : Bool} {value : C → Ratio → Ratio → Ratio → B} {start end : C → B} {can_make : B → B → Type 0} {make : B → B → C} {continues : C → C → Ratio → Ratio → Ratio → Bool} {parts : C → Ratio → Ratio → Ratio → List Ratio} (laws : IsCourse steady copies value start end can_make make continues parts) where
-  none_fit : (e : steady ≡ true) (s : Slice C) (t : Ratio) → AllFit (slice_parts parts s t)
-  none_fit e s t = subst AllFit (sym (laws.no_parts e s.course s.span.lower s.span.upper t)) tt
-
-  -- a course that goes by steps has no part
-  pub steady_fit : steady ≡ true → (q : PieceOf (Slice C) (Slice C)) → AllFit (piece_parts parts q)
-  steady_fit e q = both_fit parts q (all_both (slice_parts parts q.left q.span.lower) (slice_parts parts q.left q.span.upper) (none_fit e q.left q.span.lower) (none_fit e q.left q.span.upper)) (all_both (slice_parts parts q.right q.span.lower) (slice_parts parts q.right q.span.upper) (none_fit e q.right q.span.lower) (none_fit e q.right q.span.upper))
 
 -- what is given on a piece of the walk is ordered and lies in the piece
 pub share_sound : {C B V : Type 0} (value : C → Ratio → Ratio → Ratio → B) (start end : C → B) (parts : C → Ratio → Ratio → Ratio → List Ratio) (items : V → List (Slice C)) (returns : Pair C C → Result V OpFault → Type 0) (x : V)

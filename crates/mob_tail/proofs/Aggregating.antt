@@ -330,9 +330,6 @@ one_counted (Some x) = refl
 pub ones_over : {B : Type 0} (ty : SqlType) (v r : Value) (o : Ratio → Option B) → ((t : Ratio) → one_there v t ≡ one_where (o t)) → IsFunction (steady_course same) MovingInt (λ t. one_where (o t)) r → IsAggregated TCount ty (v ∷ []) r
 ones_over ty v r o e h = (Some h.0, (h.2, λ t. h.1 t ∙ one_counted (o t) ∙ ap (λ z. made_of count (put_there z [])) (sym (e t))), h.3)
 
-pub no_ones : (ty : SqlType) (v : Value) → ((t : Ratio) → one_there v t ≡ None) → IsAggregated TCount ty (v ∷ []) Null
-no_ones ty v e = (None, λ t. ap (λ z. put_there z []) (e t), refl)
-
 -- ---- a value that is left out
 
 over_same : {C B Z : Type 0} (course : CourseOf C Z) (make : List (Slice C) → Value) (f : List B → Z) (there : Value → Ratio → Option B) (vs : List Value) (before v : Value) → ((t : Ratio) → there v t ≡ None) → IsOverTime course make f there vs before → IsOverTime course make f there (vs ++ v ∷ []) before

@@ -14,7 +14,7 @@ use Rattle.mob_value.specs.declared.value.Value.TheVariants.{Null}
 use Rattle.mob_meaning.specs.Scene.{Scene, leaf_value}
 use Rattle.mob_meaning.specs.Operators.{OperatorGives, IsFirstFormula}
 use Rattle.mob_meaning.specs.Evaluation.{Fault, TreeEvaluatesTo}
-use Rattle.mob_eval.proofs.Loops.{drop_read}
+use Rattle.mob_list.proofs.Entries.{drop_read}
 use Rattle.mob_tail.specs.Groups.{is_bare, column_on}
 use Rattle.mob_tail.specs.GroupedAnswers.{Column, agg_at, columns_from}
 

@@ -10,7 +10,7 @@ use Rattle.mob_value.specs.declared.value.Value.TheVariants.{Null}
 use Rattle.mob_value.specs.declared.store.Store.{Store}
 use Rattle.mob_meaning.specs.Scene.{Scene, scene}
 use Rattle.mob_meaning.specs.Evaluation.{Fault}
-use Rattle.mob_eval.proofs.Loops.{drop_read}
+use Rattle.mob_list.proofs.Entries.{drop_read}
 use Rattle.mob_groups.specs.Groups.{first_keys, group_number}
 use Rattle.mob_tagg.specs.Rows.{IsTuple}
 use Rattle.mob_tagg.proofs.RowSteps.{none_more, fault_at}

@@ -6,7 +6,7 @@ use Rattle.mob_eval.specs.Faults.{OnPassed}
 use Rattle.mob_eval.specs.declared.fault.EvalFault.{EvalFault}
 use Rattle.mob_eval.specs.declared.fault.EvalFault.TheVariants.{Passed, NoMemory}
 use Rattle.mob_tail.specs.IsMadeOfEach.{IsMadeOfEach}
-use Rattle.mob_eval.proofs.Loops.{drop_read}
+use Rattle.mob_list.proofs.Entries.{drop_read}
 
 module _ {X Y F : Type 0} (R : X → Result Y F → Type 0) where
   each_one_more : (xs : List X) (x : X) (ys : List Y) (y : Y) → IsMadeOfEach R xs (Ok ys) → R x (Ok y) → IsMadeOfEach R (xs ++ x ∷ []) (Ok (ys ++ y ∷ []))

@@ -1,8 +1,8 @@
 -- Groups with one more tuple.
 use Rattle.std.specs.Prelude.{◌≡◌, ◌<◌, ◌+◌, ◌^◌, Bool, true, false, ℕ, zero, suc, ℤ, refl, List, [], ◌∷◌, ◌++◌, Some, None, is_none, Ok, Err, length, get_or}
-use Rattle.std.specs.List.{AllZip, AllByRecursion}
-use Rattle.std.proofs.Common.{ap, ap₂, sym, ◌∙◌, subst, inl, inr, arith, take, map, ◌≤◌}
-use Rattle.std.proofs.lemmas.List.{take_more, take_all, map-append}
+use Rattle.std.specs.List.{AllZip}
+use Rattle.std.proofs.Common.{ap, ap₂, sym, ◌∙◌, subst, inl, inr, arith, take, map}
+use Rattle.std.proofs.lemmas.List.{take_more, map-append}
 use Rattle.std.proofs.lemmas.Slice.Zip.{AllZip-long}
 use Rattle.mob_typed.specs.Selects.{TypedSelectParts}
 use Rattle.mob_value.specs.declared.value.Value.{Value}
@@ -30,11 +30,6 @@ zip_more R [] (b ∷ ys) x y h k = absurd h
 zip_more R (a ∷ xs) [] x y h k = absurd h
 zip_more R (a ∷ xs) (b ∷ ys) x y h k = (h.0, zip_more R xs ys x y h.1 k)
 
--- what holds of each of a list holds with one more
-pub each_more : {A : Type 0} (P : A → Type 0) (xs : List A) (x : A) → AllByRecursion P xs → P x → AllByRecursion P (xs ++ x ∷ [])
-each_more P [] x h k = (k, tt)
-each_more P (y ∷ xs) x h k = (h.0, each_more P xs x h.1 k)
-
 pub length_more : {A : Type 0} (xs : List A) (x : A) → length (xs ++ x ∷ []) ≡ length xs + 1
 length_more [] x = omega arith
 length_more (y ∷ xs) x = let e = length_more xs x in omega (arith, e)
@@ -52,25 +47,6 @@ pub got_map : {A B : Type 0} (f : A → B) (xs : List A) (i : ℕ) (x : A) (d : 
 got_map f [] i x d lt is = absurd (omega (arith, lt))
 got_map f (y ∷ xs) zero x d lt is = ap f (sym is)
 got_map f (y ∷ xs) (suc i) x d lt is = got_map f xs i x d (omega (arith, lt)) is
-
--- the entries of two lists up to one, and that one
-pub zip_next : {A B C : Type 0} (R : A → B → Type 0) (Q : A → C → Type 0) (xs : List A) (ys : List B) (zs : List C) (i : ℕ) (y : B) (z : C) → AllZip R xs ys → AllZip Q (take i xs) zs → i < length ys → y ≡ get_or ys i y → ((x : A) → R x y → Q x z) → AllZip Q (take (i + 1) xs) (zs ++ z ∷ [])
-zip_next R Q xs ys zs i y z h k lt is step = subst (λ n. AllZip Q (take n xs) (zs ++ z ∷ [])) next (by xs ys zs i h k lt is)
-  where
-    next : suc i ≡ i + 1
-    next = omega arith
-
-    by : (xs : List _) (ys : List _) (zs : List _) (i : ℕ) → AllZip R xs ys → AllZip Q (take i xs) zs → i < length ys → y ≡ get_or ys i y → AllZip Q (take (suc i) xs) (zs ++ z ∷ [])
-    by [] [] zs i h k lt is = absurd (omega (arith, lt))
-    by [] (b ∷ ys) zs i h k lt is = absurd h
-    by (a ∷ xs) [] zs i h k lt is = absurd h
-    by (a ∷ xs) (b ∷ ys) [] zero h k lt is = (step a (subst (R a) (sym is) h.0), tt)
-    by (a ∷ xs) (b ∷ ys) (c ∷ zs) zero h k lt is = absurd k
-    by (a ∷ xs) (b ∷ ys) [] (suc i) h k lt is = absurd k
-    by (a ∷ xs) (b ∷ ys) (c ∷ zs) (suc i) h k lt is = (k.0, by xs ys zs i h.1 k.1 (omega (arith, lt)) is)
-
-pub zip_end : {A B C : Type 0} (R : A → B → Type 0) (Q : A → C → Type 0) (xs : List A) (ys : List B) (zs : List C) (i : ℕ) → AllZip R xs ys → AllZip Q (take i xs) zs → length ys ≤ i → AllZip Q xs zs
-zip_end R Q xs ys zs i h k le = subst (λ z. AllZip Q z zs) (take_all i xs (omega (arith, le, AllZip-long R xs ys h))) k
 
 -- what a fault says, said of more
 pub passed_weaker : (P Q : Fault → Type 0) → ((f : Fault) → P f → Q f) → (e : EvalFault) → OnPassed P e → OnPassed Q e

@@ -8,9 +8,9 @@ use Rattle.mob_ratio.specs.Ratio.{Ratio, over, whole, ◌*ℚ◌, ◌/ℚ◌, �
 use Rattle.mob_ratio.specs.Order.{before, up_to}
 use Rattle.mob_ratio.specs.Sign.{nil}
 use Rattle.mob_ratio.proofs.IntRing.{linear, products, add_mul}
-use Rattle.mob_ratio.proofs.Clear.{clear3, cleared, whole-over, over_le, over_lt, one_positive, same_lt}
+use Rattle.mob_ratio.proofs.Clear.{cleared, whole-over, over_le, over_lt, one_positive, same_lt}
 use Rattle.mob_ratio.proofs.RatioLemmas.{den_pos, over-self, over-mul}
-use Rattle.mob_ratio.proofs.Field.{cases_lt, not_both, lt_of_mul_pos, lt_mul_pos, le_of_eq, le_trans}
+use Rattle.mob_ratio.proofs.Field.{cases_lt, not_both, lt_of_mul_pos, lt_mul_pos, le_of_eq, le_trans, le_lt}
 use Rattle.mob_ratio.proofs.Divide.{div-mul, over-pos}
 use Rattle.mob_ratio.proofs.Order.{before-lt, lt-before, not-up_to-le, le-up_to}
 use Rattle.mob_frac.specs.Fits.{ratio}
@@ -29,12 +29,6 @@ quotient_until : (a : ℤ) (k : ℕ) → 0 < k → a <ℤ ((int_div_euclid a (po
 quotient_until a k h = subst (λ z. a <ℤ z) (sym (add_mul (int_div_euclid a (pos k)) (pos 1) (pos k))) (quotient_next a k h)
 
 -- ---- floors
-pub lt_le : (a b c : Ratio) → a <ℚ b → b ≤ℚ c → a <ℚ c
-lt_le = clear3 _ (λ D x y z p h k. let h' = simp cleared at h in let k' = simp cleared at k in simp cleared (omega (arith, linear)))
-
-pub le_lt : (a b c : Ratio) → a ≤ℚ b → b <ℚ c → a <ℚ c
-le_lt = clear3 _ (λ D x y z p h k. let h' = simp cleared at h in let k' = simp cleared at k in simp cleared (omega (arith, linear)))
-
 pub mul_le : (a b c : Ratio) → nil <ℚ c → a ≤ℚ b → (a *ℚ c) ≤ℚ (b *ℚ c)
 mul_le a b c p h = elim (cases_lt (b *ℚ c) (a *ℚ c)) [ inl k ↦ absurd (not_both b a (lt_of_mul_pos b a c p k) h) | inr k ↦ k ]
 

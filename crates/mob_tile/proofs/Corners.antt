@@ -4,7 +4,7 @@ use Rattle.std.proofs.lemmas.Bool.{and_parts}
 use Rattle.mob_ratio.specs.Ratio.{Ratio, ◌≤ℚ◌}
 use Rattle.mob_ratio.specs.Order.{before, up_to}
 use Rattle.mob_ratio.specs.Line.{line_at}
-use Rattle.mob_ratio.proofs.Order.{before-back, before-trans, before-neither, before-self, not-up_to-le}
+use Rattle.mob_ratio.proofs.Order.{before-back, before-self, not-up_to-le}
 use Rattle.mob_ratio.proofs.LineAt.{line_at-short}
 use Rattle.mob_ratio.proofs.Between.{within}
 use Rattle.mob_span.specs.Span.{SpanOf, has_instant}
@@ -19,13 +19,12 @@ use Rattle.mob_slice.specs.Sides.{HasValues}
 use Rattle.mob_slice.specs.Lines.{plane_value_of}
 use Rattle.mob_slice.specs.declared.slice.Slice.{Slice}
 use Rattle.mob_slice.specs.declared.line.PlaneLine.{PlaneLine}
+use Rattle.mob_cells.proofs.Keeps.{upto_of}
 use Rattle.mob_tile.specs.Tiles.{GridOf, InRange, tile_of}
 use Rattle.mob_tile.specs.declared.tile.TileRange.{TileRange}
 use Rattle.mob_tile.specs.Pieces.{Reaches, least_of, greatest_of}
 use Rattle.mob_tile.proofs.Cutting.{greater_left, greater_right, ends_rise}
-
-up_trans : (a b c : Ratio) → up_to a b ≡ true → up_to b c ≡ true → up_to a c ≡ true
-up_trans a b c h k = grind (arith, h, k, before-trans c a b, before-neither a b, before-trans b c a, before-neither b c)
+use Rattle.mob_tile.proofs.Walking.{up_trans}
 
 up_self : (a : Ratio) → up_to a a ≡ true
 up_self a = grind (arith, before-self a)
@@ -86,9 +85,6 @@ module _ (g : GridOf) (r : TileRange) (s : Slice PlaneLine) (f : Reaches g r s) 
       let p = s.course.from in
       let q = s.course.to in
       f s.span.upper (greatest_of p q) (in_between p q (greatest_of p q) (among_greater p.x q.x p.x q.x (among_first p.x q.x) (among_second p.x q.x)) (among_greater p.y q.y p.y q.y (among_first p.y q.y) (among_second p.y q.y))) span_rises (not-up_to-le _ _ (up_self s.span.upper))
-
-  upto_of : (l c : Ratio) (a b : Bool) → (before l c || (up_to l c && (a || b))) ≡ true → up_to l c ≡ true
-  upto_of l c a b h = grind (arith, h, before-back l c)
 
   pub reach_piece : (c : SpanOf) (part : Slice PlaneLine) → has_instant c ≡ true → is_inside s.span c ≡ true → HasValues plane_value_of (λ c. c.from) (λ c. c.to) (slice_value plane_value_of s) c part → InRange r (tile_of g c.lower (least_of part.course.from part.course.to))
   reach_piece c part i h v =

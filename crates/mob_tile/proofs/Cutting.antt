@@ -11,7 +11,7 @@ use Rattle.mob_ratio.specs.Ratio.{Ratio, ◌-ℚ◌, ◌<ℚ◌, ◌≤ℚ◌}
 use Rattle.mob_ratio.specs.Order.{before, up_to}
 use Rattle.mob_ratio.specs.Sign.{nil, opposite, root_at}
 use Rattle.mob_ratio.proofs.Order.{before-lt, before-back, before-self, not-up_to-le}
-use Rattle.mob_ratio.proofs.Field.{le_of_lt, le_trans, lt_trans, cases_lt}
+use Rattle.mob_ratio.proofs.Field.{le_of_lt, le_trans, lt_trans, cases_lt, le_lt, lt_le}
 use Rattle.mob_ratio.proofs.Signs.{sign-diff, opposite_cases, sign_below, sign_above}
 use Rattle.mob_ratio.proofs.Between.{as_test}
 use Rattle.std.specs.Prelude.{Contains}
@@ -35,10 +35,11 @@ use Rattle.mob_cells.specs.Cells.{IsIn, AreSplit, IsSomeEnd, NoneWithin, is_cell
 use Rattle.mob_cells.proofs.Splits.{start_are}
 use Rattle.mob_tile.specs.Bands.{band_of}
 use Rattle.mob_tile.specs.Tiles.{GridOf, IsGrid}
-use Rattle.mob_tile.proofs.BandNumbers.{band_has, bands_rise, edges_lt, lt_le, le_lt}
+use Rattle.mob_tile.proofs.BandNumbers.{band_has, bands_rise, edges_lt}
 use Rattle.mob_tile.specs.Edges.{count_up, natural, numbers_between, edge_of, edge_ends, edges_between, x_edges, y_edges, t_edges, differences, cuts_of}
 use Rattle.mob_tile.specs.Pieces.{split_all, IsRising, HasOneTile, AreTileCells}
-use Rattle.mob_tile.proofs.Numbers.{number_there, natural_is, in_map, in_front, in_back, in_flat}
+use Rattle.mob_cells.proofs.Making.{in_front, in_back}
+use Rattle.mob_tile.proofs.Numbers.{number_there, natural_is, in_map, in_flat}
 use Rattle.mob_tile.proofs.EdgeBands.{IsInOrder, in_order, one_band_on, one_time_on}
 use Rattle.mob_tile.proofs.Walking.{all_split, all_self, end_or_cut, each_in, only_cuts}
 

@@ -7,7 +7,7 @@ use Rattle.mob_ratio.specs.Order.{before, up_to}
 use Rattle.mob_ratio.specs.Line.{line_at}
 use Rattle.mob_ratio.specs.Sign.{nil, opposite, root_at, sign_of}
 use Rattle.mob_ratio.proofs.Order.{before-lt, lt-before, before-back, before-trans, before-neither, up_to-le, not-up_to-le}
-use Rattle.mob_ratio.proofs.Field.{le_of_lt, le_trans}
+use Rattle.mob_ratio.proofs.Field.{le_of_lt, le_trans, lt_le}
 use Rattle.mob_ratio.proofs.LineAt.{line_at-level, line_at-part}
 use Rattle.mob_ratio.proofs.Signs.{line_at-diff, sign-diff, compared}
 use Rattle.mob_ratio.proofs.Between.{within, IsWithin, start_below, end_below, HasBelow}
@@ -16,9 +16,9 @@ use Rattle.mob_span.specs.Neighbours.{is_inside}
 use Rattle.mob_plane.specs.Corners.{smaller}
 use Rattle.mob_plane.proofs.Widening.{smaller_left, smaller_right}
 use Rattle.mob_cells.specs.Cells.{NoneWithin, is_cell, is_cell_of}
-use Rattle.mob_cells.proofs.Keeps.{kept}
+use Rattle.mob_cells.proofs.Keeps.{kept, upto_of}
 use Rattle.mob_tile.specs.Bands.{InBand, band_of}
-use Rattle.mob_tile.proofs.BandNumbers.{band_has, lt_le}
+use Rattle.mob_tile.proofs.BandNumbers.{band_has}
 use Rattle.mob_tile.specs.Edges.{edge_of}
 
 -- ---- the ends of a cell
@@ -26,9 +26,6 @@ pub record IsInOrder (s c : SpanOf) : Type 0 where
   pub low : up_to s.lower c.lower ≡ true
   pub long_or_one : up_to c.lower c.upper ≡ true
   pub high : up_to c.upper s.upper ≡ true
-
-upto_of : (l c : Ratio) (a b : Bool) → (before l c || (up_to l c && (a || b))) ≡ true → up_to l c ≡ true
-upto_of l c a b h = grind (arith, h, before-back l c)
 
 pub in_order : (s c : SpanOf) → is_cell_of s c ≡ true → IsInOrder s c
 in_order s c i =

@@ -1,6 +1,6 @@
 -- The splits of all rows, one after another.
 use Rattle.std.specs.Prelude.{length, map}
-use Rattle.std.proofs.Common.{◌≡◌, ℕ, suc, ◌+◌, ◌<◌, ℤ, List, [], ◌∷◌, ◌++◌, arith, refl, sym, ap, subst, ◌∙◌, append_assoc, append-nil, length-append, Option, Some, Err}
+use Rattle.std.proofs.Common.{◌≡◌, ℕ, suc, ◌+◌, ℤ, List, [], ◌∷◌, ◌++◌, arith, refl, sym, ap, subst, ◌∙◌, append_assoc, append-nil, length-append, Option, Some, Err}
 use Rattle.std.specs.List.{AllZip}
 use Rattle.mob_value.specs.declared.value.Value.{Value}
 use Rattle.mob_tile.specs.Split.{OnRange, SplitAnswer}
@@ -12,7 +12,7 @@ use Rattle.mob_pairs.specs.declared.fault.PairFault.{PairFault}
 use Rattle.mob_pairs.specs.declared.fault.PairFault.TheVariants.{Passed, Limit, NoMemory}
 use Rattle.mob_trips.specs.Rows.{Trip}
 use Rattle.mob_tile_run.specs.TileTexts.{part_fields}
-use Rattle.mob_tile_run.specs.TileParts.{IsSplitOf, IsSplitFault, IsSomeSplitFault, IsFirstSplitFault, row_fault, records_from, ArePartRecords}
+use Rattle.mob_tile_run.specs.TileParts.{IsSplitOf, IsSplitFault, IsSomeSplitFault, IsFirstSplitFault, row_fault, records_from}
 
 -- the rows so far are split, and their parts have their records
 pub record IsTiling (g : GridOf) (day : ℤ) (ids : List Value) (all rest : List (Option Trip)) (records : List (List (List ℕ))) (row : ℕ) : Type 0 where
@@ -53,9 +53,6 @@ module _ (day : ℤ) (ids : List Value) where
       ∙ sym (append_assoc (map (part_fields day ids n) x) (records_from day ids (n + 1) splits) (map (part_fields day ids (n + suc (length splits))) parts))
 
 module _ (g : GridOf) (day : ℤ) (ids : List Value) (all : List (Option Trip)) where
-  pub tiling_start : IsTiling g day ids all all [] 0
-  tiling_start = record { before = []; splits = []; split = refl; count = refl; are = tt; made = refl }
-
   pub tiling_step : (rest later : List (Option Trip)) (t : Option Trip) (parts : List (Tile × Trip)) (records records' : List (List (List ℕ))) (row row' : ℕ) → rest ≡ t ∷ later → records' ≡ records ++ map (part_fields day ids row) parts → row' ≡ row + 1 → IsSplitOf g t parts → IsTiling g day ids all rest records row → IsTiling g day ids all later records' row'
   tiling_step rest later t parts records records' row row' e n c h m = record {
     before = m.before ++ t ∷ [];
@@ -83,18 +80,3 @@ module _ (g : GridOf) (day : ℤ) (ids : List Value) (all : List (Option Trip)) 
       on (Passed rows formula) h = h
       on (Limit row) h = h
       on NoMemory h = tt
-
-  pub tiling_end : (rest : List (Option Trip)) (records : List (List (List ℕ))) (row : ℕ) → rest ≡ [] → IsTiling g day ids all rest records row → ArePartRecords g day ids all records
-  tiling_end rest records row e m = record {
-    splits = m.splits;
-    are = subst (λ z. AllZip (IsSplitOf g) z m.splits) (sym (append-nil m.before) ∙ ap (λ z. m.before ++ z) (sym e) ∙ m.split) m.are;
-    records_are = m.made;
-  }
-
-  pub few_rows : (rest later : List (Option Trip)) (t : Option Trip) (records : List (List (List ℕ))) (row : ℕ) → rest ≡ t ∷ later → IsTiling g day ids all rest records row → row < length all
-  few_rows rest later t records row e m =
-      let a = ap length m.split in
-      let b = length-append m.before rest in
-      let c = ap length e in
-      let n = m.count in
-      omega arith

@@ -1,7 +1,8 @@
 use Rattle.std.proofs.Common.{sym, ap, subst, arith, length}
 use Rattle.std.specs.List.{AllByRecursion}
 use Rattle.mob_tail.specs.GroupSteps.{IsStartGroup}
-use Rattle.mob_tail.proofs.TupleSteps.{each_more, length_more}
+use Rattle.mob_list.proofs.Each.{each_more}
+use Rattle.mob_tail.proofs.TupleSteps.{length_more}
 use Rattle.mob_tail.proofs.grouped.no_groups.Goals as goal
 
 pub loop-preserved : goal.loop-preserved
