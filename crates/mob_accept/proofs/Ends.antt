@@ -12,7 +12,7 @@ use Rattle.mob_chars.proofs.Along.{are_laid, are_in_order}
 use Rattle.mob_grammar.specs.Symbols.{Symbol, PlacedSymbol}
 use Rattle.mob_grammar.specs.Cuts.{ends_among, StandsBehind}
 use Rattle.mob_lexemes.specs.Lexed.{symbol_at, before_lexed, lexed}
-use Rattle.mob_parse.specs.Refusals.{place_of}
+use Rattle.mob_parse.specs.Refusals.{first_place}
 use Rattle.mob_typed.specs.Written.{Rises}
 use Rattle.mob_list.proofs.Each.{each_on, one_of}
 use Rattle.mob_accept.proofs.Within.{ends_later}
@@ -96,7 +96,7 @@ module _ (text : List ℕ) (ts : List Token) (are : tokens_of text ≡ Ok ts) wh
 
   -- the number of the statement of the place behind some tokens: that of the next token, or the end
   -- of the text
-  pub place_behind : (l before r : List PlacedSymbol) → l ≡ lexed text ts → l ≡ before ++ r → statement_number text (place_of r (length text)) ≡ 1 + ends_among before
+  pub place_behind : (l before r : List PlacedSymbol) → l ≡ lexed text ts → l ≡ before ++ r → statement_number text (first_place r (length text)) ≡ 1 + ends_among before
   place_behind l before [] lexes parts =
       number_is (length text) ∙ ap (λ k. 1 + ends_among k) (all_before (length text) (lexed text ts) stand.2) ∙ ap (λ k. 1 + ends_among k) (sym lexes ∙ parts ∙ append-nil before)
   place_behind l before (t ∷ r) lexes parts = behind_is l (ends_among before) t.place lexes (record { before = before; token = t; behind = r; parts = parts; number = refl; here = refl })

@@ -13,7 +13,7 @@ use Rattle.mob_grammar.specs.Places.{statement_places}
 use Rattle.mob_grammar.specs.Held.{statement_held}
 use Rattle.mob_grammar.specs.Cuts.{ends_among, StandsBehind, AllStandBehind}
 use Rattle.mob_grammar.proofs.Cuts.{places_are_cut, held_are_cut}
-use Rattle.mob_parse.specs.Refusals.{HasTokens, place_of, IsCause}
+use Rattle.mob_parse.specs.Refusals.{HasTokens, first_place, IsCause}
 use Rattle.mob_lexemes.specs.Lexed.{lexed}
 use Rattle.mob_typed.specs.declared.typed.ConstText.{ConstText}
 use Rattle.mob_typed.specs.Statements.{ScriptOut}
@@ -85,7 +85,7 @@ text_is_numbered bytes out h = typing_keeps_numbers bytes h.trees out (trees_are
 
 -- a refusal at a place behind some tokens, which names their `;`
 module _ (bytes : List ℕ) (e : Refusal) where
-  names_behind : (l before r : List PlacedSymbol) → HasTokens bytes l → l ≡ before ++ r → e.place ≡ place_of r (length bytes) → e.statement ≡ 1 + ends_among before → e.statement ≡ statement_number bytes e.place
+  names_behind : (l before r : List PlacedSymbol) → HasTokens bytes l → l ≡ before ++ r → e.place ≡ first_place r (length bytes) → e.statement ≡ 1 + ends_among before → e.statement ≡ statement_number bytes e.place
   names_behind l before r (ts, are, is) parts at says = says ∙ sym (place_behind bytes ts are l before r is parts) ∙ ap (statement_number bytes) (sym at)
 
   syntax_names : IsCause Syntax bytes e → e.statement ≡ statement_number bytes e.place

@@ -9,7 +9,7 @@ use Rattle.mob_language.proofs.Heads.{NoHead, HasByte}
 use Rattle.mob_list.proofs.Entries.{first_in}
 use Rattle.mob_slice.specs.declared.slice.Slice.{Slice}
 use Rattle.mob_slice.specs.CourseOf.{CourseOf}
-use Rattle.mob_written.specs.Printed.{Style, is_long, groups_of, start_text, groups_text, set_text, moving_text}
+use Rattle.mob_written.specs.Printed.{Style, is_long, neighbour_groups, start_text, groups_text, set_text, moving_text}
 use Rattle.mob_written.specs.Style.{style_of}
 use Rattle.mob_literal.specs.Readable.{IsReadable}
 use Rattle.mob_literal.proofs.GroupSlices.{AllHoldTogether, are_groups}
@@ -64,9 +64,9 @@ module _ {C B : Type 0} (test : ℕ → Bool) (signs : IsNoSign test) (style : S
   pub moving_begun : (slices : List (Slice C)) → FirstBegins slices → IsBegun test (moving_text style slices)
   moving_begun slices h = by_lengths (list_all (λ (s : Slice C). not (is_long s)) slices)
     where
-      by_lengths : (set : Bool) → IsBegun test (cond set (set_text style slices) (groups_text style (groups_of style.course slices)))
+      by_lengths : (set : Bool) → IsBegun test (cond set (set_text style slices) (groups_text style (neighbour_groups style.course slices)))
       by_lengths true = set_begun slices h
-      by_lengths false = groups_begun (groups_of style.course slices) (are_groups style.course slices).together
+      by_lengths false = groups_begun (neighbour_groups style.course slices) (are_groups style.course slices).together
 
 -- so begins the printed text of a value that is read again, where the text of each of its values
 -- does

@@ -18,7 +18,7 @@ use Rattle.mob_written.specs.declared.written.Sequence.{Sequence}
 use Rattle.mob_literal.specs.Sequences.{rises}
 use Rattle.mob_literal.specs.Slices.{slices_of, stretch, drawn}
 use Rattle.mob_literal.specs.Sound.{ends_level, is_closed_alone, is_sound_sequence, clear_ends, is_before, are_in_order, is_sound}
-use Rattle.mob_written.specs.Printed.{is_long, takes_up, shares_group, groups_of, put_in_group}
+use Rattle.mob_written.specs.Printed.{is_long, takes_up, shares_group, neighbour_groups, put_in_group}
 use Rattle.mob_literal.proofs.Drawn.{IsLawful, drawn_again, arrives_again}
 use Rattle.mob_literal.proofs.FlatLemmas.{flat, Ordered, ordered_rest}
 use Rattle.mob_written.proofs.Small.{false_true}
@@ -78,9 +78,9 @@ module _ {C B : Type 0} (course : CourseOf C B) where
       by_next true h = record { together = ((h, g.together.0), g.together.1); whole = ap (λ (x : List (Slice C)). s ∷ x) g.whole }
       by_next false h = record { together = (tt, g.together); whole = ap (λ (x : List (Slice C)). s ∷ x) g.whole }
 
-  pub are_groups : (slices : List (Slice C)) → AreGroups slices (groups_of course slices)
+  pub are_groups : (slices : List (Slice C)) → AreGroups slices (neighbour_groups course slices)
   are_groups [] = record { together = tt; whole = refl }
-  are_groups (s ∷ rest) = put_groups s rest (groups_of course rest) (are_groups rest)
+  are_groups (s ∷ rest) = put_groups s rest (neighbour_groups course rest) (are_groups rest)
 
 -- ---- one slice, over plain variables
 

@@ -19,7 +19,7 @@ use Rattle.mob_written.specs.declared.written.Prefixes.{Prefixes}
 use Rattle.mob_written.specs.Prefix.{Prefix, ArePrefixes, remaining, says_step, begins_prefix}
 use Rattle.mob_scalar.specs.Brackets.{comma, with_commas}
 use Rattle.mob_written.specs.Literal.{at_sign, noted, sequence, members, alone, literal, temporal}
-use Rattle.mob_written.specs.Printed.{Style, is_long, takes_up, groups_of, put_in_group, instant_text, instants_of, start_text, opening_text, closing_text, group_text, groups_text, set_text, moving_text}
+use Rattle.mob_written.specs.Printed.{Style, is_long, takes_up, neighbour_groups, put_in_group, instant_text, instants_of, start_text, opening_text, closing_text, group_text, groups_text, set_text, moving_text}
 use Rattle.mob_written.specs.Style.{style_of}
 use Rattle.mob_literal.proofs.GroupSlices.{alls_rest, start_of, end_of, more, upper_of, sequence_of, AllHoldTogether, are_groups, joined}
 use Rattle.mob_written.proofs.Small.{false_true}
@@ -161,7 +161,7 @@ module _ {C B : Type 0} (course : CourseOf C B) (day : ℤ) (value : Text → Op
   abbrev lone : Slice C → List (Slice C)
   lone s = s ∷ []
 
-  point_groups : (slices : List (Slice C)) → ArePoints slices → groups_of course slices ≡ map lone slices
+  point_groups : (slices : List (Slice C)) → ArePoints slices → neighbour_groups course slices ≡ map lone slices
   point_groups [] h = refl
   point_groups (s ∷ []) h = refl
   point_groups (s ∷ r ∷ rest) h = ap (put_in_group course s) (point_groups (r ∷ rest) h.1) ∙ ends (same s.span.upper r.span.lower) r.span.lower_inc s.span.upper_inc (takes_up course s.course r.course) h.0.2
@@ -195,12 +195,12 @@ module _ {C B : Type 0} (course : CourseOf C B) (day : ℤ) (value : Text → Op
 
   -- ---- all of a text
 
-  groups_some : (slices : List (Slice C)) → (slices ≡ [] → ⊥) → groups_of course slices ≡ [] → ⊥
+  groups_some : (slices : List (Slice C)) → (slices ≡ [] → ⊥) → neighbour_groups course slices ≡ [] → ⊥
   groups_some slices some e = some (sym (are_groups course slices).whole ∙ ap joined e)
 
   -- the literal that the groups of the slices print, behind prefixes
   abbrev pub printed_literal : List Prefix → List (Slice C) → Literal (Noted B)
-  printed_literal before slices = record { says_step = says_step before; sequences = map (noted_of_group course) (groups_of course slices) }
+  printed_literal before slices = record { says_step = says_step before; sequences = map (noted_of_group course) (neighbour_groups course slices) }
 
   pub printed_said : (prefixes : Prefixes) (before : List Prefix) (front : Text) (slices : List (Slice C)) → ArePrefixes prefixes front before → Stops (begins_prefix (remaining prefixes before)) (moving_text style slices)
       → (slices ≡ [] → ⊥) → AreSaid slices → (list_all (λ (s : Slice C). not (is_long s)) slices ≡ true → ArePoints slices) → temporal prefixes entry (front ++ moving_text style slices) (printed_literal before slices)
@@ -215,10 +215,10 @@ module _ {C B : Type 0} (course : CourseOf C B) (day : ℤ) (value : Text → Op
     step = refl;
   })
     where
-      by_lengths : (set : Bool) → (set ≡ true → ArePoints slices) → literal entry (cond set (set_text style slices) (groups_text style (groups_of course slices))) (map (noted_of_group course) (groups_of course slices))
+      by_lengths : (set : Bool) → (set ≡ true → ArePoints slices) → literal entry (cond set (set_text style slices) (groups_text style (neighbour_groups course slices))) (map (noted_of_group course) (neighbour_groups course slices))
       by_lengths true p =
-          let are : map (noted_of_group course) (groups_of course slices) ≡ map alone (map start_note slices) = ap (map (noted_of_group course)) (point_groups slices (p refl)) ∙ points_are slices (p refl) in
+          let are : map (noted_of_group course) (neighbour_groups course slices) ≡ map alone (map start_note slices) = ap (map (noted_of_group course)) (point_groups slices (p refl)) ∙ points_are slices (p refl) in
           subst (λ (qs : List (Sequence (Noted B))). literal entry (set_text style slices) qs) (sym are) (set_literal slices some said)
       by_lengths false p =
           let g = are_groups course slices in
-          groups_literal (groups_of course slices) (groups_some slices some) (groups_said (groups_of course slices) g.together (subst AreSaid (sym g.whole) said))
+          groups_literal (neighbour_groups course slices) (groups_some slices some) (groups_said (neighbour_groups course slices) g.together (subst AreSaid (sym g.whole) said))

@@ -29,7 +29,7 @@ use Rattle.mob_written.specs.declared.written.Written.{Written}
 use Rattle.mob_written.specs.declared.written.Sequence.{Sequence}
 use Rattle.mob_scalar.specs.Traverse.{traverse}
 use Rattle.mob_literal.specs.Sound.{instant_count, written_of, fitting_sequence, fitting_all, is_sound, Defines, literals, steps}
-use Rattle.mob_written.specs.Printed.{is_long, groups_of, instants_of, moving_text}
+use Rattle.mob_written.specs.Printed.{is_long, neighbour_groups, instants_of, moving_text}
 use Rattle.mob_written.specs.Style.{style_of}
 use Rattle.mob_numeral.specs.Fitting.{number_value}
 use Rattle.mob_written.specs.Values.{any_value, is_whole_number, truth_value, quoted_value}
@@ -110,7 +110,7 @@ moving_again {C} {B} course laws day value text IsWritten has_value say has slic
     let moves = not_step course.steady (says_step before) in
     let kept : AreKept has_value course laws step moves slices = all_by_each (IsKept has_value course laws step moves) slices (λ s c. kept_of course laws (says_step before) slices level s c) in
     let ordered = normal_ordered course slices r.normal.chained in
-    let groups = groups_of course slices in
+    let groups = neighbour_groups course slices in
     let g = are_groups course slices in
     let said : AreSaid course day value text slices = all_by_each (IsSliceSaid course day value text) slices (λ s c. record { start_value = say (course.start s.course) (r.starts s c); end_value = say (course.end s.course) (r.ends s c); lower_said = moment_said day s.span.lower (r.lowers s c); upper_said = moment_said day s.span.upper (r.uppers s c) }) in
     let values : HasAll has_value course laws step moves slices = all_by_each (λ (s : Slice C). (has_value (course.start s.course) ≡ true) × (has_value (course.end s.course) ≡ true)) slices (λ s c. (has (course.start s.course) (r.starts s c), has (course.end s.course) (r.ends s c))) in

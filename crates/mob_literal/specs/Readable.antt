@@ -18,7 +18,7 @@ use Rattle.mob_stbox.specs.Boxes.{BoxOf, is_box}
 use Rattle.mob_span.specs.Sets.{IsSpanSet}
 use Rattle.mob_written.specs.declared.written.Prefixes.{Prefixes}
 use Rattle.mob_written.specs.Prefix.{begins_prefix}
-use Rattle.mob_written.specs.Printed.{Style, groups_of, instants_of}
+use Rattle.mob_written.specs.Printed.{Style, neighbour_groups, instants_of}
 use Rattle.mob_written.specs.Style.{style_of}
 
 -- how many instants the groups print
@@ -34,7 +34,7 @@ pub record IsReadable {C B : Type 0} (course : CourseOf C B) (day : ℤ) (text :
   pub ends : (s : Slice C) → Contains slices s → IsWritten (course.end s.course)
   pub lowers : (s : Slice C) → Contains slices s → IsDated day s.span.lower
   pub uppers : (s : Slice C) → Contains slices s → IsDated day s.span.upper
-  pub short : instants_in (style_of course text day) (groups_of course slices) ≤ 100000
+  pub short : instants_in (style_of course text day) (neighbour_groups course slices) ≤ 100000
 
 -- each of the slices ends with the value with which it starts: step interpolation changes nothing
 abbrev pub AreLevel : {C B : Type 0} → CourseOf C B → List (Slice C) → Type 0

@@ -13,7 +13,7 @@ use Rattle.mob_load.specs.Fronts.{AreFilesFor, AsksForSome, IsFront, OnFiles}
 use Rattle.mob_catalog.specs.Faults.{file_fault}
 use Rattle.mob_catalog.specs.TableFile.{file_limit, FileFails}
 use Rattle.mob_load.proofs.Fronts.{table_front, fails_front}
-use Rattle.mob_load.specs.Loads.{LoadsTo, Halt, HasFaultCause, IsOutcome, refused, table_refused, Loaded, Loads, LoadsScript, LoadsCheck, LoadsFile, RefusesFile, ChecksStopBy, ContinuesBy, copied_files, loaded_columns, greatest_rows, loaded_row_count, nothing_loaded}
+use Rattle.mob_load.specs.Loads.{LoadsTo, Halt, HasFaultCause, IsLoadOutcome, refused, table_refused, Loaded, Loads, LoadsScript, LoadsCheck, LoadsFile, RefusesFile, ChecksStopBy, ContinuesBy, copied_files, loaded_columns, greatest_rows, loaded_row_count, nothing_loaded}
 use Rattle.mob_load.specs.declared.program.LoadEnd.{LoadEnd}
 use Rattle.mob_load.specs.declared.program.LoadEnd.TheVariants.{Refused, TableRefused, ReadFault, NoMemory}
 
@@ -107,7 +107,7 @@ program_loaded day files cs out l p same is loads = (l, subst (λ (x : List Chec
 
 -- where no count rose, the answer is what loading gives
 pub stopped_outcome : (day : ℤ) (out : ScriptOut) (told : Option Contents) (old new : Option (List (List ℕ))) (files : Contents) → AreFilesFor (copied_files out.statements) told files → (e : LoadEnd) (before now : ℕ)
-    → (Rose before now → ⊥) → HasFaultCause before now e → ChecksStopBy day (checks_of out) (copied_files out.statements) told old new e → IsOutcome day files out (Err e)
+    → (Rose before now → ⊥) → HasFaultCause before now e → ChecksStopBy day (checks_of out) (copied_files out.statements) told old new e → IsLoadOutcome day files out (Err e)
 stopped_outcome day out told old new files are (Refused e) before now steady cause stops = stops files are
 stopped_outcome day out told old new files are (TableRefused name k rec field) before now steady cause stops = refused_loads day files (checks_of out) stops.number name k rec field (stops.refused files are)
 stopped_outcome day out told old new files are (ReadFault name) before now steady cause stops = absurd (steady cause)

@@ -5,7 +5,7 @@ use Rattle.mob_outside.specs.Told.{Contents, file_of}
 use Rattle.mob_typed.specs.Statements.{ScriptOut}
 use Rattle.mob_load.specs.Checks.{CheckParts, literal, table, room, file, checks_of}
 use Rattle.mob_load.specs.Fronts.{AsksForAll, AsksForSome, IsAskedLast, OnFiles}
-use Rattle.mob_load.specs.Loads.{ChecksStopBy, IsFaultAt, IsFile, Loaded, Loads, LoadsCheck, LoadsFile, LoadsTo, OnRead, Reaches, copied_files, names_in, names_of, nothing_loaded, refused, table_refused}
+use Rattle.mob_load.specs.Loads.{ChecksStopBy, IsFaultAt, IsFile, Loaded, Loads, LoadsCheck, LoadsFile, LoadsTo, OnRead, IsFileReached, copied_files, names_in, names_of, nothing_loaded, refused, table_refused}
 use Rattle.mob_load.specs.declared.program.LoadEnd.{LoadEnd}
 use Rattle.mob_load.specs.declared.program.LoadEnd.TheVariants.{Refused, TableRefused, ReadFault, NoMemory}
 use Rattle.mob_load.proofs.Asked.{asked_last, checks_ask, names_around, opened_last}
@@ -25,7 +25,7 @@ module _ (day : ℤ) (first others : List CheckParts) (told : Option Contents) (
   StopsHere c e = ChecksStopBy day (first ++ c ∷ others) (names_in (first ++ c ∷ others)) told a d e
 
   module _ (t : ℕ) (own : List ℕ) where
-    here : (m : Contents) → Loads day m first nothing_loaded (Ok l) → Reaches day m (first ++ file t own ∷ others) (length (names_in first)) own
+    here : (m : Contents) → Loads day m first nothing_loaded (Ok l) → IsFileReached day m (first ++ file t own ∷ others) (length (names_in first)) own
     here m passed = record { first = first; target = t; last = others; parts = refl; counts = refl; read = l; passed = passed }
 
     file_refused : (kind : Kind) (rec field : ℕ) → AsksForAll (own ∷ []) b d → Passed (file t own)

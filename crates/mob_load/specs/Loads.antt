@@ -123,7 +123,7 @@ names_in cs = flat_map names_of cs
 
 -- The file of this number, counted from 0, is reached: it has this name, the checks before its own
 -- all pass, and they ask for as many files.
-pub record Reaches (day : ℤ) (files : Contents) (checks : List CheckParts) (number : ℕ) (name : List ℕ) : Type 0 where
+pub record IsFileReached (day : ℤ) (files : Contents) (checks : List CheckParts) (number : ℕ) (name : List ℕ) : Type 0 where
   pub first : List CheckParts
   pub target : ℕ
   pub last : List CheckParts
@@ -134,7 +134,7 @@ pub record Reaches (day : ℤ) (files : Contents) (checks : List CheckParts) (nu
 
 -- The file of this number is reached, and it has this refusal.
 pub record RefusesFile (day : ℤ) (files : Contents) (checks : List CheckParts) (number : ℕ) (name : List ℕ) (kind : Kind) (rec field : ℕ) : Type 0 where
-  pub reached : Reaches day files checks number name
+  pub reached : IsFileReached day files checks number name
   pub refused : LoadsFile day reached.target name reached.read (file_of name files) (Err (table_refused name kind rec field))
 
 -- What a check adds to what was read, whatever the files are: what it loads of some files.
@@ -206,7 +206,7 @@ pub record StopsAtRefused (day : ℤ) (checks : List CheckParts) (names : List (
 pub record StopsAtUnread (day : ℤ) (checks : List CheckParts) (names : List (List ℕ)) (told : Option Contents) (old new : Option (List (List ℕ))) (name : List ℕ) : Type 0 where
   pub number : ℕ
   pub last : IsAskedLast names number number old new name ⊎ IsAskedLast names number (number + 1) old new name
-  pub reached : OnFiles names told (λ m. Reaches day m checks number name)
+  pub reached : OnFiles names told (λ m. IsFileReached day m checks number name)
 
 -- Why the checks stop, which ask for these names: at the first that is refused, or at a file that
 -- could not be read, before which all pass. A failed allocation is free.
@@ -233,12 +233,12 @@ abbrev pub LoadedIsRead : Type 0
 LoadedIsRead = (day : ℤ) (files : Contents) (out : ScriptOut) (p : Program) → LoadsScript day files out (Ok p) → ReadsScript day out p
 
 -- the program's answer is what a script reads or its first refusal, or memory was wanted
-abbrev pub IsOutcome : ℤ → Contents → ScriptOut → Result Program LoadEnd → Type 0
-IsOutcome day files out (Ok p) = LoadsScript day files out (Ok p)
-IsOutcome day files out (Err (Refused e)) = LoadsScript day files out (Err (refused e))
-IsOutcome day files out (Err (TableRefused name k rec field)) = LoadsScript day files out (Err (table_refused name k rec field))
-IsOutcome day files out (Err (ReadFault name)) = ⊥
-IsOutcome day files out (Err OutOfMemory) = Unit {0}
+abbrev pub IsLoadOutcome : ℤ → Contents → ScriptOut → Result Program LoadEnd → Type 0
+IsLoadOutcome day files out (Ok p) = LoadsScript day files out (Ok p)
+IsLoadOutcome day files out (Err (Refused e)) = LoadsScript day files out (Err (refused e))
+IsLoadOutcome day files out (Err (TableRefused name k rec field)) = LoadsScript day files out (Err (table_refused name k rec field))
+IsLoadOutcome day files out (Err (ReadFault name)) = ⊥
+IsLoadOutcome day files out (Err OutOfMemory) = Unit {0}
 
 -- a script that is typed
 abbrev pub IsTypedScript : ScriptOut → Type 0

@@ -5,7 +5,7 @@ ghost use Rattle.mob_outside.specs.Told.{KeepsFiles};
 ghost use Rattle.mob_typed.specs.Statements.{script_seen};
 ghost use Rattle.mob_load.specs.Fronts.{AsksForAll, AsksForSome, OnFiles};
 ghost use Rattle.mob_load.specs.Checks.{check_seen, checks_of};
-ghost use Rattle.mob_load.specs.Loads.{AreNarrow, HasFaultCause, IsOutcome, IsTypedScript, Loads, LoadsScript, ReadsChecks, ReadsScript, ChecksStopBy, copied_files, loaded_of, names_in, nothing_loaded};
+ghost use Rattle.mob_load.specs.Loads.{AreNarrow, HasFaultCause, IsLoadOutcome, IsTypedScript, Loads, LoadsScript, ReadsChecks, ReadsScript, ChecksStopBy, copied_files, loaded_of, names_in, nothing_loaded};
 
 use crate::check::Check;
 use crate::checking::run_check;
@@ -80,7 +80,7 @@ pub fn load<F: Files>(
     ensures reads { IfOk result (λ p. ReadsScript epoch.now (script_seen typed.now) p) }
     ensures stopped { IfErr result (ChecksStopBy epoch.now (checks_of (script_seen typed.now)) (copied_files (script_seen typed.now).statements) (F.files files.old) (F.asked files.old) (F.asked files.new)) }
     ensures cause { IfErr result (HasFaultCause (F.faults files.old) (F.faults files.new)) }
-    ensures complete { (Rose (F.faults files.old) (F.faults files.new) → ⊥) → OnFiles (copied_files (script_seen typed.now).statements) (F.files files.old) (λ m. IsOutcome epoch.now m (script_seen typed.now) result) }
+    ensures complete { (Rose (F.faults files.old) (F.faults files.new) → ⊥) → OnFiles (copied_files (script_seen typed.now).statements) (F.files files.old) (λ m. IsLoadOutcome epoch.now m (script_seen typed.now) result) }
     ensures asked { OnOk result (AsksForAll (copied_files (script_seen typed.now).statements) (F.asked files.old) (F.asked files.new)) }
     ensures some { AsksForSome (copied_files (script_seen typed.now).statements) (F.asked files.old) (F.asked files.new) }
     ensures files { KeepsFiles (F.files files.old) (F.files files.new) }

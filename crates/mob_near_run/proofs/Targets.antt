@@ -9,7 +9,7 @@ use Rattle.mob_numeral.specs.declared.fault.ReadText.{ReadText}
 use Rattle.mob_numeral.specs.declared.fault.ReadText.TheVariants.{NoMemory}
 use Rattle.mob_literal.specs.SqlText.{SaysAs}
 use Rattle.mob_literal.proofs.SqlReading.{one_sql_reading}
-use Rattle.mob_words.specs.Arguments.{IsCount, IsRequired, value_of}
+use Rattle.mob_words.specs.Arguments.{IsCount, IsRequired, option_value}
 use Rattle.mob_words.proofs.Readings.{one_count, one_day, one_required}
 use Rattle.mob_near_run.specs.CommandLine.{NearSays, near_command, target_type, target_value}
 use Rattle.mob_near_run.specs.declared.settings.NearSettings.{NearSettings}
@@ -65,9 +65,9 @@ same_settings a b k e t = rw (k, e, t) refl
 -- arguments say one record of settings
 pub near_one : (words : List Text) (a b : NearSettings) → NearSays words a → NearSays words b → a ≡ b
 near_one words a b h k =
-    let e = one_day (value_of near_command (codes "epoch") words) a.epoch b.epoch h.day k.day in
-    let t = one_text (value_of near_command (codes "to") words) h.text k.text h.to k.to in
+    let e = one_day (option_value near_command (codes "epoch") words) a.epoch b.epoch h.day k.day in
+    let t = one_text (option_value near_command (codes "to") words) h.text k.text h.to k.to in
     let s = subst (λ d. SaysAs (target_type h.text) d h.text (Ok (target_value a.to))) e h.says in
     let u = subst (λ x. SaysAs (target_type x) b.epoch x (Ok (target_value b.to))) (sym t) k.says in
     let v = ok_same (target_value a.to) (target_value b.to) (one_sql_reading (target_type h.text) b.epoch h.text (Ok (target_value a.to)) (Ok (target_value b.to)) (known (target_value a.to)) (known (target_value b.to)) s u) in
-    same_settings a b (one_row_count (value_of near_command (codes "k") words) a.k b.k h.count k.count) e (same_target a.to b.to v)
+    same_settings a b (one_row_count (option_value near_command (codes "k") words) a.k b.k h.count k.count) e (same_target a.to b.to v)

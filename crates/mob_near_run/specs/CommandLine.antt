@@ -7,7 +7,7 @@ use Rattle.mob_ast.specs.declared.types.SqlType.TheVariants as sql
 use Rattle.mob_value.specs.declared.value.Value.{Value}
 use Rattle.mob_value.specs.declared.value.Value.TheVariants as value
 use Rattle.mob_literal.specs.SqlText.{SaysAs}
-use Rattle.mob_words.specs.Arguments.{IsCount, IsEpoch, IsRequired, Takes, command_of, value_of}
+use Rattle.mob_words.specs.Arguments.{IsCount, IsEpoch, IsRequired, Takes, command_of, option_value}
 use Rattle.mob_near_run.specs.declared.settings.NearSettings.{NearSettings}
 use Rattle.mob_near_run.specs.declared.settings.Target.{Target}
 use Rattle.mob_near_run.specs.declared.settings.Target.TheVariants.{Moving, Fixed}
@@ -28,8 +28,8 @@ target_value (Fixed p) = value.Point p
 -- epoch, and to what the trips come near
 pub record NearSays (words : List Text) (settings : NearSettings) : Type 0 where
   pub taken : Takes near_command words
-  pub count : IsRequired (IsCount 1000) (value_of near_command (codes "k") words) settings.k
-  pub day : IsEpoch (value_of near_command (codes "epoch") words) settings.epoch
+  pub count : IsRequired (IsCount 1000) (option_value near_command (codes "k") words) settings.k
+  pub day : IsEpoch (option_value near_command (codes "epoch") words) settings.epoch
   pub text : Text
-  pub to : value_of near_command (codes "to") words ≡ Some text
+  pub to : option_value near_command (codes "to") words ≡ Some text
   pub says : SaysAs (target_type text) settings.epoch text (Ok (target_value settings.to))

@@ -1,6 +1,6 @@
 // The values that arguments give to the options.
 ghost use Rattle.std.specs.Prelude.{◌≡◌, IfOk, IfSome, IsNone, codes, map, option_map, string_bytes};
-ghost use Rattle.mob_words.specs.Arguments.{Takes, value_of};
+ghost use Rattle.mob_words.specs.Arguments.{Takes, option_value};
 ghost use Rattle.mob_near_run.specs.CommandLine.{near_command};
 
 use mob_words::given;
@@ -20,9 +20,9 @@ pub struct Values<'a> {
 pub fn values_in<'a>(alloc: Global, words: &'a [String]) -> Result<Option<Values<'a>>, AllocError>
     ensures taken { IfOk result (λ o. IfSome o (λ v. Takes near_command (map string_bytes words.entry.now))) }
     ensures refused { IfOk result (λ o. IsNone o → Takes near_command (map string_bytes words.entry.now) → ⊥) }
-    ensures count { IfOk result (λ o. IfSome o (λ v. option_map (λ s. s.now) v.count ≡ value_of near_command (codes "k") (map string_bytes words.entry.now))) }
-    ensures epoch { IfOk result (λ o. IfSome o (λ v. option_map (λ s. s.now) v.epoch ≡ value_of near_command (codes "epoch") (map string_bytes words.entry.now))) }
-    ensures to { IfOk result (λ o. IfSome o (λ v. option_map (λ s. s.now) v.to ≡ value_of near_command (codes "to") (map string_bytes words.entry.now))) }
+    ensures count { IfOk result (λ o. IfSome o (λ v. option_map (λ s. s.now) v.count ≡ option_value near_command (codes "k") (map string_bytes words.entry.now))) }
+    ensures epoch { IfOk result (λ o. IfSome o (λ v. option_map (λ s. s.now) v.epoch ≡ option_value near_command (codes "epoch") (map string_bytes words.entry.now))) }
+    ensures to { IfOk result (λ o. IfSome o (λ v. option_map (λ s. s.now) v.to ≡ option_value near_command (codes "to") (map string_bytes words.entry.now))) }
 {
     let Some(matches) = given(alloc, "mobnear", &["k", "to", "epoch"], words)? else {
         return Ok(None);

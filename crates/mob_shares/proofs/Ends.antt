@@ -13,7 +13,7 @@ use Rattle.mob_span.specs.Pieces.{PiecesAreClear, piece_at}
 use Rattle.mob_span.specs.Remainders.{front_of}
 use Rattle.mob_ratio.proofs.Order.{before-back}
 use Rattle.mob_span.proofs.SpanLemmas.{meet_has}
-use Rattle.mob_shares.specs.Cuts.{CutOf, entry_at, row_of, shared_cuts}
+use Rattle.mob_shares.specs.Cuts.{CutOf, entry_at, row_pieces, shared_cuts}
 use Rattle.mob_shares.specs.Sharing.{ShareOf, next_share}
 use Rattle.mob_shares.proofs.Spans.{front_whole}
 
@@ -100,8 +100,8 @@ module _ {X Y : Type 0} where
   abbrev pub BeginsRight : Y → Ratio → List (PieceOf X Y) → Type 0
   BeginsRight y u ps = (m : SpanOf) × (x : X) × (rest : List (PieceOf X Y)) × (ps ≡ record { span = m; left = x; right = y } ∷ rest) × (m.lower ≡ u)
 
-  begins : (c : CutOf X) (cs : List (CutOf X)) (d : CutOf Y) (ds : List (CutOf Y)) → has_instant (meet_of c.span d.span) ≡ true → shared_cuts (c ∷ cs) (d ∷ ds) ≡ record { span = meet_of c.span d.span; left = c.of; right = d.of } ∷ (row_of c ds ++ shared_cuts cs (d ∷ ds))
-  begins c cs d ds h = ap (λ b. cond b (record { span = meet_of c.span d.span; left = c.of; right = d.of } ∷ row_of c ds) (row_of c ds) ++ shared_cuts cs (d ∷ ds)) h
+  begins : (c : CutOf X) (cs : List (CutOf X)) (d : CutOf Y) (ds : List (CutOf Y)) → has_instant (meet_of c.span d.span) ≡ true → shared_cuts (c ∷ cs) (d ∷ ds) ≡ record { span = meet_of c.span d.span; left = c.of; right = d.of } ∷ (row_pieces c ds ++ shared_cuts cs (d ∷ ds))
+  begins c cs d ds h = ap (λ b. cond b (record { span = meet_of c.span d.span; left = c.of; right = d.of } ∷ row_pieces c ds) (row_pieces c ds) ++ shared_cuts cs (d ∷ ds)) h
 
   module _ (P : X → Ratio → Type 0) where
     abbrev LeftEnds : SpanOf → X → List (PieceOf X Y) → Type 0
@@ -114,7 +114,7 @@ module _ {X Y : Type 0} where
         by true e = (h.0, inl (subst (λ z. P c.of z.upper) (sym (front_whole c.span d.span e)) h.1))
         by false e =
             let j = starts_front c.span d.span e i in
-            (h.0, inr (meet_of c.span d.span, d.of, row_of c ds ++ shared_cuts cs (d ∷ ds), begins c cs d ds (overlap c.span d.span e k j), ap (λ b. cond b d.span.lower c.span.lower) j ∙ sym (ap (λ b. cond b c.span.upper d.span.lower) e)))
+            (h.0, inr (meet_of c.span d.span, d.of, row_pieces c ds ++ shared_cuts cs (d ∷ ds), begins c cs d ds (overlap c.span d.span e k j), ap (λ b. cond b d.span.lower c.span.lower) j ∙ sym (ap (λ b. cond b c.span.upper d.span.lower) e)))
 
     of_left : (r s : SpanOf) (z x : X) (ps : List (PieceOf X Y)) → the_left r z ≡ the_left s x → LeftEnds r z ps → LeftEnds s x ps
     of_left r s z x ps e h = subst (λ y. LeftEnds s y ps) (same_x e) (subst (λ y. LeftEnds y z ps) (same_s e) h)
@@ -152,7 +152,7 @@ module _ {X Y : Type 0} where
         by false e =
             let j = starts_front d.span c.span e i in
             let l = not_both c.span d.span j in
-            (h.0, inr (meet_of c.span d.span, c.of, row_of c ds ++ shared_cuts cs (d ∷ ds), begins c cs d ds (overlap' c.span d.span e k j l), ap (λ b. cond b d.span.lower c.span.lower) l ∙ sym (ap (λ b. cond b d.span.upper c.span.lower) e)))
+            (h.0, inr (meet_of c.span d.span, c.of, row_pieces c ds ++ shared_cuts cs (d ∷ ds), begins c cs d ds (overlap' c.span d.span e k j l), ap (λ b. cond b d.span.lower c.span.lower) l ∙ sym (ap (λ b. cond b d.span.upper c.span.lower) e)))
 
     of_right : (r s : SpanOf) (z y : Y) (ps : List (PieceOf X Y)) → the_right r z ≡ the_right s y → RightEnds r z ps → RightEnds s y ps
     of_right r s z y ps e h = subst (λ q. RightEnds s q ps) (same_y e) (subst (λ q. RightEnds q z ps) (same_s e) h)
@@ -191,21 +191,21 @@ module _ {X Y : Type 0} where
       by true i z f = some_none p z
       by false i z f = f z
 
-  none_row : (c : CutOf X) (ds : List (CutOf Y)) (t : Ratio) → has c.span t ≡ false → piece_at (λ q. q.span) (row_of c ds) t ≡ None
+  none_row : (c : CutOf X) (ds : List (CutOf Y)) (t : Ratio) → has c.span t ≡ false → piece_at (λ q. q.span) (row_pieces c ds) t ≡ None
   none_row c [] t h = refl
-  none_row c (d ∷ ds) t h = part_put (meet_of c.span d.span) c.of d.of (row_of c ds) t (meet_has c.span d.span t ∙ ap (λ b. b && has d.span t) h) (none_row c ds t h)
+  none_row c (d ∷ ds) t h = part_put (meet_of c.span d.span) c.of d.of (row_pieces c ds) t (meet_has c.span d.span t ∙ ap (λ b. b && has d.span t) h) (none_row c ds t h)
 
-  none_row' : (c : CutOf X) (ds : List (CutOf Y)) (t : Ratio) → AllByRecursion (λ d. has d.span t ≡ false) ds → piece_at (λ q. q.span) (row_of c ds) t ≡ None
+  none_row' : (c : CutOf X) (ds : List (CutOf Y)) (t : Ratio) → AllByRecursion (λ d. has d.span t ≡ false) ds → piece_at (λ q. q.span) (row_pieces c ds) t ≡ None
   none_row' c [] t h = refl
-  none_row' c (d ∷ ds) t h = part_put (meet_of c.span d.span) c.of d.of (row_of c ds) t (meet_has c.span d.span t ∙ ap (λ b. has c.span t && b) h.0 ∙ and_none (has c.span t)) (none_row' c ds t h.1)
+  none_row' c (d ∷ ds) t h = part_put (meet_of c.span d.span) c.of d.of (row_pieces c ds) t (meet_has c.span d.span t ∙ ap (λ b. has c.span t && b) h.0 ∙ and_none (has c.span t)) (none_row' c ds t h.1)
 
   none_left_by : (v : List (CutOf X)) (w : List (CutOf Y)) (t : Ratio) → AllByRecursion (λ c. has c.span t ≡ false) v → piece_at (λ q. q.span) (shared_cuts v w) t ≡ None
   none_left_by [] w t h = refl
-  none_left_by (c ∷ cs) w t h = part_both (row_of c w) (shared_cuts cs w) t (none_row c w t h.0) (none_left_by cs w t h.1)
+  none_left_by (c ∷ cs) w t h = part_both (row_pieces c w) (shared_cuts cs w) t (none_row c w t h.0) (none_left_by cs w t h.1)
 
   none_right_by : (v : List (CutOf X)) (w : List (CutOf Y)) (t : Ratio) → AllByRecursion (λ d. has d.span t ≡ false) w → piece_at (λ q. q.span) (shared_cuts v w) t ≡ None
   none_right_by [] w t h = refl
-  none_right_by (c ∷ cs) w t h = part_both (row_of c w) (shared_cuts cs w) t (none_row' c w t h) (none_right_by cs w t h)
+  none_right_by (c ∷ cs) w t h = part_both (row_pieces c w) (shared_cuts cs w) t (none_row' c w t h) (none_right_by cs w t h)
 
   -- where one of two lists has nothing, they share no piece
   pub none_left : (v : List (CutOf X)) (w : List (CutOf Y)) (t : Ratio) → entry_at v t ≡ None → piece_at (λ q. q.span) (shared_cuts v w) t ≡ None

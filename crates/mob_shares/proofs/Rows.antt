@@ -9,7 +9,7 @@ use Rattle.mob_span.specs.Meets.{PieceOf, shared_pieces}
 use Rattle.mob_span.specs.Remainders.{back_of}
 use Rattle.mob_span.proofs.SpanLemmas.{no_instant, meet_none}
 use Rattle.mob_span.proofs.Shared.{AreAllClear, row}
-use Rattle.mob_shares.specs.Cuts.{CutOf, wholes, kept, left_after, row_of, shared_cuts}
+use Rattle.mob_shares.specs.Cuts.{CutOf, wholes, kept, left_after, row_pieces, shared_cuts}
 use Rattle.mob_shares.proofs.Spans.{some_same, one_span, same_behind, same_behind', meets_same, meets_same', none_behind}
 
 no_meet : (s r : SpanOf) → has_instant s ≡ false → has_instant (meet_of s r) ≡ false
@@ -39,9 +39,9 @@ module _ {X Y : Type 0} where
   put_some : (m : SpanOf) (x : X) (y : Y) (r : List (PieceOf X Y)) → has_instant m ≡ true → put m x y r ≡ record { span = m; left = x; right = y } ∷ r
   put_some m x y r h = ap (λ b. cond b (record { span = m; left = x; right = y } ∷ r) r) h
 
-  row_none : (c : CutOf X) (ds : List (CutOf Y)) → has_instant c.span ≡ false → row_of c ds ≡ []
+  row_none : (c : CutOf X) (ds : List (CutOf Y)) → has_instant c.span ≡ false → row_pieces c ds ≡ []
   row_none c [] h = refl
-  row_none c (d ∷ ds) h = put_none (meet_of c.span d.span) c.of d.of (row_of c ds) (no_meet c.span d.span h) ∙ row_none c ds h
+  row_none c (d ∷ ds) h = put_none (meet_of c.span d.span) c.of d.of (row_pieces c ds) (no_meet c.span d.span h) ∙ row_none c ds h
 
   -- a cut without an instant shares nothing
   kept_row : (c : CutOf X) (cs : List (CutOf X)) (ds : List (CutOf Y)) → shared_cuts (kept c cs) ds ≡ shared_cuts (c ∷ cs) ds
@@ -53,7 +53,7 @@ module _ {X Y : Type 0} where
 
   col_none : (cs : List (CutOf X)) (d : CutOf Y) (ds : List (CutOf Y)) → has_instant d.span ≡ false → shared_cuts cs ds ≡ shared_cuts cs (d ∷ ds)
   col_none [] d ds h = refl
-  col_none (c ∷ cs) d ds h = ap (λ l. l ++ shared_cuts cs ds) (sym (put_none (meet_of c.span d.span) c.of d.of (row_of c ds) (no_meet' c.span d.span h))) ∙ ap (λ l. row_of c (d ∷ ds) ++ l) (col_none cs d ds h)
+  col_none (c ∷ cs) d ds h = ap (λ l. l ++ shared_cuts cs ds) (sym (put_none (meet_of c.span d.span) c.of d.of (row_pieces c ds) (no_meet' c.span d.span h))) ∙ ap (λ l. row_pieces c (d ∷ ds) ++ l) (col_none cs d ds h)
 
   kept_col : (cs : List (CutOf X)) (d : CutOf Y) (ds : List (CutOf Y)) → shared_cuts cs (kept d ds) ≡ shared_cuts cs (d ∷ ds)
   kept_col cs d ds = by (has_instant d.span) refl
@@ -62,15 +62,15 @@ module _ {X Y : Type 0} where
       by true h = refl
       by false h = col_none cs d ds h
 
-  row_behind : (x : X) (s p : SpanOf) (ds : List (CutOf Y)) → AreAllClear (λ d. d.span) p ds → row_of (record { span = s; of = x }) ds ≡ row_of (record { span = back_of s p; of = x }) ds
+  row_behind : (x : X) (s p : SpanOf) (ds : List (CutOf Y)) → AreAllClear (λ d. d.span) p ds → row_pieces (record { span = s; of = x }) ds ≡ row_pieces (record { span = back_of s p; of = x }) ds
   row_behind x s p [] h = refl
-  row_behind x s p (d ∷ ds) h = put_same (meet_of s d.span) (meet_of (back_of s p) d.span) x d.of (row_of (record { span = s; of = x }) ds) (row_of (record { span = back_of s p; of = x }) ds) (meets_same s (back_of s p) d.span (same_behind s p d.span h.0)) (row_behind x s p ds h.1)
+  row_behind x s p (d ∷ ds) h = put_same (meet_of s d.span) (meet_of (back_of s p) d.span) x d.of (row_pieces (record { span = s; of = x }) ds) (row_pieces (record { span = back_of s p; of = x }) ds) (meets_same s (back_of s p) d.span (same_behind s p d.span h.0)) (row_behind x s p ds h.1)
 
   col_behind : (y : Y) (s p : SpanOf) (cs : List (CutOf X)) (ds : List (CutOf Y)) → AreAllClear (λ c. c.span) p cs → shared_cuts cs (record { span = s; of = y } ∷ ds) ≡ shared_cuts cs (record { span = back_of s p; of = y } ∷ ds)
   col_behind y s p [] ds h = refl
   col_behind y s p (c ∷ cs) ds h =
-      ap (λ l. l ++ shared_cuts cs (record { span = s; of = y } ∷ ds)) (put_same (meet_of c.span s) (meet_of c.span (back_of s p)) c.of y (row_of c ds) (row_of c ds) (meets_same' s (back_of s p) c.span (same_behind' s p c.span h.0)) refl)
-      ∙ ap (λ l. row_of c (record { span = back_of s p; of = y } ∷ ds) ++ l) (col_behind y s p cs ds h.1)
+      ap (λ l. l ++ shared_cuts cs (record { span = s; of = y } ∷ ds)) (put_same (meet_of c.span s) (meet_of c.span (back_of s p)) c.of y (row_pieces c ds) (row_pieces c ds) (meets_same' s (back_of s p) c.span (same_behind' s p c.span h.0)) refl)
+      ∙ ap (λ l. row_pieces c (record { span = back_of s p; of = y } ∷ ds) ++ l) (col_behind y s p cs ds h.1)
 
   -- The first of one list is cut by what comes before all of the other list: nothing that is shared
   -- changes.
@@ -87,21 +87,21 @@ module _ {X Y : Type 0} where
       let p = meet_of c.span d.span in
       let c' : CutOf X = record { span = back_of c.span p; of = c.of } in
       let d' : CutOf Y = record { span = back_of d.span p; of = d.of } in
-      let first : shared_cuts (c ∷ cs) (d ∷ ds) ≡ record { span = p; left = c.of; right = d.of } ∷ (row_of c ds ++ shared_cuts cs (d ∷ ds)) = ap (λ r. r ++ shared_cuts cs (d ∷ ds)) (put_some p c.of d.of (row_of c ds) h) in
-      let rest : shared_cuts (left_after p (c ∷ cs)) (left_after p (d ∷ ds)) ≡ row_of c ds ++ shared_cuts cs (d ∷ ds) =
+      let first : shared_cuts (c ∷ cs) (d ∷ ds) ≡ record { span = p; left = c.of; right = d.of } ∷ (row_pieces c ds ++ shared_cuts cs (d ∷ ds)) = ap (λ r. r ++ shared_cuts cs (d ∷ ds)) (put_some p c.of d.of (row_pieces c ds) h) in
+      let rest : shared_cuts (left_after p (c ∷ cs)) (left_after p (d ∷ ds)) ≡ row_pieces c ds ++ shared_cuts cs (d ∷ ds) =
       kept_row c' cs (kept d' ds)
       ∙ kept_col (c' ∷ cs) d' ds
-      ∙ ap (λ r. r ++ shared_cuts cs (d' ∷ ds)) (put_none (meet_of c'.span d'.span) c.of d.of (row_of c' ds) (none_behind c.span d.span))
+      ∙ ap (λ r. r ++ shared_cuts cs (d' ∷ ds)) (put_none (meet_of c'.span d'.span) c.of d.of (row_pieces c' ds) (none_behind c.span d.span))
       ∙ ap (λ r. r ++ shared_cuts cs (d' ∷ ds)) (sym (row_behind c.of c.span p ds l))
-      ∙ ap (λ r. row_of c ds ++ r) (sym (col_behind d.of d.span p cs ds k)) in
+      ∙ ap (λ r. row_pieces c ds ++ r) (sym (col_behind d.of d.span p cs ds k)) in
       first ∙ ap (λ r. record { span = p; left = c.of; right = d.of } ∷ r) (sym rest)
 
 module _ {X Y : Type 0} (span : X → SpanOf) (span' : Y → SpanOf) where
-  row_whole : (x : X) (w : List Y) → row_of (record { span = span x; of = x }) (wholes span' w) ≡ row span span' x w
+  row_whole : (x : X) (w : List Y) → row_pieces (record { span = span x; of = x }) (wholes span' w) ≡ row span span' x w
   row_whole x [] = refl
   row_whole x (y ∷ w) = by (has_instant (meet_of (span x) (span' y))) (row_whole x w)
     where
-      by : (b : Bool) → row_of (record { span = span x; of = x }) (wholes span' w) ≡ row span span' x w → cond b (record { span = meet_of (span x) (span' y); left = x; right = y } ∷ row_of (record { span = span x; of = x }) (wholes span' w)) (row_of (record { span = span x; of = x }) (wholes span' w)) ≡ map (λ z. record { span = meet_of (span x) (span' z); left = x; right = z }) (cond b (y ∷ filter (λ z. has_instant (meet_of (span x) (span' z))) w) (filter (λ z. has_instant (meet_of (span x) (span' z))) w))
+      by : (b : Bool) → row_pieces (record { span = span x; of = x }) (wholes span' w) ≡ row span span' x w → cond b (record { span = meet_of (span x) (span' y); left = x; right = y } ∷ row_pieces (record { span = span x; of = x }) (wholes span' w)) (row_pieces (record { span = span x; of = x }) (wholes span' w)) ≡ map (λ z. record { span = meet_of (span x) (span' z); left = x; right = z }) (cond b (y ∷ filter (λ z. has_instant (meet_of (span x) (span' z))) w) (filter (λ z. has_instant (meet_of (span x) (span' z))) w))
       by true e = ap (λ l. record { span = meet_of (span x) (span' y); left = x; right = y } ∷ l) e
       by false e = e
 

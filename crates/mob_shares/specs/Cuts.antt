@@ -35,10 +35,10 @@ entry_at [] t = None
 entry_at (c ∷ cs) t = cond (has c.span t) (Some c.of) (entry_at cs t)
 
 -- the pieces that one shares with each of others, and those of two lists
-abbrev pub row_of : {X Y : Type 0} → CutOf X → List (CutOf Y) → List (PieceOf X Y)
-row_of c [] = []
-row_of c (d ∷ ds) = cond (has_instant (meet_of c.span d.span)) (record { span = meet_of c.span d.span; left = c.of; right = d.of } ∷ row_of c ds) (row_of c ds)
+abbrev pub row_pieces : {X Y : Type 0} → CutOf X → List (CutOf Y) → List (PieceOf X Y)
+row_pieces c [] = []
+row_pieces c (d ∷ ds) = cond (has_instant (meet_of c.span d.span)) (record { span = meet_of c.span d.span; left = c.of; right = d.of } ∷ row_pieces c ds) (row_pieces c ds)
 
 abbrev pub shared_cuts : {X Y : Type 0} → List (CutOf X) → List (CutOf Y) → List (PieceOf X Y)
 shared_cuts [] ds = []
-shared_cuts (c ∷ cs) ds = row_of c ds ++ shared_cuts cs ds
+shared_cuts (c ∷ cs) ds = row_pieces c ds ++ shared_cuts cs ds

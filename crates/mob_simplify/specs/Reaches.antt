@@ -13,7 +13,7 @@ abbrev pub IsSquared : Limit → Type 0
 IsSquared limit = IsExact (limit.distance *ℚ limit.distance) limit.square
 
 -- the time from p to n, and the ways to the east and to the north
-pub record IsReach (p n : Break) (reach : Reach) : Type 0 where
+pub record IsBreakReach (p n : Break) (reach : Reach) : Type 0 where
   pub time : IsExact (n.instant -ℚ p.instant) reach.time
   pub east : IsExact (n.place.x -ℚ p.place.x) reach.east
   pub north : IsExact (n.place.y -ℚ p.place.y) reach.north

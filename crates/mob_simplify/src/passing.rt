@@ -12,7 +12,7 @@ ghost use Rattle.mob_slice.specs.Lines.{plane_parts_of};
 ghost use Rattle.mob_slice.specs.declared.formula.Formula.TheVariants.{F1, F2, F6};
 ghost use Rattle.mob_near.specs.Distances.{length_squared};
 ghost use Rattle.mob_simplify.specs.Breaks.{straight, straight_at, off_course, passes};
-ghost use Rattle.mob_simplify.specs.Reaches.{IsReach, IsSquared, moved_at, moved_parts, part_gone, parts_gone};
+ghost use Rattle.mob_simplify.specs.Reaches.{IsBreakReach, IsSquared, moved_at, moved_parts, part_gone, parts_gone};
 ghost use Rattle.mob_simplify.specs.Tests.{entries_of_test, tests_of};
 
 use crate::breaks::Break;
@@ -54,7 +54,7 @@ pub struct Reach {
 
 // The reach of the straight course from `p` to `n`.
 fn reach_of(p: &Break, n: &Break) -> Reach
-    ensures reach { IsReach p.now n.now result }
+    ensures reach { IsBreakReach p.now n.now result }
 {
     Reach {
         time: n.instant.sub(&p.instant),
@@ -104,7 +104,7 @@ fn moved(
 
 // Both coordinates, where a part of its time has gone.
 fn moved_place(p: &Break, n: &Break, reach: &Reach, part: &Frac) -> Result<Point, Overflow>
-    requires reach { IsReach p.now n.now reach.now }
+    requires reach { IsBreakReach p.now n.now reach.now }
     ensures value { IsFormula (moved_parts p.now.place.x n.now.place.x part.now ++ moved_parts p.now.place.y n.now.place.y part.now) (record { x = moved_at p.now.place.x n.now.place.x part.now; y = moved_at p.now.place.y n.now.place.y part.now }) result }
 {
     let x = moved(&p.place.x, &n.place.x, &reach.east, part)?;
@@ -114,7 +114,7 @@ fn moved_place(p: &Break, n: &Break, reach: &Reach, part: &Frac) -> Result<Point
 
 // Where the straight course from `p` to `n` is at the instant of `b`.
 fn straight_at(p: &Break, n: &Break, reach: &Reach, b: &Break) -> Result<Point, Passed>
-    requires reach { IsReach p.now n.now reach.now }
+    requires reach { IsBreakReach p.now n.now reach.now }
     requires after { before p.now.instant b.now.instant ≡ true }
     requires until { before b.now.instant n.now.instant ≡ true }
     ensures value { IsComputed F1 (plane_parts_of (straight p.now n.now) p.now.instant n.now.instant b.now.instant) (straight_at p.now n.now b.now.instant) result }
@@ -171,7 +171,7 @@ fn length_within(v: &Point, limit: &Limit) -> Result<bool, Overflow>
 
 // Whether the straight course from `p` to `n` is at the break `b` within the limit of its place.
 fn is_near(p: &Break, n: &Break, reach: &Reach, b: &Break, limit: &Limit) -> Result<bool, Passed>
-    requires reach { IsReach p.now n.now reach.now }
+    requires reach { IsBreakReach p.now n.now reach.now }
     requires square { IsSquared limit.now }
     requires after { before p.now.instant b.now.instant ≡ true }
     requires until { before b.now.instant n.now.instant ≡ true }

@@ -32,7 +32,7 @@ use Rattle.std.proofs.lemmas.List.{drop_all}
 use Rattle.mob_span.proofs.Insides.{inside_self}
 use Rattle.mob_slice.specs.Operands.{steady_value, steady_limit, steady_parts}
 use Rattle.mob_slice.specs.declared.steady.Steady.{Steady}
-use Rattle.mob_tagg.specs.United.{united_by, AreUnited, sides_of, IsChecked, one_slice, IsMet}
+use Rattle.mob_tagg.specs.United.{united_by, AreUnited, sides_of, IsChecked, one_slice, IsUnitedAt}
 
 pub part_here : {P : Type 0} (span : P → SpanOf) (ps : List P) (t : Ratio) (q : P) → piece_at span ps t ≡ Some q → has (span q) t ≡ true
 part_here span [] t q e = none_some q e
@@ -207,16 +207,16 @@ ones_end given v o i e n h =
 -- the same with a relation in place of an operation
 module _ {C B V : Type 0} (value : C → Ratio → Ratio → Ratio → B) (start end : C → B) (parts : C → Ratio → Ratio → Ratio → List Ratio) (items : V → List (Slice C)) (returns : Pair C C → Result V OpFault → Type 0) (R : Ratio → B → B → B → Type 0)
     (each : (p : Pair C C) (x : V) (t : Ratio) → IsPairFit start end start end p → returns p (Ok x) → has p.span t ≡ true → (z : B) × (value_at value (items x) t ≡ Some z) × R t (slice_value value p.left.now t) (slice_value value p.right.now t) z) where
-  pub met_at : (v w : List (Slice C)) (t : Ratio) (o : Option B) → IsTakenAt value start end items returns v w t o → IsMet R t (value_at value v t) (value_at value w t) o
+  pub met_at : (v w : List (Slice C)) (t : Ratio) (o : Option B) → IsTakenAt value start end items returns v w t o → IsUnitedAt R t (value_at value v t) (value_at value w t) o
   met_at v w t o h =
-      subst (λ z. IsMet R t z (value_at value w t) o) (sym (value_by value v t)) (subst (λ z. IsMet R t (option_map (λ s. slice_value value s t) (piece_at (λ s. s.span) v t)) z o) (sym (value_by value w t))
+      subst (λ z. IsUnitedAt R t z (value_at value w t) o) (sym (value_by value v t)) (subst (λ z. IsUnitedAt R t (option_map (λ s. slice_value value s t) (piece_at (λ s. s.span) v t)) z o) (sym (value_by value w t))
       (by (piece_at (λ q. q.span) (shared_pieces (λ s. s.span) (λ s. s.span) v w) t) (piece_at (λ s. s.span) v t) (piece_at (λ s. s.span) w t) refl (meets_at (λ s. s.span) (λ s. s.span) v w t)
       (subst (λ z. MatchOption (piece_at (λ q. q.span) (shared_pieces (λ s. s.span) (λ s. s.span) v w) t) (o ≡ one_of z (option_map (λ s. slice_value value s t) (piece_at (λ s. s.span) w t))) (λ q. (x : V) × IsAnswered start end returns q (Ok x) × (o ≡ value_at value (items x) t))) (value_by value v t)
       (subst (λ z. MatchOption (piece_at (λ q. q.span) (shared_pieces (λ s. s.span) (λ s. s.span) v w) t) (o ≡ one_of (value_at value v t) z) (λ q. (x : V) × IsAnswered start end returns q (Ok x) × (o ≡ value_at value (items x) t))) (value_by value w t) h))))
     where
       by : (found : Option (PieceOf (Slice C) (Slice C))) (a b : Option (Slice C)) → piece_at (λ q. q.span) (shared_pieces (λ s. s.span) (λ s. s.span) v w) t ≡ found → option_map (sides (λ s. s.span) (λ s. s.span)) found ≡ option_zip a b
           → MatchOption found (o ≡ one_of (option_map (λ s. slice_value value s t) a) (option_map (λ s. slice_value value s t) b)) (λ q. (x : V) × IsAnswered start end returns q (Ok x) × (o ≡ value_at value (items x) t))
-          → IsMet R t (option_map (λ s. slice_value value s t) a) (option_map (λ s. slice_value value s t) b) o
+          → IsUnitedAt R t (option_map (λ s. slice_value value s t) a) (option_map (λ s. slice_value value s t) b) o
       by None None b f e m = m
       by None (Some x) None f e m = m
       by None (Some x) (Some y) f e m = none_some (x, y) e

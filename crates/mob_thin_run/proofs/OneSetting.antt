@@ -1,6 +1,6 @@
 -- The arguments of a command line say one record of settings.
 use Rattle.std.specs.Prelude.{◌≡◌, List, ℕ, codes}
-use Rattle.mob_words.specs.Arguments.{IsDistance, value_of}
+use Rattle.mob_words.specs.Arguments.{IsDistance, option_value}
 use Rattle.mob_words.proofs.Readings.{one_day, one_distance, one_required}
 use Rattle.mob_thin_run.specs.CommandLine.{ThinSays, thin_command}
 use Rattle.mob_thin_run.specs.declared.settings.ThinSettings.{ThinSettings}
@@ -9,4 +9,4 @@ same_settings : (a b : ThinSettings) → a.within ≡ b.within → a.epoch ≡ b
 same_settings a b e f = λ i. record { within = e i; epoch = f i }
 
 pub one_setting : (words : List (List ℕ)) (a b : ThinSettings) → ThinSays words a → ThinSays words b → a ≡ b
-one_setting words a b h k = same_settings a b (one_required IsDistance one_distance (value_of thin_command (codes "within") words) a.within b.within h.distance k.distance) (one_day (value_of thin_command (codes "epoch") words) a.epoch b.epoch h.day k.day)
+one_setting words a b h k = same_settings a b (one_required IsDistance one_distance (option_value thin_command (codes "within") words) a.within b.within h.distance k.distance) (one_day (option_value thin_command (codes "epoch") words) a.epoch b.epoch h.day k.day)

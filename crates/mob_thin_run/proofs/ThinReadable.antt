@@ -21,7 +21,7 @@ use Rattle.mob_points.specs.Points.{point_value}
 use Rattle.mob_slice.specs.CourseOf.{plane_course}
 use Rattle.mob_slice.specs.declared.line.PlaneLine.{PlaneLine}
 use Rattle.mob_slice.specs.declared.slice.Slice.{Slice}
-use Rattle.mob_written.specs.Printed.{Style, groups_of, put_in_group, instants_of, end_text, shares_group}
+use Rattle.mob_written.specs.Printed.{Style, neighbour_groups, put_in_group, instants_of, end_text, shares_group}
 use Rattle.mob_written.specs.Style.{style_of}
 use Rattle.mob_written.specs.Values.{any_value}
 use Rattle.mob_written.specs.declared.written.Written.{Written}
@@ -104,10 +104,10 @@ module _ (day : ℤ) where
       ∙ joined_by s r h.more h.others (shares_group plane_course s r)
       ∙ ap (λ z. one_or_two (shares_group plane_course s r) (before s.span.lower s.span.upper) + instants_in style z) (sym h.same)
 
-  counted : (slices : List Line) → instants_in style (groups_of plane_course slices) ≡ printed_instants slices
+  counted : (slices : List Line) → instants_in style (neighbour_groups plane_course slices) ≡ printed_instants slices
   counted [] = refl
   counted (s ∷ []) = ap (λ n. n + 0) (alone s)
-  counted (s ∷ r ∷ rest) = put_counts s r (groups_of plane_course (r ∷ rest)) (begins_put r (groups_of plane_course rest)) ∙ ap (λ n. one_or_two (followed s (r ∷ rest)) (before s.span.lower s.span.upper) + n) (counted (r ∷ rest))
+  counted (s ∷ r ∷ rest) = put_counts s r (neighbour_groups plane_course (r ∷ rest)) (begins_put r (neighbour_groups plane_course rest)) ∙ ap (λ n. one_or_two (followed s (r ∷ rest)) (before s.span.lower s.span.upper) + n) (counted (r ∷ rest))
 
   -- ---- a trip
   -- the instant of a break lies in the years 0001 to 9999, and its coordinates fit

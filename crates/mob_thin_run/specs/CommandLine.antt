@@ -1,7 +1,7 @@
 -- The command line of mobthin: two options that take one value each, no help and no version.
 use Rattle.std.specs.Prelude.{◌∷◌, [], List, codes}
 use Rattle.clap.specs.Words.{App, Text}
-use Rattle.mob_words.specs.Arguments.{IsDistance, IsEpoch, IsRequired, Takes, command_of, value_of}
+use Rattle.mob_words.specs.Arguments.{IsDistance, IsEpoch, IsRequired, Takes, command_of, option_value}
 use Rattle.mob_thin_run.specs.declared.settings.ThinSettings.{ThinSettings}
 
 -- `mobthin --within D [--epoch DATE]`
@@ -11,5 +11,5 @@ thin_command = command_of (codes "mobthin") (codes "within" ∷ codes "epoch" �
 -- the arguments are taken, and say these settings: the distance and the day of the epoch
 pub record ThinSays (words : List Text) (settings : ThinSettings) : Type 0 where
   pub taken : Takes thin_command words
-  pub distance : IsRequired IsDistance (value_of thin_command (codes "within") words) settings.within
-  pub day : IsEpoch (value_of thin_command (codes "epoch") words) settings.epoch
+  pub distance : IsRequired IsDistance (option_value thin_command (codes "within") words) settings.within
+  pub day : IsEpoch (option_value thin_command (codes "epoch") words) settings.epoch

@@ -1,7 +1,7 @@
 // What the arguments of a command line say.
 ghost use Rattle.std.specs.Prelude.{◌≡◌, IfOk, IfSome, IsNone, codes, map, option_map, string_bytes};
 ghost use Rattle.mob_ratio.specs.Ratio.{Ratio};
-ghost use Rattle.mob_words.specs.Arguments.{IsDistance, IsRequired, Takes, value_of};
+ghost use Rattle.mob_words.specs.Arguments.{IsDistance, IsRequired, Takes, option_value};
 ghost use Rattle.mob_thin_run.specs.CommandLine.{ThinSays, thin_command};
 ghost use Rattle.mob_thin_run.specs.declared.settings.ThinSettings.{ThinSettings as SettingsSeen};
 
@@ -22,8 +22,8 @@ pub struct Values<'a> {
 fn values_in<'a>(alloc: Global, words: &'a [String]) -> Result<Option<Values<'a>>, AllocError>
     ensures taken { IfOk result (λ o. IfSome o (λ v. Takes thin_command (map string_bytes words.entry.now))) }
     ensures refused { IfOk result (λ o. IsNone o → Takes thin_command (map string_bytes words.entry.now) → ⊥) }
-    ensures within { IfOk result (λ o. IfSome o (λ v. option_map (λ s. s.now) v.within ≡ value_of thin_command (codes "within") (map string_bytes words.entry.now))) }
-    ensures epoch { IfOk result (λ o. IfSome o (λ v. option_map (λ s. s.now) v.epoch ≡ value_of thin_command (codes "epoch") (map string_bytes words.entry.now))) }
+    ensures within { IfOk result (λ o. IfSome o (λ v. option_map (λ s. s.now) v.within ≡ option_value thin_command (codes "within") (map string_bytes words.entry.now))) }
+    ensures epoch { IfOk result (λ o. IfSome o (λ v. option_map (λ s. s.now) v.epoch ≡ option_value thin_command (codes "epoch") (map string_bytes words.entry.now))) }
 {
     let Some(matches) = given(alloc, "mobthin", &["within", "epoch"], words)? else {
         return Ok(None);

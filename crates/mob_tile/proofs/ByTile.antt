@@ -24,8 +24,8 @@ use Rattle.mob_tile.specs.declared.tile.Tile.{Tile}
 use Rattle.mob_tile.proofs.Ranges.{tile_has, tile_is, in_tile_exact}
 use Rattle.mob_tile.specs.declared.pieces.Piece.{Piece}
 use Rattle.mob_tile.specs.Pieces.{slices_of, IsInItsTile, ArePieces}
-use Rattle.mob_tile.specs.Groups.{piece_before, same_tile, IsByTile, group_with, groups_of, IsTileGroup, IsPartOfGroup, IsPartPushed, AreParts, IsGrouping}
-use Rattle.mob_tile.specs.Split.{IsPart, IsSplit, HasTile}
+use Rattle.mob_tile.specs.Groups.{piece_before, same_tile, IsByTile, group_with, tile_groups, IsTileGroup, IsPartOfGroup, IsPartPushed, AreParts, IsGrouping}
+use Rattle.mob_tile.specs.Split.{IsTilePart, IsSplit, HasTile}
 use Rattle.mob_tile.proofs.TileOrder as order
 use Rattle.mob_tile.proofs.TileOrder.{same_is, same_self, less_differs, less_differs_back, then_less, less_trans, ties_same, rises_sorted, tile_itself, tiles_total}
 
@@ -144,7 +144,7 @@ pub record AreGroups (qs : List Piece) (gs : List (Tile × Value)) : Type 0 wher
   pub each : AllByRecursion (λ (g : Tile × Value). (g.1 ≡ of_tile g.0 qs) × (g.1 ≢ [])) gs
   pub there : (b : Tile) → of_tile b qs ≢ [] → HasTile b gs
 
-pub groups_are : (qs : List Piece) → Rises qs → AreGroups qs (groups_of qs)
+pub groups_are : (qs : List Piece) → Rises qs → AreGroups qs (tile_groups qs)
 groups_are [] up = record { rise = tt; each = tt; there = λ b some. absurd (some refl) }
 groups_are (q ∷ qs) up = record {
   rise = rise_of q.tile (q.slice ∷ []) qs up.0 up.1;
@@ -238,24 +238,24 @@ where_all : (o : Option Point) → where_wanted true (λ p. true) o ≡ o
 where_all None = refl
 where_all (Some p) = refl
 
-pub groups_fit : (g : GridOf) (a : Value) (pieces ordered : List Piece) → ArePieces g a pieces → IsByTile pieces ordered → AllByRecursion IsTileGroup (groups_of ordered)
-groups_fit g a pieces ordered h s = each (groups_of ordered) (groups_are ordered (rises_sorted tile_in ordered s.sorted)).each
+pub groups_fit : (g : GridOf) (a : Value) (pieces ordered : List Piece) → ArePieces g a pieces → IsByTile pieces ordered → AllByRecursion IsTileGroup (tile_groups ordered)
+groups_fit g a pieces ordered h s = each (tile_groups ordered) (groups_are ordered (rises_sorted tile_in ordered s.sorted)).each
   where
     each : (gs : List (Tile × Value)) → AllByRecursion (λ (z : Tile × Value). (z.1 ≡ of_tile z.0 ordered) × (z.1 ≢ [])) gs → AllByRecursion IsTileGroup gs
     each [] k = tt
     each (z ∷ gs) k = (record { some = k.0.1; ordered = subst (IsOrdered start end) (sym (k.0.0 ∙ stays z.0 pieces ordered s.stable)) (of_tile_ordered z.0 pieces h.kept.ordered) }, each gs k.1)
 
-pub split_is : (g : GridOf) (a : Value) (pieces ordered : List Piece) (parts : List (Tile × Value)) → IsGrid g → ArePieces g a pieces → IsByTile pieces ordered → AreParts (groups_of ordered) parts → IsSplit g a parts
+pub split_is : (g : GridOf) (a : Value) (pieces ordered : List Piece) (parts : List (Tile × Value)) → IsGrid g → ArePieces g a pieces → IsByTile pieces ordered → AreParts (tile_groups ordered) parts → IsSplit g a parts
 split_is g a pieces ordered parts ok h s m =
     let gs = groups_are ordered (rises_sorted tile_in ordered s.sorted) in
     record {
-      rising = rise (groups_of ordered) parts gs.rise m;
-      each = each (groups_of ordered) parts gs.each m;
+      rising = rise (tile_groups ordered) parts gs.rise m;
+      each = each (tile_groups ordered) parts gs.each m;
       all = λ t p e.
           let b = tile_of g t p in
           let there : value_at plane_value_of (of_tile b ordered) t ≡ Some p =
           ap (λ v. value_at plane_value_of v t) (stays b pieces ordered s.stable) ∙ value t b ∙ ap (λ z. where_wanted true (in_tile g b t) z) e ∙ ap (λ z. kept_value true z p) ((in_tile_exact g b t p).1 (tile_has g t p ok)) in
-          found b (groups_of ordered) parts (gs.there b (λ z. some_there t p (of_tile b ordered) z there)) m;
+          found b (tile_groups ordered) parts (gs.there b (λ z. some_there t p (of_tile b ordered) z there)) m;
     }
   where
     value : (t : Ratio) (b : Tile) → value_at plane_value_of (of_tile b pieces) t ≡ where_wanted true (in_tile g b t) (value_at plane_value_of a t)
@@ -276,7 +276,7 @@ split_is g a pieces ordered parts ok h s m =
     rise [] (w ∷ ps) r m = absurd m
     rise (z ∷ gs) [] r m = absurd m
 
-    each : (gs ps : List (Tile × Value)) → AllByRecursion (λ (z : Tile × Value). (z.1 ≡ of_tile z.0 ordered) × (z.1 ≢ [])) gs → AreParts gs ps → AllByRecursion (λ p. IsPart g a p.0 p.1) ps
+    each : (gs ps : List (Tile × Value)) → AllByRecursion (λ (z : Tile × Value). (z.1 ≡ of_tile z.0 ordered) × (z.1 ≢ [])) gs → AreParts gs ps → AllByRecursion (λ p. IsTilePart g a p.0 p.1) ps
     each [] [] k m = tt
     each (z ∷ gs) (w ∷ ps) k m = (
       record {
@@ -319,14 +319,14 @@ one_in [] later x h = h.0
 one_in (z ∷ gs) later x h = one_in gs later x h.1
 
 -- what is taken before another tile, and at the end, is a group
-pub group_taken : (all rest later : List Piece) (q : Piece) (a : Tile) (taken : Value) (parts : List (Tile × Value)) → rest ≡ q ∷ later → same_tile a q.tile ≡ false → IsGrouping all rest a taken parts → AllByRecursion IsTileGroup (groups_of all) → IsTileGroup (a, taken)
+pub group_taken : (all rest later : List Piece) (q : Piece) (a : Tile) (taken : Value) (parts : List (Tile × Value)) → rest ≡ q ∷ later → same_tile a q.tile ≡ false → IsGrouping all rest a taken parts → AllByRecursion IsTileGroup (tile_groups all) → IsTileGroup (a, taken)
 group_taken all rest later q a taken parts e h m k =
-    let made : m.done ++ (a, taken) ∷ group_with q.tile (q.slice ∷ []) later ≡ groups_of all = ap (λ b. m.done ++ cond b (group_with a (taken ++ q.slice ∷ []) later) ((a, taken) ∷ group_with q.tile (q.slice ∷ []) later)) (sym h) ∙ ap (λ z. m.done ++ group_with a taken z) (sym e) ∙ m.made in
+    let made : m.done ++ (a, taken) ∷ group_with q.tile (q.slice ∷ []) later ≡ tile_groups all = ap (λ b. m.done ++ cond b (group_with a (taken ++ q.slice ∷ []) later) ((a, taken) ∷ group_with q.tile (q.slice ∷ []) later)) (sym h) ∙ ap (λ z. m.done ++ group_with a taken z) (sym e) ∙ m.made in
     one_in m.done (group_with q.tile (q.slice ∷ []) later) (a, taken) (subst (AllByRecursion IsTileGroup) (sym made) k)
 
-pub group_last : (all rest : List Piece) (a : Tile) (taken : Value) (parts : List (Tile × Value)) → rest ≡ [] → IsGrouping all rest a taken parts → AllByRecursion IsTileGroup (groups_of all) → IsTileGroup (a, taken)
+pub group_last : (all rest : List Piece) (a : Tile) (taken : Value) (parts : List (Tile × Value)) → rest ≡ [] → IsGrouping all rest a taken parts → AllByRecursion IsTileGroup (tile_groups all) → IsTileGroup (a, taken)
 group_last all rest a taken parts e m k = one_in m.done [] (a, taken) (subst (AllByRecursion IsTileGroup) (sym (ap (λ z. m.done ++ group_with a taken z) (sym e) ∙ m.made)) k)
 
-pub grouping_end : (all rest : List Piece) (a : Tile) (taken : Value) (parts parts' : List (Tile × Value)) → rest ≡ [] → IsPartPushed (a, taken) parts parts' → IsGrouping all rest a taken parts → AreParts (groups_of all) parts'
+pub grouping_end : (all rest : List Piece) (a : Tile) (taken : Value) (parts parts' : List (Tile × Value)) → rest ≡ [] → IsPartPushed (a, taken) parts parts' → IsGrouping all rest a taken parts → AreParts (tile_groups all) parts'
 grouping_end all rest a taken parts parts' e n m =
     subst (λ z. AreParts z parts') (ap (λ z. m.done ++ group_with a taken z) (sym e) ∙ m.made) (subst (AreParts (m.done ++ (a, taken) ∷ [])) (sym n.is) (snoc_parts m.done parts (a, taken) n.part m.are n.of))

@@ -15,7 +15,7 @@ use Rattle.mob_normal.proofs.Unique.{unique}
 use Rattle.mob_cells.specs.Restricted.{where_wanted}
 use Rattle.mob_tile.specs.Tiles.{GridOf, IsGrid, in_tile, tile_of, compare_tiles}
 use Rattle.mob_tile.specs.declared.tile.Tile.{Tile}
-use Rattle.mob_tile.specs.Split.{IsPart, IsSplit, HasTile}
+use Rattle.mob_tile.specs.Split.{IsTilePart, IsSplit, HasTile}
 use Rattle.mob_tile.proofs.TileOrder.{tiles_total, tile_itself}
 use Rattle.mob_tile.proofs.Parts.{only}
 
@@ -55,17 +55,17 @@ some_value (s ∷ v) n = let m = some_instant s.span n.chained.0.some in (m.0, p
 
 module _ (g : GridOf) (a : List (Slice PlaneLine)) (ok : IsGrid g) where
   -- the tile of a part is that of the value at some instant
-  lived : (tile : Tile) (part : List (Slice PlaneLine)) → IsPart g a tile part → (t : Ratio) × (p : Point) × ((tile ≡ tile_of g t p) × (value_at plane_value_of a t ≡ Some p))
+  lived : (tile : Tile) (part : List (Slice PlaneLine)) → IsTilePart g a tile part → (t : Ratio) × (p : Point) × ((tile ≡ tile_of g t p) × (value_at plane_value_of a t ≡ Some p))
   lived tile part h = let s = some_value part h.normal in (s.0, s.1, (only g a s.0 s.1 ok ((tile, part) ∷ []) (h, tt)).0 s.2)
 
-  tiles_in : (ps qs : List (Tile × List (Slice PlaneLine))) → AllByRecursion (λ p. IsPart g a p.0 p.1) ps → IsSplit g a qs → (x : Tile) → HasTile x ps → HasTile x qs
+  tiles_in : (ps qs : List (Tile × List (Slice PlaneLine))) → AllByRecursion (λ p. IsTilePart g a p.0 p.1) ps → IsSplit g a qs → (x : Tile) → HasTile x ps → HasTile x qs
   tiles_in [] qs each s x i = absurd i
   tiles_in (p ∷ ps) qs each s x i = elim i [
     | inl e ↦ let l = lived p.0 p.1 each.0 in subst (λ z. HasTile z qs) (sym l.2.0 ∙ e) (s.all l.0 l.1 l.2.1)
     | inr k ↦ tiles_in ps qs each.1 s x k
   ]
 
-  one : (ps qs : List (Tile × List (Slice PlaneLine))) → Rising ps → Rising qs → AllByRecursion (λ p. IsPart g a p.0 p.1) ps → AllByRecursion (λ p. IsPart g a p.0 p.1) qs → ((x : Tile) → HasTile x ps → HasTile x qs) → ((x : Tile) → HasTile x qs → HasTile x ps) → ps ≡ qs
+  one : (ps qs : List (Tile × List (Slice PlaneLine))) → Rising ps → Rising qs → AllByRecursion (λ p. IsTilePart g a p.0 p.1) ps → AllByRecursion (λ p. IsTilePart g a p.0 p.1) qs → ((x : Tile) → HasTile x ps → HasTile x qs) → ((x : Tile) → HasTile x qs → HasTile x ps) → ps ≡ qs
   one [] [] hp hq ep eq there back = refl
   one [] (q ∷ qs) hp hq ep eq there back = absurd (back q.0 (inl refl))
   one (p ∷ ps) [] hp hq ep eq there back = absurd (there p.0 (inl refl))

@@ -29,9 +29,9 @@ abbrev pub group_with : Tile → List (Slice PlaneLine) → List Piece → List 
 group_with a taken [] = (a, taken) ∷ []
 group_with a taken (q ∷ rest) = cond (same_tile a q.tile) (group_with a (taken ++ q.slice ∷ []) rest) ((a, taken) ∷ group_with q.tile (q.slice ∷ []) rest)
 
-abbrev pub groups_of : List Piece → List (Tile × List (Slice PlaneLine))
-groups_of [] = []
-groups_of (q ∷ rest) = group_with q.tile (q.slice ∷ []) rest
+abbrev pub tile_groups : List Piece → List (Tile × List (Slice PlaneLine))
+tile_groups [] = []
+tile_groups (q ∷ rest) = group_with q.tile (q.slice ∷ []) rest
 
 -- slices that can be made a value
 pub record IsTileGroup (group : Tile × List (Slice PlaneLine)) : Type 0 where
@@ -60,5 +60,5 @@ pub record IsPartPushed (group : Tile × List (Slice PlaneLine)) (old new : List
 -- what is done and what is still to come are all groups, and the parts are those of what is done
 pub record IsGrouping (all rest : List Piece) (a : Tile) (taken : List (Slice PlaneLine)) (parts : List (Tile × List (Slice PlaneLine))) : Type 0 where
   pub done : List (Tile × List (Slice PlaneLine))
-  pub made : done ++ group_with a taken rest ≡ groups_of all
+  pub made : done ++ group_with a taken rest ≡ tile_groups all
   pub are : AreParts done parts

@@ -25,7 +25,7 @@ use Rattle.mob_tile.specs.Edges.{entries_of_slice}
 
 -- The part of the value a in a tile: it is normal, and has at each instant at which a is in the
 -- tile the value of a, and none elsewhere.
-pub record IsPart (g : GridOf) (a : List (Slice PlaneLine)) (tile : Tile) (part : List (Slice PlaneLine)) : Type 0 where
+pub record IsTilePart (g : GridOf) (a : List (Slice PlaneLine)) (tile : Tile) (part : List (Slice PlaneLine)) : Type 0 where
   pub normal : IsNormal (λ c. c.from) (λ c. c.to) plane_continued part
   pub same : (t : Ratio) → value_at plane_value_of part t ≡ where_wanted true (in_tile g tile t) (value_at plane_value_of a t)
 
@@ -37,7 +37,7 @@ HasTile tile (p ∷ parts) = (p.0 ≡ tile) ⊎ HasTile tile parts
 -- Split(a): by rising tile, the tiles in which a is at some instant, each with the part there.
 pub record IsSplit (g : GridOf) (a : List (Slice PlaneLine)) (parts : List (Tile × List (Slice PlaneLine))) : Type 0 where
   pub rising : Chained (λ p. Unit {0}) (λ p q. compare_tiles p.0 q.0 ≡ Less) parts
-  pub each : AllByRecursion (λ p. IsPart g a p.0 p.1) parts
+  pub each : AllByRecursion (λ p. IsTilePart g a p.0 p.1) parts
   pub all : (t : Ratio) (p : Point) → value_at plane_value_of a t ≡ Some p → HasTile (tile_of g t p) parts
 
 -- some part has the tile, and the value p at t

@@ -2,7 +2,7 @@
 use Rattle.std.specs.Prelude.{◌≡◌, List, ℕ, Option, codes}
 use Rattle.std.proofs.Common.{refl}
 use Rattle.mob_ratio.specs.Ratio.{Ratio}
-use Rattle.mob_words.specs.Arguments.{IsDistance, IsRequired, value_of}
+use Rattle.mob_words.specs.Arguments.{IsDistance, IsRequired, option_value}
 use Rattle.mob_words.proofs.Readings.{one_day, one_distance, one_optional, one_ratio, one_required, one_workers}
 use Rattle.mob_tile.specs.Tiles.{GridOf}
 use Rattle.mob_tile_run.specs.CommandLine.{TileSays, IsNear, IsSide, IsSides, tile_command}
@@ -26,7 +26,7 @@ same_settings a b g n w e = rw (g, n, w, e) refl
 pub one_setting : (words : List (List ℕ)) (a b : TileSettings) → TileSays words a → TileSays words b → a ≡ b
 one_setting words a b h k =
     same_settings a b
-    (one_grid (value_of tile_command (codes "size") words) (value_of tile_command (codes "width") words) a.grid b.grid h.sides k.sides)
-    (one_near (value_of tile_command (codes "near") words) a.near b.near h.distance k.distance)
-    (one_workers (value_of tile_command (codes "workers") words) a.workers b.workers h.count k.count)
-    (one_day (value_of tile_command (codes "epoch") words) a.epoch b.epoch h.day k.day)
+    (one_grid (option_value tile_command (codes "size") words) (option_value tile_command (codes "width") words) a.grid b.grid h.sides k.sides)
+    (one_near (option_value tile_command (codes "near") words) a.near b.near h.distance k.distance)
+    (one_workers (option_value tile_command (codes "workers") words) a.workers b.workers h.count k.count)
+    (one_day (option_value tile_command (codes "epoch") words) a.epoch b.epoch h.day k.day)

@@ -4,7 +4,7 @@ use Rattle.std.proofs.Common.{arith, sym, subst}
 use Rattle.mob_ratio.specs.Ratio.{Ratio}
 use Rattle.mob_ratio.specs.Order.{up_to}
 use Rattle.mob_ratio.specs.Sign.{nil}
-use Rattle.mob_words.specs.Arguments.{IsWorkers, value_of}
+use Rattle.mob_words.specs.Arguments.{IsWorkers, option_value}
 use Rattle.mob_tile_run.specs.CommandLine.{TileSays, IsNear, tile_command}
 use Rattle.mob_tile_run.specs.TileAnswers.{IsUsable}
 use Rattle.mob_tile_run.specs.declared.settings.TileSettings.{TileSettings}
@@ -23,7 +23,7 @@ few_workers (Some text) n h = h.2
 
 pub usable : (words : List (List ℕ)) (s : TileSettings) → TileSays words s → IsUsable s
 usable words s h = record {
-  distance = near_usable (value_of tile_command (codes "near") words) s.near h.distance;
-  some_workers = some_workers (value_of tile_command (codes "workers") words) s.workers h.count;
-  few_workers = few_workers (value_of tile_command (codes "workers") words) s.workers h.count;
+  distance = near_usable (option_value tile_command (codes "near") words) s.near h.distance;
+  some_workers = some_workers (option_value tile_command (codes "workers") words) s.workers h.count;
+  few_workers = few_workers (option_value tile_command (codes "workers") words) s.workers h.count;
 }

@@ -6,7 +6,7 @@ use Rattle.mob_ratio.specs.Sign.{nil}
 use Rattle.mob_numeral.specs.Numbers.{numbers}
 use Rattle.mob_numeral.specs.Verdict.{Lit}
 use Rattle.mob_tile.specs.Tiles.{GridOf}
-use Rattle.mob_words.specs.Arguments.{IsDistance, IsEpoch, IsOptional, IsRequired, IsWorkers, Takes, command_of, value_of}
+use Rattle.mob_words.specs.Arguments.{IsDistance, IsEpoch, IsOptional, IsRequired, IsWorkers, Takes, command_of, option_value}
 use Rattle.mob_tile_run.specs.declared.settings.TileSettings.{TileSettings}
 
 -- `mobtile --size S --width W [--near D] [--workers N] [--epoch DATE]`
@@ -29,7 +29,7 @@ IsNear value near = IsOptional IsDistance value near
 -- the arguments are taken, and say these settings
 pub record TileSays (words : List Text) (settings : TileSettings) : Type 0 where
   pub taken : Takes tile_command words
-  pub sides : IsSides (value_of tile_command (codes "size") words) (value_of tile_command (codes "width") words) settings.grid
-  pub distance : IsNear (value_of tile_command (codes "near") words) settings.near
-  pub count : IsWorkers (value_of tile_command (codes "workers") words) settings.workers
-  pub day : IsEpoch (value_of tile_command (codes "epoch") words) settings.epoch
+  pub sides : IsSides (option_value tile_command (codes "size") words) (option_value tile_command (codes "width") words) settings.grid
+  pub distance : IsNear (option_value tile_command (codes "near") words) settings.near
+  pub count : IsWorkers (option_value tile_command (codes "workers") words) settings.workers
+  pub day : IsEpoch (option_value tile_command (codes "epoch") words) settings.epoch

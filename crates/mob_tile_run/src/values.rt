@@ -1,6 +1,6 @@
 // The values that arguments give to the options.
 ghost use Rattle.std.specs.Prelude.{◌≡◌, IfOk, IfSome, IsNone, codes, map, option_map, string_bytes};
-ghost use Rattle.mob_words.specs.Arguments.{Takes, value_of};
+ghost use Rattle.mob_words.specs.Arguments.{Takes, option_value};
 ghost use Rattle.mob_tile_run.specs.CommandLine.{tile_command};
 
 use mob_words::given;
@@ -20,11 +20,11 @@ pub struct Values<'a> {
 pub fn values_in<'a>(alloc: Global, words: &'a [String]) -> Result<Option<Values<'a>>, AllocError>
     ensures taken { IfOk result (λ o. IfSome o (λ v. Takes tile_command (map string_bytes words.entry.now))) }
     ensures refused { IfOk result (λ o. IsNone o → Takes tile_command (map string_bytes words.entry.now) → ⊥) }
-    ensures size { IfOk result (λ o. IfSome o (λ v. option_map (λ s. s.now) v.size ≡ value_of tile_command (codes "size") (map string_bytes words.entry.now))) }
-    ensures width { IfOk result (λ o. IfSome o (λ v. option_map (λ s. s.now) v.width ≡ value_of tile_command (codes "width") (map string_bytes words.entry.now))) }
-    ensures near { IfOk result (λ o. IfSome o (λ v. option_map (λ s. s.now) v.near ≡ value_of tile_command (codes "near") (map string_bytes words.entry.now))) }
-    ensures workers { IfOk result (λ o. IfSome o (λ v. option_map (λ s. s.now) v.workers ≡ value_of tile_command (codes "workers") (map string_bytes words.entry.now))) }
-    ensures epoch { IfOk result (λ o. IfSome o (λ v. option_map (λ s. s.now) v.epoch ≡ value_of tile_command (codes "epoch") (map string_bytes words.entry.now))) }
+    ensures size { IfOk result (λ o. IfSome o (λ v. option_map (λ s. s.now) v.size ≡ option_value tile_command (codes "size") (map string_bytes words.entry.now))) }
+    ensures width { IfOk result (λ o. IfSome o (λ v. option_map (λ s. s.now) v.width ≡ option_value tile_command (codes "width") (map string_bytes words.entry.now))) }
+    ensures near { IfOk result (λ o. IfSome o (λ v. option_map (λ s. s.now) v.near ≡ option_value tile_command (codes "near") (map string_bytes words.entry.now))) }
+    ensures workers { IfOk result (λ o. IfSome o (λ v. option_map (λ s. s.now) v.workers ≡ option_value tile_command (codes "workers") (map string_bytes words.entry.now))) }
+    ensures epoch { IfOk result (λ o. IfSome o (λ v. option_map (λ s. s.now) v.epoch ≡ option_value tile_command (codes "epoch") (map string_bytes words.entry.now))) }
 {
     let Some(matches) = given(
         alloc,

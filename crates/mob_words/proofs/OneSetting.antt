@@ -2,7 +2,7 @@
 use Rattle.std.proofs.Common.{arith, ◌≡◌, refl, ℕ, Option}
 use Rattle.std.specs.Prelude.{codes}
 use Rattle.clap.specs.Words.{Text}
-use Rattle.mob_words.specs.Arguments.{IsCount, value_of}
+use Rattle.mob_words.specs.Arguments.{IsCount, option_value}
 use Rattle.mob_words.specs.CommandLine.{IsDemo, command}
 use Rattle.mob_words.specs.Outcomes.{SaysOneThing}
 use Rattle.mob_words.specs.declared.options.Settings.{Settings}
@@ -16,7 +16,7 @@ same_settings a b workers epoch demo = rw (workers, epoch, demo) refl
 
 pub one_setting : SaysOneThing
 one_setting words a b h k =
-    let count : a.workers ≡ b.workers = one_workers (value_of command (codes "workers") words) a.workers b.workers h.count k.count in
-    let day : a.epoch ≡ b.epoch = one_day (value_of command (codes "epoch") words) a.epoch b.epoch h.day k.day in
-    let demo : a.demo ≡ b.demo = one_demo (value_of command (codes "demo") words) a.demo b.demo h.demo k.demo in
+    let count : a.workers ≡ b.workers = one_workers (option_value command (codes "workers") words) a.workers b.workers h.count k.count in
+    let day : a.epoch ≡ b.epoch = one_day (option_value command (codes "epoch") words) a.epoch b.epoch h.day k.day in
+    let demo : a.demo ≡ b.demo = one_demo (option_value command (codes "demo") words) a.demo b.demo h.demo k.demo in
     same_settings a b count day demo

@@ -29,8 +29,8 @@ unfoldable pub Takes : App → List Text → Type 0
 Takes command words = fault_of command words ≡ []
 
 -- the value that the arguments give to an option of the command
-unfoldable pub value_of : App → Text → List Text → Option Text
-value_of command name words = first_of name (matches_of command words)
+unfoldable pub option_value : App → Text → List Text → Option Text
+option_value command name words = first_of name (matches_of command words)
 
 -- ---- what values say
 

@@ -1,7 +1,7 @@
 -- The command line of mobsql: three options that take one value each, no help and no version.
 use Rattle.std.specs.Prelude.{◌∷◌, [], ℕ, List, Option, codes}
 use Rattle.clap.specs.Words.{App, Text}
-use Rattle.mob_words.specs.Arguments.{IsCount, IsEpoch, IsOptional, IsWorkers, Takes, command_of, value_of}
+use Rattle.mob_words.specs.Arguments.{IsCount, IsEpoch, IsOptional, IsWorkers, Takes, command_of, option_value}
 use Rattle.mob_words.specs.declared.options.Settings.{Settings}
 
 -- `mobsql [--workers N] [--epoch DATE] [--demo N]`
@@ -16,6 +16,6 @@ IsDemo value demo = IsOptional (IsCount 1000) value demo
 -- demo
 pub record WordsSay (words : List Text) (settings : Settings) : Type 0 where
   pub taken : Takes command words
-  pub count : IsWorkers (value_of command (codes "workers") words) settings.workers
-  pub day : IsEpoch (value_of command (codes "epoch") words) settings.epoch
-  pub demo : IsDemo (value_of command (codes "demo") words) settings.demo
+  pub count : IsWorkers (option_value command (codes "workers") words) settings.workers
+  pub day : IsEpoch (option_value command (codes "epoch") words) settings.epoch
+  pub demo : IsDemo (option_value command (codes "demo") words) settings.demo

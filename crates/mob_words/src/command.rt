@@ -1,7 +1,7 @@
 // Commands whose options each take one value, and the arguments that they take.
 ghost use Rattle.std.specs.Prelude.{◌≡◌, IfOk, IfSome, IsNone, map, string_bytes, true};
 ghost use Rattle.clap.specs.Words.{Text, app_of, first_value, found_of, is_simple_and_free, new_app, with_rule};
-ghost use Rattle.mob_words.specs.Arguments.{Takes, command_of, option, value_of, without_flags};
+ghost use Rattle.mob_words.specs.Arguments.{Takes, command_of, option, option_value, without_flags};
 
 use clap::error::ErrorKind;
 use clap::{Arg, ArgMatches, Command};
@@ -48,7 +48,7 @@ fn matched<'a>(
     requires free { is_simple_and_free (app_of command) ≡ true }
     ensures taken { IfOk result (λ o. IfSome o (λ m. Takes (app_of command.entry) (map string_bytes words.entry.now))) }
     ensures refused { IfOk result (λ o. IsNone o → Takes (app_of command.entry) (map string_bytes words.entry.now) → ⊥) }
-    ensures values { IfOk result (λ o. IfSome o (λ m. (name : Text) → first_value (found_of m) name ≡ value_of (app_of command.entry) name (map string_bytes words.entry.now))) }
+    ensures values { IfOk result (λ o. IfSome o (λ m. (name : Text) → first_value (found_of m) name ≡ option_value (app_of command.entry) name (map string_bytes words.entry.now))) }
 {
     match command.try_get_matches_from(words) {
         Ok(matches) => Ok(Some(matches)),
@@ -72,7 +72,7 @@ pub fn given<'a>(
     requires free { is_simple_and_free (command_of name.now (map (λ o. o.now) options.now)) ≡ true }
     ensures taken { IfOk result (λ o. IfSome o (λ m. Takes (command_of name.entry.now (map (λ o. o.now) options.entry.now)) (map string_bytes words.entry.now))) }
     ensures refused { IfOk result (λ o. IsNone o → Takes (command_of name.entry.now (map (λ o. o.now) options.entry.now)) (map string_bytes words.entry.now) → ⊥) }
-    ensures values { IfOk result (λ o. IfSome o (λ m. (option : Text) → first_value (found_of m) option ≡ value_of (command_of name.entry.now (map (λ o. o.now) options.entry.now)) option (map string_bytes words.entry.now))) }
+    ensures values { IfOk result (λ o. IfSome o (λ m. (option : Text) → first_value (found_of m) option ≡ option_value (command_of name.entry.now (map (λ o. o.now) options.entry.now)) option (map string_bytes words.entry.now))) }
 {
     let command = command(alloc, name, options)?;
     matched(command, words)

@@ -1,6 +1,6 @@
 // The values that arguments give to the options of mobsql.
 ghost use Rattle.std.specs.Prelude.{◌≡◌, IfOk, IfSome, IsNone, codes, map, option_map, string_bytes};
-ghost use Rattle.mob_words.specs.Arguments.{Takes, value_of};
+ghost use Rattle.mob_words.specs.Arguments.{Takes, option_value};
 ghost use Rattle.mob_words.specs.CommandLine.{command};
 
 use crate::command::given;
@@ -20,9 +20,9 @@ pub struct Values<'a> {
 pub fn values_in<'a>(alloc: Global, words: &'a [String]) -> Result<Option<Values<'a>>, AllocError>
     ensures taken { IfOk result (λ o. IfSome o (λ v. Takes command (map string_bytes words.entry.now))) }
     ensures refused { IfOk result (λ o. IsNone o → Takes command (map string_bytes words.entry.now) → ⊥) }
-    ensures workers { IfOk result (λ o. IfSome o (λ v. option_map (λ s. s.now) v.workers ≡ value_of command (codes "workers") (map string_bytes words.entry.now))) }
-    ensures epoch { IfOk result (λ o. IfSome o (λ v. option_map (λ s. s.now) v.epoch ≡ value_of command (codes "epoch") (map string_bytes words.entry.now))) }
-    ensures demo { IfOk result (λ o. IfSome o (λ v. option_map (λ s. s.now) v.demo ≡ value_of command (codes "demo") (map string_bytes words.entry.now))) }
+    ensures workers { IfOk result (λ o. IfSome o (λ v. option_map (λ s. s.now) v.workers ≡ option_value command (codes "workers") (map string_bytes words.entry.now))) }
+    ensures epoch { IfOk result (λ o. IfSome o (λ v. option_map (λ s. s.now) v.epoch ≡ option_value command (codes "epoch") (map string_bytes words.entry.now))) }
+    ensures demo { IfOk result (λ o. IfSome o (λ v. option_map (λ s. s.now) v.demo ≡ option_value command (codes "demo") (map string_bytes words.entry.now))) }
 {
     let Some(matches) = given(alloc, "mobsql", &["workers", "epoch", "demo"], words)? else {
         return Ok(None);

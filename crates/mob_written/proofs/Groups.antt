@@ -7,7 +7,7 @@ use Rattle.mob_slice.specs.declared.slice.Slice.{Slice}
 use Rattle.mob_slice.specs.CourseOf.{CourseOf}
 use Rattle.mob_written.specs.Neighbours.{all_neighbours}
 use Rattle.mob_scalar.specs.Brackets.{with_commas, in_braces}
-use Rattle.mob_written.specs.Printed.{Style, is_long, shares_group, start_text, end_text, opening_text, closing_text, instants_of, group_text, groups_of, put_in_group, groups_text}
+use Rattle.mob_written.specs.Printed.{Style, is_long, shares_group, start_text, end_text, opening_text, closing_text, instants_of, group_text, neighbour_groups, put_in_group, groups_text}
 use Rattle.mob_written.specs.FromLeft.{end_part, text_behind, all_share_group, is_one_group}
 use Rattle.mob_written.proofs.Small.{false_true, cons_nil}
 
@@ -57,7 +57,7 @@ next_group a b c o i d e f h = simp append_assoc (ap (λ (x : Text). a ++ (b ++ 
 record IsGrouped {C B : Type 0} (style : Style C B) (s : Slice C) (rest : List (Slice C)) : Type 0 where
   group : List (Slice C)
   groups : List (List (Slice C))
-  is : groups_of style.course (s ∷ rest) ≡ (s ∷ group) ∷ groups
+  is : neighbour_groups style.course (s ∷ rest) ≡ (s ∷ group) ∷ groups
   text : inside style (s ∷ group) ++ behind style groups ≡ start_text style s ++ text_behind style s rest
 
 put-true : {C B : Type 0} (course : CourseOf C B) (s r : Slice C) (group : List (Slice C)) (groups : List (List (Slice C))) → shares_group course s r ≡ true → put_in_group course s ((r ∷ group) ∷ groups) ≡ (s ∷ r ∷ group) ∷ groups
@@ -85,7 +85,7 @@ grouped style s (r ∷ rest) = by_next (shares_group style.course s r) refl (gro
       text = rw (h, inside-one style s, listed-cons style (group_text style (r ∷ g.group)) g.groups, group-inside style (r ∷ g.group)) (next_group (start_text style s) (end_part style s) (codes ", ") (opening_text (r ∷ [])) (inside style (r ∷ g.group)) (behind style g.groups) (start_text style r) (text_behind style r rest) g.text);
     }
 
-pub groups-from-left : {C B : Type 0} (style : Style C B) (s : Slice C) (rest : List (Slice C)) → with_commas (map (group_text style) (groups_of style.course (s ∷ rest))) ≡ opening_text (s ∷ []) ++ (start_text style s ++ text_behind style s rest)
+pub groups-from-left : {C B : Type 0} (style : Style C B) (s : Slice C) (rest : List (Slice C)) → with_commas (map (group_text style) (neighbour_groups style.course (s ∷ rest))) ≡ opening_text (s ∷ []) ++ (start_text style s ++ text_behind style s rest)
 groups-from-left {C} style s rest =
     let g = grouped style s rest in
     ap (λ (gs : List (List (Slice C))). with_commas (map (group_text style) gs)) g.is
@@ -98,7 +98,7 @@ groups-from-left {C} style s rest =
 record IsCounted {C B : Type 0} (course : CourseOf C B) (s : Slice C) (rest : List (Slice C)) : Type 0 where
   group : List (Slice C)
   groups : List (List (Slice C))
-  is : groups_of course (s ∷ rest) ≡ (s ∷ group) ∷ groups
+  is : neighbour_groups course (s ∷ rest) ≡ (s ∷ group) ∷ groups
   one : all_share_group course s rest ≡ true → groups ≡ []
   more : all_share_group course s rest ≡ false → groups ≢ []
 
@@ -128,14 +128,14 @@ one_group course [] h = absurd (omega (arith, h))
 one_group course (s ∷ rest) h = refl
 
 -- one group, written alone
-pub group-alone : {C B : Type 0} (style : Style C B) (slices : List (Slice C)) → is_one_group style.course slices ≡ true → groups_text style (groups_of style.course slices) ≡ with_commas (map (group_text style) (groups_of style.course slices))
+pub group-alone : {C B : Type 0} (style : Style C B) (slices : List (Slice C)) → is_one_group style.course slices ≡ true → groups_text style (neighbour_groups style.course slices) ≡ with_commas (map (group_text style) (neighbour_groups style.course slices))
 group-alone style [] h = absurd cc
 group-alone style (s ∷ rest) h =
     let c = counted style.course s rest in
     rw (c.is, c.one h) refl
 
 -- no group or some, written in braces
-pub groups-braced : {C B : Type 0} (style : Style C B) (slices : List (Slice C)) → is_one_group style.course slices ≡ false → groups_text style (groups_of style.course slices) ≡ in_braces (with_commas (map (group_text style) (groups_of style.course slices)))
+pub groups-braced : {C B : Type 0} (style : Style C B) (slices : List (Slice C)) → is_one_group style.course slices ≡ false → groups_text style (neighbour_groups style.course slices) ≡ in_braces (with_commas (map (group_text style) (neighbour_groups style.course slices)))
 groups-braced style [] h = refl
 groups-braced {C} style (s ∷ rest) h =
     let c = counted style.course s rest in
@@ -149,7 +149,7 @@ groups-braced {C} style (s ∷ rest) h =
 pub groups_done : {C B : Type 0} (style : Style C B) (slices : List (Slice C)) (first last : Slice C) (rest : List (Slice C)) (i : ℕ) (old opened started now new : Text)
     → slices ≡ first ∷ rest → length rest ≤ i → opened ≡ old ++ opening_text (first ∷ []) → started ≡ opened ++ start_text style first
     → now ++ text_behind style last (drop i rest) ≡ started ++ text_behind style first rest → new ≡ now ++ end_part style last
-    → new ≡ old ++ with_commas (map (group_text style) (groups_of style.course slices))
+    → new ≡ old ++ with_commas (map (group_text style) (neighbour_groups style.course slices))
 groups_done style slices first last rest i old opened started now new is le opens start written ends =
     let none = drop_all i rest le in
     let done = rw none at written in

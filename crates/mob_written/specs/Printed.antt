@@ -44,9 +44,9 @@ put_in_group course s ([] ∷ groups) = (s ∷ []) ∷ groups
 put_in_group course s ((r ∷ rest) ∷ groups) = cond (shares_group course s r) ((s ∷ r ∷ rest) ∷ groups) ((s ∷ []) ∷ (r ∷ rest) ∷ groups)
 
 -- the groups of neighbouring slices
-abbrev pub groups_of : {C B : Type 0} → CourseOf C B → List (Slice C) → List (List (Slice C))
-groups_of course [] = []
-groups_of course (s ∷ rest) = put_in_group course s (groups_of course rest)
+abbrev pub neighbour_groups : {C B : Type 0} → CourseOf C B → List (Slice C) → List (List (Slice C))
+neighbour_groups course [] = []
+neighbour_groups course (s ∷ rest) = put_in_group course s (neighbour_groups course rest)
 
 abbrev pub start_text : {C B : Type 0} → Style C B → Slice C → Text
 start_text style s = instant_text style (style.course.start s.course) s.span.lower
@@ -86,4 +86,4 @@ set_text style slices = in_braces (with_commas (map (start_text style) slices))
 
 -- the printed text of the slices
 abbrev pub moving_text : {C B : Type 0} → Style C B → List (Slice C) → Text
-moving_text style slices = cond (list_all (λ s. not (is_long s)) slices) (set_text style slices) (groups_text style (groups_of style.course slices))
+moving_text style slices = cond (list_all (λ s. not (is_long s)) slices) (set_text style slices) (groups_text style (neighbour_groups style.course slices))

@@ -2,7 +2,7 @@
 ghost use Rattle.std.specs.Prelude.{◌≡◌, ◌++◌, ◌&&◌, List, ℕ, [], ◌∷◌, map, not, OnOk, OnErr, string_bytes};
 ghost use Rattle.std.specs.List.{list_all};
 ghost use Rattle.mob_scalar.specs.Brackets.{with_commas};
-ghost use Rattle.mob_written.specs.Printed.{instant_text, is_long as long, takes_up as takes_up_in, shares_group, start_text, opening_text, closing_text, group_text, groups_of, groups_text, set_text, moving_text};
+ghost use Rattle.mob_written.specs.Printed.{instant_text, is_long as long, takes_up as takes_up_in, shares_group, start_text, opening_text, closing_text, group_text, neighbour_groups, groups_text, set_text, moving_text};
 ghost use Rattle.mob_written.specs.FromLeft.{end_part, between as gap, is_one_group};
 ghost use Rattle.mob_written.specs.Style.{style_of};
 ghost use Rattle.mob_slice.specs.CourseOf.{course_of};
@@ -143,7 +143,7 @@ fn write_groups<C: Course>(
 ) -> Result<(), AllocError>
 where
     C::Base: BaseValue + Printed,
-    ensures written { OnOk result (string_bytes into.new ≡ string_bytes into.old ++ with_commas (map (group_text (style_of (course_of C.Course C.Base.is_same) C.Base.text epoch.now)) (groups_of (course_of C.Course C.Base.is_same) slices.now))) }
+    ensures written { OnOk result (string_bytes into.new ≡ string_bytes into.old ++ with_commas (map (group_text (style_of (course_of C.Course C.Base.is_same) C.Base.text epoch.now)) (neighbour_groups (course_of C.Course C.Base.is_same) slices.now))) }
 {
     let [first, rest @ ..] = slices else {
         return Ok(());
@@ -227,7 +227,7 @@ fn write_sequences<C: Course>(
 ) -> Result<(), AllocError>
 where
     C::Base: BaseValue + Printed,
-    ensures written { OnOk result (string_bytes into.new ≡ string_bytes into.old ++ groups_text (style_of (course_of C.Course C.Base.is_same) C.Base.text epoch.now) (groups_of (course_of C.Course C.Base.is_same) slices.now)) }
+    ensures written { OnOk result (string_bytes into.new ≡ string_bytes into.old ++ groups_text (style_of (course_of C.Course C.Base.is_same) C.Base.text epoch.now) (neighbour_groups (course_of C.Course C.Base.is_same) slices.now)) }
 {
     if is_group(slices) {
         return write_groups(slices, epoch, into);

@@ -1,7 +1,7 @@
 use Rattle.std.proofs.Common.{◌≡◌, ◌∙◌, ap, map, string_bytes, subst}
 use Rattle.std.specs.Prelude.{IfOk, IfSome, IsNone}
 use Rattle.clap.specs.Words.{App, Text, app_of, first_value, found_of, is_simple_and_free}
-use Rattle.mob_words.specs.Arguments.{Takes, command_of, value_of}
+use Rattle.mob_words.specs.Arguments.{Takes, command_of, option_value}
 use Rattle.mob_words.proofs.command.given.Goals as goal
 
 pub matched-requires : goal.matched-requires
@@ -14,5 +14,5 @@ returns c =
     record {
       taken = subst (λ (a : App). IfOk c.matched.result (λ o. IfSome o (λ m. Takes a words))) is c.matched.ensures.taken;
       refused = subst (λ (a : App). IfOk c.matched.result (λ o. IsNone o → Takes a words → ⊥)) is c.matched.ensures.refused;
-      values = subst (λ (a : App). IfOk c.matched.result (λ o. IfSome o (λ m. (name : Text) → first_value (found_of m) name ≡ value_of a name words))) is c.matched.ensures.values;
+      values = subst (λ (a : App). IfOk c.matched.result (λ o. IfSome o (λ m. (name : Text) → first_value (found_of m) name ≡ option_value a name words))) is c.matched.ensures.values;
     }

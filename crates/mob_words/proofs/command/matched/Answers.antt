@@ -1,7 +1,7 @@
 use Rattle.std.proofs.Common.{◌∙◌, ap, inl, inr}
 use Rattle.clap.specs.Words.{app_of, found_of, first_of}
 use Rattle.clap.proofs.WalkLemmas.{first_value-rows}
-use Rattle.mob_words.specs.Arguments.{Takes, value_of}
+use Rattle.mob_words.specs.Arguments.{Takes, option_value}
 use Rattle.mob_words.proofs.Taken.{no_fault, simple_of}
 use Rattle.mob_words.proofs.command.matched.Goals as goal
 
@@ -10,7 +10,7 @@ unfolding Takes
 returns-in-Ok-clause-taken c = c.in-Ok.ensures.kinds c.requires.free
 
 pub returns-in-Ok-clause-values : goal.returns-in-Ok-clause-values
-unfolding value_of
+unfolding option_value
 returns-in-Ok-clause-values c = λ name. first_value-rows (found_of c.in-Ok.matches) name ∙ ap (first_of name) (c.in-Ok.ensures.matches (simple_of (app_of c.args.command) c.requires.free)).0
 
 pub returns : goal.returns
