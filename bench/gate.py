@@ -6,6 +6,7 @@
 It clones the commit that is checked out into FOLDER, which is kept (without FOLDER into a new folder, which is not), runs `rt ci`
 there from nothing, and writes what that prints to LOG (gate.log in the current folder). Five times a second it reads what each process of the prover has used, so a row lacks at most a
 fifth of a second for each check; the last line is the whole as the system counts it. Nothing else is to run on the machine.
+Machines differ: the seconds of one loop in Python, before the gate and after it, tell how fast this one was.
 """
 import glob, os, resource, subprocess, sys, tempfile, time
 from collections import defaultdict
@@ -75,6 +76,14 @@ def table(seen, edits):
     return [*lines, f"| all | {sums[0]:.0f} | {sums[1]:.0f} | {sums[2]:.0f} | {sum(edits(it) for it in parts)} | {sum(sums):.0f} |"]
 
 
+def pace():
+    """The seconds that a loop of five million products takes."""
+    begun, total = time.process_time(), 0
+    for number in range(5_000_000):
+        total += number * number
+    return time.process_time() - begun
+
+
 def from_nothing():
     """The command of the gate that trusts nothing of an earlier run: some kits keep what passed, and have a flag against it."""
     said = subprocess.run(["rt", "help"], capture_output=True, text=True)
@@ -87,7 +96,7 @@ def main():
     with tempfile.TemporaryDirectory(prefix="gate-") as folder, open(log, "w") as output:
         clone = sys.argv[2] if len(sys.argv) > 2 else f"{folder}/clone"
         subprocess.run(["git", "clone", "--quiet", top, clone], check=True)
-        begun = time.monotonic()
+        before, begun = pace(), time.monotonic()
         gate = subprocess.Popen(
             from_nothing(), cwd=clone, stdout=output, stderr=subprocess.STDOUT, stdin=subprocess.DEVNULL, start_new_session=True
         )
@@ -97,6 +106,7 @@ def main():
     count = lambda crate: len(glob.glob(f"{top}/crates/{crate}/must-fail/*.edit"))
     kit = subprocess.run(["rt", "version"], capture_output=True, text=True).stdout.split("\n")[0]
     print(f"{time.strftime('%Y-%m-%d')}, {kit}: {(used.ru_utime + used.ru_stime) / 60:.0f} processor minutes, {minutes:.0f} minutes on {os.cpu_count()} processors.\n")
+    print(f"A loop of five million products in Python: {before:.2f} seconds before the gate, {pace():.2f} after it.\n")
     print("\n".join(table(seen, count)), end="\n\n")
     with open(log) as output:
         print(output.read().rstrip().rpartition("\n")[2])
