@@ -39,6 +39,20 @@ pub fn fan<R: Threads + Sync, W: Work, G: Gate>(
     divided(rt, alloc, work, len, workers, gate)
 }
 
+// The workers of one call: what they share.
+#[derive(Drop)]
+struct Crew<'a, R, W, G> {
+    rt: &'a R,
+    work: &'a W,
+    gate: &'a G,
+    // the places at which the work is cut
+    cuts: &'a [usize],
+    // how long it is
+    len: usize,
+    // the number of the first piece that nobody has taken
+    next: &'a AtomicU64,
+}
+
 // The outcome of all of the work by some workers.
 fn divided<R: Threads + Sync, W: Work, G: Gate>(
     rt: &R,
@@ -55,63 +69,73 @@ fn divided<R: Threads + Sync, W: Work, G: Gate>(
 {
     let cuts = work.cuts(alloc, len, workers)?;
     let next = AtomicU64::new(0);
-    let done = pieces(
+    let crew = Crew {
         rt,
-        alloc,
         work,
         gate,
-        cuts.as_slice(),
+        cuts: cuts.as_slice(),
         len,
-        &next,
-        0,
-        workers,
-    )?;
+        next: &next,
+    };
+    let done = pieces(alloc, &crew, 0, workers)?;
     outcome_of(alloc, work, len, done)
 }
 
-// The pieces of `count` workers, of which `first` is the number of the first one. Halves of them
-// run side by side.
+// The pieces of `count` workers, of which `first` is the number of the first one.
 #[cycle(pieces)]
 fn pieces<R: Threads + Sync, W: Work, G: Gate>(
-    rt: &R,
     alloc: Global,
-    work: &W,
-    gate: &G,
-    cuts: &[usize],
-    len: usize,
-    next: &AtomicU64,
+    crew: &Crew<'_, R, W, G>,
     first: usize,
     count: usize,
 ) -> Result<Vec<Piece<W::Item, W::Fault>>, AllocError>
-    requires size { len ≡ W.size_of work.now }
+    requires size { crew.now.len ≡ W.size_of crew.now.work.now }
     requires some { 1 ≤ count }
     requires few { first + count ≤ 64 }
-    ensures pieces { IfOk result (λ v. ArePieces W.size_of W.comes work.now v.items) }
+    ensures pieces { IfOk result (λ v. ArePieces W.size_of W.comes crew.now.work.now v.items) }
 {
     if count == 1 {
-        gate.enter(first);
-        return taken(alloc, work, cuts, len, next);
+        crew.gate.enter(first);
+        return taken(alloc, crew.work, crew.cuts, crew.len, crew.next);
     }
     let low = count / 2;
-    let high = count - low;
+    halves(alloc, crew, first, low, count - low)
+}
+
+// The pieces of `low` workers from the number `first` on, and of `high` behind them. The two run
+// side by side.
+#[cycle(pieces)]
+fn halves<R: Threads + Sync, W: Work, G: Gate>(
+    alloc: Global,
+    crew: &Crew<'_, R, W, G>,
+    first: usize,
+    low: usize,
+    high: usize,
+) -> Result<Vec<Piece<W::Item, W::Fault>>, AllocError>
+    requires size { crew.now.len ≡ W.size_of crew.now.work.now }
+    requires low { 1 ≤ low }
+    requires high { 1 ≤ high }
+    requires few { first + low + high ≤ 64 }
+    ensures pieces { IfOk result (λ v. ArePieces W.size_of W.comes crew.now.work.now v.items) }
+{
     let middle = first + low;
     let front = move || -> Result<Vec<Piece<W::Item, W::Fault>>, AllocError>
         requires shared { IsSync R.row × IsSync W.row × IsSync G.row }
         requires sent { IsSend W.Item.row × IsSend W.Fault.row }
-        requires size { len ≡ W.size_of work.now }
+        requires size { crew.now.len ≡ W.size_of crew.now.work.now }
         requires some { 1 ≤ low }
         requires few { first + low ≤ 64 }
-        ensures pieces { IfOk result (λ v. ArePieces W.size_of W.comes work.entry.now v.items) }
-    { pieces(rt, alloc, work, gate, cuts, len, next, first, low) };
+        ensures pieces { IfOk result (λ v. ArePieces W.size_of W.comes crew.entry.now.work.now v.items) }
+    { pieces(alloc, crew, first, low) };
     let back = move || -> Result<Vec<Piece<W::Item, W::Fault>>, AllocError>
         requires shared { IsSync R.row × IsSync W.row × IsSync G.row }
         requires sent { IsSend W.Item.row × IsSend W.Fault.row }
-        requires size { len ≡ W.size_of work.now }
+        requires size { crew.now.len ≡ W.size_of crew.now.work.now }
         requires some { 1 ≤ high }
         requires few { middle + high ≤ 64 }
-        ensures pieces { IfOk result (λ v. ArePieces W.size_of W.comes work.entry.now v.items) }
-    { pieces(rt, alloc, work, gate, cuts, len, next, middle, high) };
-    let (left, right) = join(rt, front, back);
+        ensures pieces { IfOk result (λ v. ArePieces W.size_of W.comes crew.entry.now.work.now v.items) }
+    { pieces(alloc, crew, middle, high) };
+    let (left, right) = join(crew.rt, front, back);
     both_lists(left?, right?)
 }
 

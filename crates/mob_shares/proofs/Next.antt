@@ -1,5 +1,5 @@
 -- What a call of the walk gives.
-use Rattle.std.specs.Prelude.{◌≡◌, true, false, cond, List, [], ◌∷◌, Option, Some, None, ◌<◌, refl}
+use Rattle.std.specs.Prelude.{◌≡◌, Bool, true, false, cond, List, [], ◌∷◌, Option, Some, None, ◌<◌, refl}
 use Rattle.std.specs.Iterator.{MakesProgress}
 use Rattle.std.proofs.Common.{ap, sym, ◌∙◌, subst}
 use Rattle.mob_span.specs.Span.{SpanOf, has_instant}
@@ -8,7 +8,6 @@ use Rattle.mob_span.specs.Pieces.{PiecesAreClear}
 use Rattle.mob_span.specs.Remainders.{front_of}
 use Rattle.mob_shares.specs.Cuts.{CutOf, head_of}
 use Rattle.mob_shares.specs.Sharing.{ShareOf, next_share, most_shares}
-use Rattle.mob_shares.proofs.Spans.{share_some}
 use Rattle.mob_shares.proofs.Steps.{next_step, next_fewer}
 use Rattle.mob_shares.specs.declared.shares.Share.{Share}
 use Rattle.mob_shares.specs.declared.shares.Shares.{Shares}
@@ -37,37 +36,54 @@ module _ {X : Type 0} where
   pub alone_right : (v w : List (CutOf X)) (d : CutOf X) → None ≡ head_of v → Some d ≡ head_of w → next_share v w ≡ Some (record { span = d.span; left = None; right = Some d.of })
   alone_right v w d e f = let h = has_head w d f in ap (λ z. next_share z w) (is_empty v e) ∙ ap (λ z. next_share [] z) h.1
 
-  module _ (v w : List (CutOf X)) (c d : CutOf X) (e : Some c ≡ head_of v) (f : Some d ≡ head_of w) where
-    at_heads : next_share v w ≡ next_share (c ∷ (has_head v c e).0) (d ∷ (has_head w d f).0)
-    at_heads = ap (λ z. next_share z w) (has_head v c e).1 ∙ ap (λ z. next_share (c ∷ (has_head v c e).0) z) (has_head w d f).1
+  pub none_left : (v w : List (CutOf X)) → None ≡ head_of v → None ≡ head_of w → None ≡ next_share v w
+  none_left v w e f = sym (ap (λ z. next_share z w) (is_empty v e) ∙ ap (λ z. next_share [] z) (is_empty w f))
 
-    pub front_left : (s : SpanOf) → s ≡ front_of c.span d.span → has_instant s ≡ true → next_share v w ≡ Some (record { span = s; left = Some c.of; right = None })
+  -- the piece with which two lists begin is that of their first ones
+  pub of_heads : (v w : List (CutOf X)) (c d : CutOf X) → Some c ≡ head_of v → Some d ≡ head_of w → next_share v w ≡ next_share (c ∷ []) (d ∷ [])
+  of_heads v w c d e f = ap (λ z. next_share z w) (has_head v c e).1 ∙ ap (λ z. next_share (c ∷ (has_head v c e).0) z) (has_head w d f).1
+
+  -- the first of a list in order of time has an instant
+  pub some_head : (v : List (CutOf X)) (c : CutOf X) → Some c ≡ head_of v → PiecesAreClear (λ c. c.span) v → has_instant c.span ≡ true
+  some_head v c e h = (subst (PiecesAreClear (λ c. c.span)) (has_head v c e).1 h).0
+
+  -- where no piece comes, nothing is left
+  pub nothing_left : (v w : List (CutOf X)) → None ≡ next_share v w → (v ≡ []) × (w ≡ [])
+  nothing_left [] [] e = (refl, refl)
+  nothing_left (c ∷ cs) [] e = cc
+  nothing_left [] (d ∷ ds) e = cc
+  nothing_left (c ∷ cs) (d ∷ ds) e = by _ _ _ (has_instant (front_of c.span d.span)) (has_instant (front_of d.span c.span)) e
+    where
+      by : {A R : Type 0} (x y z : A) (a b : Bool) → None ≡ cond {A = Option A} a (Some x) (cond {A = Option A} b (Some y) (Some z)) → R
+      by x y z true b e = cc
+      by x y z false true e = cc
+      by x y z false false e = cc
+
+  module _ (c d : CutOf X) where
+    -- the three pieces with which both may begin
+    abbrev chosen : Bool → Bool → Option (ShareOf X X)
+    chosen a b =
+        cond a (Some (record { span = front_of c.span d.span; left = Some c.of; right = None }))
+        (cond b (Some (record { span = front_of d.span c.span; left = None; right = Some d.of }))
+        (Some (record { span = meet_of c.span d.span; left = Some c.of; right = Some d.of })))
+
+    pub front_left : (s : SpanOf) → s ≡ front_of c.span d.span → has_instant s ≡ true → next_share (c ∷ []) (d ∷ []) ≡ Some (record { span = s; left = Some c.of; right = None })
     front_left s i h =
-        at_heads
-        ∙ ap (λ b. cond {A = Option (ShareOf X X)} b (Some (record { span = front_of c.span d.span; left = Some c.of; right = None })) (cond {A = Option (ShareOf X X)} (has_instant (front_of d.span c.span)) (Some (record { span = front_of d.span c.span; left = None; right = Some d.of })) (Some (record { span = meet_of c.span d.span; left = Some c.of; right = Some d.of })))) (subst (λ z. has_instant z ≡ true) i h)
+        ap (λ a. chosen a (has_instant (front_of d.span c.span))) (subst (λ z. has_instant z ≡ true) i h)
         ∙ ap (λ z. Some (record { span = z; left = Some c.of; right = None })) (sym i)
 
     module _ (n : has_instant (front_of c.span d.span) ≡ false) where
-      not_left : next_share v w ≡ cond {A = Option (ShareOf X X)} (has_instant (front_of d.span c.span)) (Some (record { span = front_of d.span c.span; left = None; right = Some d.of })) (Some (record { span = meet_of c.span d.span; left = Some c.of; right = Some d.of }))
-      not_left =
-          at_heads
-          ∙ ap (λ b. cond {A = Option (ShareOf X X)} b (Some (record { span = front_of c.span d.span; left = Some c.of; right = None })) (cond {A = Option (ShareOf X X)} (has_instant (front_of d.span c.span)) (Some (record { span = front_of d.span c.span; left = None; right = Some d.of })) (Some (record { span = meet_of c.span d.span; left = Some c.of; right = Some d.of })))) n
-
-      pub front_right : (s : SpanOf) → s ≡ front_of d.span c.span → has_instant s ≡ true → next_share v w ≡ Some (record { span = s; left = None; right = Some d.of })
+      pub front_right : (s : SpanOf) → s ≡ front_of d.span c.span → has_instant s ≡ true → next_share (c ∷ []) (d ∷ []) ≡ Some (record { span = s; left = None; right = Some d.of })
       front_right s i h =
-          not_left
-          ∙ ap (λ b. cond {A = Option (ShareOf X X)} b (Some (record { span = front_of d.span c.span; left = None; right = Some d.of })) (Some (record { span = meet_of c.span d.span; left = Some c.of; right = Some d.of }))) (subst (λ z. has_instant z ≡ true) i h)
+          ap (λ a. chosen a (has_instant (front_of d.span c.span))) n
+          ∙ ap (chosen false) (subst (λ z. has_instant z ≡ true) i h)
           ∙ ap (λ z. Some (record { span = z; left = None; right = Some d.of })) (sym i)
 
-      pub meet_both : has_instant (front_of d.span c.span) ≡ false → (s : SpanOf) → s ≡ meet_of c.span d.span → next_share v w ≡ Some (record { span = s; left = Some c.of; right = Some d.of })
+      pub meet_both : has_instant (front_of d.span c.span) ≡ false → (s : SpanOf) → s ≡ meet_of c.span d.span → next_share (c ∷ []) (d ∷ []) ≡ Some (record { span = s; left = Some c.of; right = Some d.of })
       meet_both m s i =
-          not_left
-          ∙ ap (λ b. cond {A = Option (ShareOf X X)} b (Some (record { span = front_of d.span c.span; left = None; right = Some d.of })) (Some (record { span = meet_of c.span d.span; left = Some c.of; right = Some d.of }))) m
+          ap (λ a. chosen a (has_instant (front_of d.span c.span))) n
+          ∙ ap (chosen false) m
           ∙ ap (λ z. Some (record { span = z; left = Some c.of; right = Some d.of })) (sym i)
-
-      -- two that are in order and begin together share an instant
-      pub must_meet : PiecesAreClear (λ c. c.span) v → PiecesAreClear (λ c. c.span) w → has_instant (front_of d.span c.span) ≡ false → has_instant (meet_of c.span d.span) ≡ true
-      must_meet h k m = share_some c.span d.span (subst (PiecesAreClear (λ c. c.span)) (has_head v c e).1 h).0 (subst (PiecesAreClear (λ c. c.span)) (has_head w d f).1 k).0 n m
 
 -- a call that gave the next piece goes on, and fewer pieces are left
 pub goes_on : {C : Type 0} (s t : Shares C) (p : Share C) → CanShare s → IsShared s p t → MakesProgress CanShare shares_left s (Some p) t

@@ -1,12 +1,13 @@
 //! The walk over all instants that one of two temporal values has.
 
-ghost use Rattle.std.specs.Prelude.{◌≡◌, true, false, option_map, IfSome, MatchOption};
+ghost use Rattle.std.specs.Prelude.{◌≡◌, true, false, [], ◌∷◌, Some, option_map, IfSome, MatchOption};
 ghost use Rattle.mob_span.specs.Meet.{meet_of};
 ghost use Rattle.mob_span.specs.Remainders.{back_of};
 ghost use Rattle.mob_span.specs.Span.{has_instant};
 ghost use Rattle.mob_span.specs.Pieces.{PiecesAreClear};
 ghost use Rattle.mob_shares.specs.Cuts.{wholes, head_of, left_after};
 ghost use Rattle.mob_shares.specs.Begins.{BeginTogether, EndTogether};
+ghost use Rattle.mob_shares.specs.Sharing.{next_share, behind};
 ghost use Rattle.mob_shares.specs.Shares.{cut_of, rest_of, share_span, share_of, HoldsShare, CanShare, GivesShare, shares_left};
 
 use mob_slice::{Course, One, Pair, Part, Slice};
@@ -158,6 +159,43 @@ impl<'a, C: Course> Part for Share<'a, C> {
     }
 }
 
+// The piece with which two lists of slices begin: what of the first slice of one comes before that
+// of the other, or what both begin with.
+fn first_share<'a, C>(left: &One<'a, C>, right: &One<'a, C>) -> Share<'a, C>
+    requires left { has_instant left.now.span ≡ true }
+    requires right { has_instant right.now.span ≡ true }
+    ensures next { next_share (cut_of left.now ∷ []) (cut_of right.now ∷ []) ≡ Some (share_of result) }
+{
+    if begin_together(&left.span, &right.span) {
+        let span = shorter(&left.span, &right.span);
+        return Share::Both(Pair {
+            span,
+            left: left.slice,
+            right: right.slice,
+        });
+    }
+    if let Some(span) = left.span.front(&right.span) {
+        return Share::Left(One {
+            span,
+            slice: left.slice,
+        });
+    }
+    if let Some(span) = right.span.front(&left.span) {
+        return Share::Right(One {
+            span,
+            slice: right.slice,
+        });
+    }
+    let Some(span) = left.span.meet(&right.span) else {
+        unreachable!()
+    };
+    Share::Both(Pair {
+        span,
+        left: left.slice,
+        right: right.slice,
+    })
+}
+
 /// The pieces of time at which one of two values has a slice, or each of them, in order of time.
 #[derive(Drop)]
 pub struct Shares<'a, C> {
@@ -179,6 +217,38 @@ impl<'a, C> Shares<'a, C> {
             rights: Rest::new(rights),
         }
     }
+
+    // The piece that comes next, if one is left.
+    fn peek(&self) -> Option<Share<'a, C>>
+        requires can { CanShare self.now }
+        ensures next { option_map share_of result ≡ next_share (rest_of self.now.lefts) (rest_of self.now.rights) }
+    {
+        let Some(left) = self.lefts.first() else {
+            let Some(right) = self.rights.first() else {
+                return None;
+            };
+            return Some(Share::Right(right));
+        };
+        let Some(right) = self.rights.first() else {
+            return Some(Share::Left(left));
+        };
+        Some(first_share(&left, &right))
+    }
+
+    // Takes a piece off each of the two values that has something in it.
+    fn pass(&mut self, share: &Share<'a, C>)
+        ensures left { rest_of self.new.lefts ≡ behind (share_span share.now) (share_of share.now).left (rest_of self.old.lefts) }
+        ensures right { rest_of self.new.rights ≡ behind (share_span share.now) (share_of share.now).right (rest_of self.old.rights) }
+    {
+        match share {
+            Share::Left(one) => self.lefts = self.lefts.after(&one.span),
+            Share::Right(one) => self.rights = self.rights.after(&one.span),
+            Share::Both(pair) => {
+                self.lefts = self.lefts.after(&pair.span);
+                self.rights = self.rights.after(&pair.span);
+            }
+        }
+    }
 }
 
 impl<'a, C> Iterator for Shares<'a, C> {
@@ -191,52 +261,10 @@ impl<'a, C> Iterator for Shares<'a, C> {
     ghost remaining = { shares_left };
 
     fn next(&mut self) -> Option<Share<'a, C>> {
-        let Some(left) = self.lefts.first() else {
-            let Some(right) = self.rights.first() else {
-                return None;
-            };
-            self.rights = self.rights.after(&right.span);
-            return Some(Share::Right(right));
+        let Some(share) = self.peek() else {
+            return None;
         };
-        let Some(right) = self.rights.first() else {
-            self.lefts = self.lefts.after(&left.span);
-            return Some(Share::Left(left));
-        };
-        if begin_together(&left.span, &right.span) {
-            let span = shorter(&left.span, &right.span);
-            self.lefts = self.lefts.after(&span);
-            self.rights = self.rights.after(&span);
-            return Some(Share::Both(Pair {
-                span,
-                left: left.slice,
-                right: right.slice,
-            }));
-        }
-        if let Some(span) = left.span.front(&right.span) {
-            self.lefts = self.lefts.after(&span);
-            return Some(Share::Left(One {
-                span,
-                slice: left.slice,
-            }));
-        }
-        if let Some(span) = right.span.front(&left.span) {
-            self.rights = self.rights.after(&span);
-            return Some(Share::Right(One {
-                span,
-                slice: right.slice,
-            }));
-        }
-        match left.span.meet(&right.span) {
-            Some(span) => {
-                self.lefts = self.lefts.after(&span);
-                self.rights = self.rights.after(&span);
-                Some(Share::Both(Pair {
-                    span,
-                    left: left.slice,
-                    right: right.slice,
-                }))
-            }
-            None => unreachable!(),
-        }
+        self.pass(&share);
+        Some(share)
     }
 }

@@ -7,8 +7,10 @@ use Rattle.mob_ratio.specs.Order.{before, up_to, same}
 use Rattle.mob_ratio.proofs.Order.{before-self, before-back, before-trans, before-neither, same_exact}
 use Rattle.mob_span.specs.Span.{has_instant}
 use Rattle.mob_list.proofs.Each.{each_on, each_both}
-use Rattle.mob_slice.specs.Entries.{Entry, IsFirst}
+use Rattle.mob_slice.specs.Entries.{Entry, IsFirst, OnFormula}
 use Rattle.mob_slice.specs.declared.formula.Formula.{Formula}
+use Rattle.mob_slice.specs.declared.formula.OpFault.{OpFault}
+use Rattle.mob_slice.specs.declared.formula.OpFault.TheVariants.{Passed, NoMemory}
 use Rattle.mob_slice.specs.declared.line.PlaneLine.{PlaneLine}
 use Rattle.mob_slice.specs.declared.slice.Slice.{Slice}
 use Rattle.mob_lifted.proofs.Firsts.{first_joined, first_front}
@@ -86,8 +88,13 @@ module _ (d : Ratio) (all : List (Slice PlaneLine)) (s : Slice PlaneLine) (betwe
     made_on : (b : Bool) → b ≡ stays d s wide l r → legs ++ cond b (legs_along d s wide r later) (leg_over s l ∷ legs_along d r [] r later) ≡ all_legs d all
     made_on b h = ap (λ z. legs ++ cond z (legs_along d s wide r later) (leg_over s l ∷ legs_along d r [] r later)) h ∙ ap (λ z. legs ++ legs_along d s between l z) (sym e) ∙ m.made
 
-    pub walking_fails : (f : Formula) → IsFirst front (Some f) → IsFirst (all_tests d all) (Some f)
+    walking_fails : (f : Formula) → IsFirst front (Some f) → IsFirst (all_tests d all) (Some f)
     walking_fails f bad = m.firsts (Some f) (subst (λ z. IsFirst (tests_along d s between l z) (Some f)) (sym e) (first_front front (behind (stays d s wide l r)) f bad))
+
+    -- what refuses the next slice refuses all
+    pub walking_refused : (e : OpFault) → OnFormula (λ f. IsFirst front (Some f)) e → OnFormula (λ f. IsFirst (all_tests d all) (Some f)) e
+    walking_refused (Passed f) bad = walking_fails f bad
+    walking_refused NoMemory bad = tt
 
     going_by : (b c : Bool) → true ≡ (b && c) → b ≡ true
     going_by true c h = refl

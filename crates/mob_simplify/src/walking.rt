@@ -1,6 +1,6 @@
 //! The walk along the slices that finds which breaks are kept.
 
-ghost use Rattle.std.specs.Prelude.{◌≡◌, ◌≢◌, [], ◌++◌, ◌∷◌, true, cond, IfOk, MatchResult};
+ghost use Rattle.std.specs.Prelude.{◌≡◌, ◌≢◌, [], ◌++◌, ◌∷◌, true, cond, IfOk, OnOk, MatchResult};
 ghost use Rattle.std.specs.List.{AllByRecursion};
 ghost use Rattle.mob_ratio.specs.Order.{before};
 ghost use Rattle.mob_span.specs.Span.{has_instant};
@@ -49,6 +49,30 @@ fn stays(
     passes(&start_of(first), between, &end_of(next), limit)
 }
 
+// Puts the break at which `next` starts behind those between, and tells whether `next` stays.
+fn next_stays(
+    first: &Slice<PlaneLine>,
+    between: &mut Vec<Break>,
+    last: &Slice<PlaneLine>,
+    next: &Slice<PlaneLine>,
+    limit: &Limit,
+) -> Result<bool, OpFault>
+    requires square { IsSquared limit.now }
+    requires between { continues_run last.now next.now ≡ true → AllByRecursion (λ b. (before first.now.span.lower b.instant ≡ true) × (before b.instant next.now.span.upper ≡ true)) (between.old.items ++ start_of next.now ∷ []) }
+    ensures some { has_instant next.now.span ≡ true }
+    ensures put { OnOk result (between.new.items ≡ between.old.items ++ start_of next.now ∷ []) }
+    ensures value { IfOk result (λ stay. stay ≡ stays limit.now.distance first.now (between.old.items ++ start_of next.now ∷ []) last.now next.now) }
+    ensures first { IsJudged (cond (continues_run last.now next.now) (tests_of limit.now.distance (start_of first.now) (between.old.items ++ start_of next.now ∷ []) (end_of next.now)) []) result }
+{
+    if between.push(start_of(next)).is_err() {
+        return Err(OpFault::NoMemory);
+    }
+    match stays(first, between.as_slice(), last, next, limit) {
+        Ok(stay) => Ok(stay),
+        Err(Passed { formula }) => Err(OpFault::Passed { formula }),
+    }
+}
+
 // The straight course from the start of `first` to the end of `last`.
 fn leg_over(first: &Slice<PlaneLine>, last: &Slice<PlaneLine>) -> Slice<PlaneLine>
     requires some { has_instant (leg_over first.now last.now).span ≡ true }
@@ -93,13 +117,7 @@ pub fn walked(
     let mut between = Vec::new(alloc);
     let mut legs = Vec::new(alloc);
     for next in rest {
-        if between.push(start_of(next)).is_err() {
-            return Err(OpFault::NoMemory);
-        }
-        let stay = match stays(first, &between, last, next, limit) {
-            Ok(stay) => stay,
-            Err(Passed { formula }) => return Err(OpFault::Passed { formula }),
-        };
+        let stay = next_stays(first, &mut between, last, next, limit)?;
         if stay {
             last = next;
             continue;
