@@ -1,8 +1,11 @@
 //! The ordinary operators that have no formula: comparisons of two values of SQL, and logic; and
-//! what is made a value of SQL.
+//! what is made a value of SQL. Values that are lent or made, and the cells in which the outcomes of
+//! operators are kept.
 #![tactic(auto)]
 
+pub mod cells;
 pub mod comparison;
+pub mod fault;
 pub mod held;
 pub mod kinds;
 pub mod logic;

@@ -3,15 +3,16 @@ ghost use Rattle.std.specs.Prelude.{◌≡◌, Ok, Err, IfOk, IfErr, map};
 ghost use Rattle.mob_typed.specs.Trees.{typed_of};
 ghost use Rattle.mob_typed.specs.Selects.{output_of};
 ghost use Rattle.mob_eval.specs.Views.{scene_of};
-ghost use Rattle.mob_eval.specs.Faults.{OnPassed};
+ghost use Rattle.mob_ordinary.specs.Faults.{OnPassed};
 ghost use Rattle.mob_ordinary.specs.Held.{held};
 ghost use Rattle.mob_tail.specs.Groups.{is_bare, column_on};
 ghost use Rattle.mob_tail.specs.GroupedAnswers.{agg_at, columns_from, IsArgumentOf};
 ghost use Rattle.mob_tail.specs.GroupSteps.{column_seen};
 
-use mob_eval::{EvalFault, Held, View, held_value};
+use mob_eval::{Held, View, held_value};
 use mob_list::text::Text;
 use mob_operators::AggKind;
+use mob_ordinary::fault::EvalFault;
 use mob_typed::{Agg, TExpr};
 use mob_value::Value;
 use std::alloc::{AllocError, Global};

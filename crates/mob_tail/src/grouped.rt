@@ -3,7 +3,7 @@ ghost use Rattle.std.specs.Prelude.{◌≡◌, Ok, Err, Some, IfOk, IfErr, Match
 ghost use Rattle.std.specs.List.{AllByRecursion, AllZip};
 ghost use Rattle.mob_typed.specs.Trees.{typed_of};
 ghost use Rattle.mob_eval.specs.Views.{scene_of};
-ghost use Rattle.mob_eval.specs.Faults.{OnPassed, fault_of};
+ghost use Rattle.mob_ordinary.specs.Faults.{OnPassed, fault_of};
 ghost use Rattle.mob_ordinary.specs.Held.{held};
 ghost use Rattle.mob_tail.specs.Aggregated.{leaves_out};
 ghost use Rattle.mob_tail.specs.Groups.{column_on};
@@ -12,7 +12,8 @@ ghost use Rattle.mob_tail.specs.GroupSteps.{column_seen, IsAggregateOn, IsColumn
 
 use crate::columns::{Column, argument_on, column_on};
 use crate::state::{State, nothing_yet, state_with, value_of};
-use mob_eval::{EvalFault, Held, View};
+use mob_eval::{Held, View};
+use mob_ordinary::fault::EvalFault;
 use mob_slice::OpFault;
 use mob_tuples::Tuple;
 use mob_typed::{Agg, TExpr};

@@ -8,7 +8,8 @@ pub mod own_box;
 pub mod remembered;
 
 use crate::memory::own_box::ToldBox;
-use crate::memory::remembered::{Cell, Remembering, Told};
+use crate::memory::remembered::{Outcomes, Remembering};
+use mob_ordinary::cells::{Cell, Told};
 use once_cell::race::OnceBox;
 use std::alloc::{AllocError, Global};
 use std::marker::{Model, PhantomData};
@@ -47,7 +48,7 @@ impl<K: Remembering, T> Model for Slot<K, T> {
 /// share it; none waits for another.
 #[derive(Drop)]
 pub struct Memory<K: Remembering> {
-    slots: Vec<Slot<K, Told<K>>>,
+    slots: Vec<Slot<K, Told<Outcomes<K>>>>,
     boxes: Vec<Slot<K, ToldBox<K>>>,
     taken: AtomicU64,
 }
@@ -219,7 +220,7 @@ pub fn cell_of<'a, K: Remembering>(
     memory: Option<&'a Memory<K>>,
     at: u32,
     tuple: &[u32],
-) -> Option<Cell<'a, Told<K>>>
+) -> Option<Cell<'a, Told<Outcomes<K>>>>
     ensures at { IfSome result (λ c. c.at ≡ at) }
     ensures row { IfSome result (λ c. HasRow c.place c.row tuple.now) }
     ensures place { IfSome result (λ c. IsOfPlace K.recollection c.at c.place) }

@@ -11,10 +11,11 @@ ghost use Rattle.mob_eval.specs.Views.{scene_of};
 ghost use Rattle.mob_eval.specs.SoFar.{trees};
 ghost use Rattle.mob_eval.specs.Remembered.{AllFit, Fits, IsBoxTold};
 
-use crate::memory::remembered::{Cell, Remembering, has_room};
+use crate::memory::remembered::Remembering;
 use crate::memory::{Memory, box_cell_of};
 use crate::operators::boxes::{overlap, overlap_of};
 use crate::scene::View;
+use mob_ordinary::cells::{Cell, has_room};
 use mob_stbox::StBox;
 use mob_typed::TExpr;
 use mob_value::{Value, box_of_value};

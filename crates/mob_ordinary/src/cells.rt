@@ -1,0 +1,237 @@
+//! Where what an operator gave is kept.
+//!
+//! An operator that reads the row of one place of FROM alone, as a trip cut to a polygon, gives on
+//! each tuple with that row the same value or the same fault. The first evaluation that reaches it
+//! on a row keeps what it gave, and each later one, by whichever worker, takes it from there.
+ghost use Rattle.std.specs.Prelude.{◌≡◌, ℕ, true, IfSome, Option, Result};
+ghost use Rattle.mob_slice.specs.declared.formula.Formula.{Formula as formula_of};
+ghost use Rattle.mob_value.specs.declared.value.Value.{Value as value_of};
+ghost use Rattle.mob_ordinary.specs.Faults.{Says};
+
+use crate::fault::EvalFault;
+use crate::held::Held;
+use crate::weights::weight;
+use mob_slice::Formula;
+use mob_value::Value;
+use once_cell::race::OnceBox;
+use std::alloc::Global;
+use std::marker::{Model, PhantomData};
+use std::sync::atomic::{AtomicU64, Ordering};
+
+/// What may be told of operators: which outcome, by the place of an operator in the script, the
+/// place of FROM that it names, and the number of the row there.
+pub trait Telling {
+    ghost tells: { ℕ → Option ℕ → ℕ → Result value_of (ℕ × formula_of) → Type 0 };
+}
+
+/// What the operator at a place of the script gave: on a row of the table at a place of FROM, or,
+/// if it names no place, on each tuple.
+#[derive(Drop)]
+pub struct Answer {
+    at: u32,
+    place: Option<u32>,
+    row: u32,
+    outcome: Result<Value, (u32, Formula)>,
+}
+
+// An answer that is right on each tuple with its row.
+#[derive(Drop)]
+pub struct Told<K: Telling> {
+    answer: Answer,
+    by: PhantomData<K>,
+}
+
+impl<K: Telling> Model for Told<K> {
+    ghost use Rattle.mob_ordinary.specs.declared.cells.Answer.{Answer as answer_of};
+
+    ghost Value = { answer_of };
+
+    ghost view = { λ t. t.answer };
+
+    ghost invariant = { λ t. K.tells t.answer.at t.answer.place t.answer.row t.answer.outcome };
+}
+
+/// Where what is known of an operator on a row is kept: its outcome, or its box.
+#[derive(Drop)]
+pub struct Cell<'a, T> {
+    /// The place of the operator in the script.
+    pub at: u32,
+    /// The place of FROM that it names, if it names one.
+    pub place: Option<u32>,
+    /// The number of the row there.
+    pub row: u32,
+    /// What is kept, once something is.
+    pub kept: &'a OnceBox<T>,
+    /// How many bytes all cells of the query have taken, about.
+    pub taken: &'a AtomicU64,
+}
+
+// How many bytes the answers of a query may take, about. Past them nothing more is kept.
+const MOST_BYTES: u64 = 1 << 28;
+
+/// Whether there is room for so many bytes more. If so they are taken.
+pub fn has_room(taken: &AtomicU64, bytes: u64) -> bool {
+    if taken.load(Ordering::SeqCst) >= MOST_BYTES {
+        return false;
+    }
+    taken.fetch_add(bytes, Ordering::SeqCst) < MOST_BYTES
+}
+
+fn same_place(one: Option<u32>, other: Option<u32>) -> bool
+    ensures same { result ≡ true → one ≡ other }
+{
+    match (one, other) {
+        (Some(a), Some(b)) => a == b,
+        (None, None) => true,
+        _ => false,
+    }
+}
+
+impl<K: Telling> Told<K> {
+    // Its outcome.
+    fn outcome(self) -> Result<Value, (u32, Formula)>
+        ensures outcome { result ≡ self.outcome }
+        ensures told { K.tells self.at self.place self.row result }
+    {
+        let Told { answer, by: _ } = self;
+        let Answer {
+            at: _,
+            place: _,
+            row: _,
+            outcome,
+        } = answer;
+        outcome
+    }
+}
+
+// An outcome that was told, as evaluation gives it: a value is lent.
+fn lent<'a, K: Telling>(told: &'a Told<K>) -> Result<Held<'a>, EvalFault>
+    ensures value { Says (λ r. r ≡ told.now.outcome) result }
+    ensures told { Says (K.tells told.now.at told.now.place told.now.row) result }
+{
+    match &told.answer.outcome {
+        Ok(value) => Ok(Held::Stored(value)),
+        Err(fault) => Err(EvalFault::Passed {
+            place: fault.0,
+            formula: fault.1,
+        }),
+    }
+}
+
+// An outcome that is handed over, as evaluation gives it: a value is held.
+fn handed<'a>(outcome: Result<Value, (u32, Formula)>) -> Result<Held<'a>, EvalFault>
+    ensures value { Says (λ r. r ≡ outcome) result }
+{
+    match outcome {
+        Ok(value) => Ok(Held::Made(value)),
+        Err(fault) => Err(EvalFault::Passed {
+            place: fault.0,
+            formula: fault.1,
+        }),
+    }
+}
+
+impl<'a, T> Cell<'a, T> {
+    /// Whether this is the cell of the operator at a place of the script, on a row of the table at
+    /// a place of FROM.
+    pub fn is_at(&self, at: u32, place: Option<u32>, row: u32) -> bool
+        ensures same { result ≡ true → (at ≡ self.now.at) × (place ≡ self.now.place) × (row ≡ self.now.row) }
+    {
+        if at != self.at {
+            return false;
+        }
+        if !same_place(place, self.place) {
+            return false;
+        }
+        row == self.row
+    }
+}
+
+impl<K: Telling> Told<K> {
+    // Whether it is of the operator and row of a cell.
+    fn is_of(&self, cell: &Cell<'_, Told<K>>) -> bool
+        ensures same { result ≡ true → (self.now.at ≡ cell.now.at) × (self.now.place ≡ cell.now.place) × (self.now.row ≡ cell.now.row) }
+    {
+        let answer = &self.answer;
+        cell.is_at(answer.at, answer.place, answer.row)
+    }
+}
+
+impl<'a, K: Telling> Cell<'a, Told<K>> {
+    /// What is kept there, if anything is.
+    pub fn told(&self) -> Option<Result<Held<'a>, EvalFault>>
+        ensures told { IfSome result (Says (K.tells self.now.at self.now.place self.now.row)) }
+    {
+        match self.kept.get() {
+            Some(told) => {
+                if told.is_of(self) {
+                    Some(lent(told))
+                } else {
+                    None
+                }
+            }
+            None => None,
+        }
+    }
+
+    // An outcome is kept, unless another worker was faster. If memory is refused it is given back.
+    fn keep(
+        &self,
+        alloc: Global,
+        outcome: Result<Value, (u32, Formula)>,
+    ) -> Result<Held<'a>, EvalFault>
+        requires told { K.tells self.now.at self.now.place self.now.row outcome }
+        ensures told { Says (K.tells self.now.at self.now.place self.now.row) result }
+    {
+        let told = Told {
+            answer: Answer {
+                at: self.at,
+                place: self.place,
+                row: self.row,
+                outcome,
+            },
+            by: PhantomData,
+        };
+        let boxed = match Box::new(alloc, told) {
+            Ok(boxed) => boxed,
+            Err(refused) => return handed(refused.value.outcome()),
+        };
+        let mut note = self.kept.note();
+        match self.kept.set_as(boxed, &mut note) {
+            Ok(()) => match self.kept.get_as(&mut note) {
+                Some(told) => lent(told),
+                None => unreachable!(),
+            },
+            Err(back) => handed(Box::into_inner(back).outcome()),
+        }
+    }
+
+    // A value is kept where there is room for it.
+    fn keep_value(&self, alloc: Global, value: Value) -> Result<Held<'a>, EvalFault>
+        requires told { K.tells self.now.at self.now.place self.now.row (Ok value) }
+        ensures told { Says (K.tells self.now.at self.now.place self.now.row) result }
+    {
+        if has_room(self.taken, weight(&value)) {
+            self.keep(alloc, Ok(value))
+        } else {
+            Ok(Held::Made(value))
+        }
+    }
+
+    /// Keeps what an evaluation gave. A stored value is lent as it is.
+    pub fn kept(
+        &self,
+        alloc: Global,
+        outcome: Result<Held<'a>, EvalFault>,
+    ) -> Result<Held<'a>, EvalFault>
+        requires told { Says (K.tells self.now.at self.now.place self.now.row) outcome }
+        ensures told { Says (K.tells self.now.at self.now.place self.now.row) result }
+    {
+        match outcome {
+            Ok(Held::Made(value)) => self.keep_value(alloc, value),
+            Ok(Held::Stored(value)) => Ok(Held::Stored(value)),
+            Err(EvalFault::Passed { place, formula }) => self.keep(alloc, Err((place, formula))),
+            Err(EvalFault::NoMemory) => Err(EvalFault::NoMemory),
+        }
+    }
+}
