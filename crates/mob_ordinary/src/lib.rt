@@ -1,6 +1,6 @@
 //! The ordinary operators that have no formula: comparisons of two values of SQL, and logic; and
-//! what is made a value of SQL. Values that are lent or made, and the cells in which the outcomes of
-//! operators are kept.
+//! what is made a value of SQL. Beside them are values that are lent or made, and the cells that
+//! keep outcomes of operators.
 #![tactic(auto)]
 
 pub mod cells;
