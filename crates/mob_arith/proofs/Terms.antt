@@ -1,5 +1,5 @@
 -- What an operation that goes term by term gives on one piece.
-use Rattle.std.specs.Prelude.{◌≡◌, Bool, true, false, List, Some, None, refl}
+use Rattle.std.specs.Prelude.{◌≡◌, Bool, true, false, List, ◌++◌, Some, None, refl}
 use Rattle.std.proofs.Common.{ap, sym, ◌∙◌, subst, inl, inr}
 use Rattle.mob_ratio.specs.Ratio.{Ratio}
 use Rattle.mob_ratio.specs.Order.{before}
@@ -66,17 +66,21 @@ module _ {A X B Y : Type 0} (value : A → Ratio → Ratio → Ratio → X) (lin
   right_fails copies NoMemory h = tt
 
   module _ (fl : AllFit lefts) (fr : AllFit rights) where
+    -- the operation on the limits does not fit
+    pub limits_fail : (f : Formula) (x : X) (y : Y) (z : X) (w : Y) → x ≡ side_at value p.left p.span.lower → y ≡ side_at value' p.right p.span.lower → z ≡ side_at value p.left p.span.upper → w ≡ side_at value' p.right p.span.upper → f ≡ F2 → ¬ AllFit (parts x y ++ parts z w) → IsFirst entries (Some f)
+    limits_fail f x y z w i j k l e n = inl (all_both lefts rights fl fr, inr (rw (i, j, k, l) at n, ap Some e))
+
     pub lower_fails : (f : Formula) (x : X) (y : Y) → x ≡ side_at value p.left p.span.lower → y ≡ side_at value' p.right p.span.lower → f ≡ F2 → ¬ AllFit (parts x y) → IsFirst entries (Some f)
     lower_fails f x y i j e n =
-        let first = parts (side_at value p.left p.span.lower) (side_at value' p.right p.span.lower) in
-        let next = parts (side_at value p.left p.span.upper) (side_at value' p.right p.span.upper) in
-        inl (all_both lefts rights fl fr, inr (λ k. n (rw (i, j) (all_first first next k)), ap Some e))
+        let z = side_at value p.left p.span.upper in
+        let w = side_at value' p.right p.span.upper in
+        limits_fail f x y z w i j refl refl e (λ k. n (all_first (parts x y) (parts z w) k))
 
     pub upper_fails : (f : Formula) (x : X) (y : Y) → x ≡ side_at value p.left p.span.upper → y ≡ side_at value' p.right p.span.upper → f ≡ F2 → ¬ AllFit (parts x y) → IsFirst entries (Some f)
     upper_fails f x y i j e n =
-        let first = parts (side_at value p.left p.span.lower) (side_at value' p.right p.span.lower) in
-        let next = parts (side_at value p.left p.span.upper) (side_at value' p.right p.span.upper) in
-        inl (all_both lefts rights fl fr, inr (λ k. n (rw (i, j) (all_second first next k)), ap Some e))
+        let z = side_at value p.left p.span.lower in
+        let w = side_at value' p.right p.span.lower in
+        limits_fail f z w x y refl refl i j e (λ k. n (all_second (parts z w) (parts x y) k))
 
     pub all_fit : (x : X) (y : Y) (z : X) (w : Y) → x ≡ side_at value p.left p.span.lower → y ≡ side_at value' p.right p.span.lower → z ≡ side_at value p.left p.span.upper → w ≡ side_at value' p.right p.span.upper → AllFit (parts x y) → AllFit (parts z w) → IsFirst entries None
     all_fit x y z w i j k l a b =

@@ -1,6 +1,6 @@
 //! Operations on two operands that go term by term.
 
-ghost use Rattle.std.specs.Prelude.{◌≡◌, true, ◌||◌, List, IfOk};
+ghost use Rattle.std.specs.Prelude.{◌≡◌, true, ◌||◌, ◌++◌, List, IfOk};
 ghost use Rattle.std.specs.List.{flat_map};
 ghost use Rattle.mob_ratio.specs.Ratio.{Ratio};
 ghost use Rattle.mob_frac.specs.Formula.{sum_parts, difference_parts, product_parts, quotient_parts};
@@ -130,6 +130,22 @@ fn divided(a: &Frac, b: &Frac) -> Result<Frac, Passed>
     }
 }
 
+// The course of the operation on two slices, by its results on their limits.
+fn course_on<A: Course + Drop, B: Course + Drop, D: Course + Drop, O: Termwise<A, B, D>>(
+    left: &Slice<A>,
+    right: &Slice<B>,
+) -> Result<D, Passed>
+where
+    A::Base: Drop,
+    B::Base: Drop,
+    D::Base: Drop,
+    ensures course { IsComputed F2 (O.parts (A.start_of left.now.course) (B.start_of right.now.course) ++ O.parts (A.end_of left.now.course) (B.end_of right.now.course)) (D.make (O.op (A.start_of left.now.course) (B.start_of right.now.course)) (O.op (A.end_of left.now.course) (B.end_of right.now.course))) result }
+{
+    let from = O::apply(left.course.start(), right.course.start())?;
+    let to = O::apply(left.course.end(), right.course.end())?;
+    Ok(D::of(from, to))
+}
+
 // The operation on one piece.
 fn on_piece<A: Course + Drop, B: Course + Drop, D: Course + Drop, O: Termwise<A, B, D>>(
     alloc: Global,
@@ -150,21 +166,9 @@ where
         Ok(right) => right,
         Err(fault) => return Err(operator_fault(fault)),
     };
-    let from = match O::apply(left.course.start(), right.course.start()) {
-        Ok(from) => from,
-        Err(passed) => {
-            return Err(OpFault::Passed {
-                formula: passed.formula,
-            });
-        }
-    };
-    let to = match O::apply(left.course.end(), right.course.end()) {
-        Ok(to) => to,
-        Err(passed) => {
-            return Err(OpFault::Passed {
-                formula: passed.formula,
-            });
-        }
+    let course = match course_on::<A, B, D, O>(&left, &right) {
+        Ok(course) => course,
+        Err(Passed { formula }) => return Err(OpFault::Passed { formula }),
     };
     // A call of a method tells the proof what holds of every span.
     let _ = piece.span.lower();
@@ -172,7 +176,7 @@ where
         alloc,
         Slice {
             span: piece.span,
-            course: D::of(from, to),
+            course,
         },
     )
 }

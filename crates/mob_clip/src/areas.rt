@@ -2,7 +2,7 @@
 
 ghost use Rattle.mob_slice.specs.declared.formula.Formula.TheVariants.{F2};
 ghost use Rattle.mob_slice.specs.Entries.{IsMadeBy};
-ghost use Rattle.std.specs.Prelude.{◌≡◌, true, false, ◌++◌, MatchResult};
+ghost use Rattle.std.specs.Prelude.{◌≡◌, true, false, ◌++◌, IfOk};
 ghost use Rattle.mob_frac.specs.Formula.{AllFit, IsFormula};
 ghost use Rattle.mob_span.specs.Neighbours.{is_inside};
 ghost use Rattle.mob_slice.specs.Slices.{IsSound};
@@ -19,7 +19,7 @@ use mob_plane::Point;
 use mob_slice::{Course, Formula, OpFault, PlaneLine, Slice};
 use mob_span::Span;
 use mob_stbox::Area;
-use std::alloc::Global;
+use std::alloc::{AllocError, Global};
 use std::cmp::Ordering;
 
 /// The differences of a point to the four sides.
@@ -61,51 +61,33 @@ fn functions(alloc: Global, area: &Area, p: &Point, q: &Point) -> Result<Vec<End
             formula: Formula::F2,
         });
     };
-    functions_of(alloc, &from, &to)
+    match functions_of(alloc, &from, &to) {
+        Ok(functions) => Ok(functions),
+        Err(_) => Err(OpFault::NoMemory),
+    }
 }
 
-// The four linear functions with these differences at the two ends. The one fault is a failed
-// allocation.
-fn functions_of(alloc: Global, from: &Sides, to: &Sides) -> Result<Vec<Ends>, OpFault>
-    ensures functions { MatchResult result (λ v. v.items ≡ ends_of_sides from.now to.now) (λ e. e ≡ OpFault.NoMemory) }
+// The four linear functions with these differences at the two ends.
+fn functions_of(alloc: Global, from: &Sides, to: &Sides) -> Result<Vec<Ends>, AllocError>
+    ensures functions { IfOk result (λ v. v.items ≡ ends_of_sides from.now to.now) }
 {
     let mut functions = Vec::new(alloc);
-    if functions
-        .push(Ends {
-            at_lower: from.left,
-            at_upper: to.left,
-        })
-        .is_err()
-    {
-        return Err(OpFault::NoMemory);
-    }
-    if functions
-        .push(Ends {
-            at_lower: from.right,
-            at_upper: to.right,
-        })
-        .is_err()
-    {
-        return Err(OpFault::NoMemory);
-    }
-    if functions
-        .push(Ends {
-            at_lower: from.low,
-            at_upper: to.low,
-        })
-        .is_err()
-    {
-        return Err(OpFault::NoMemory);
-    }
-    if functions
-        .push(Ends {
-            at_lower: from.high,
-            at_upper: to.high,
-        })
-        .is_err()
-    {
-        return Err(OpFault::NoMemory);
-    }
+    functions.push(Ends {
+        at_lower: from.left,
+        at_upper: to.left,
+    })?;
+    functions.push(Ends {
+        at_lower: from.right,
+        at_upper: to.right,
+    })?;
+    functions.push(Ends {
+        at_lower: from.low,
+        at_upper: to.low,
+    })?;
+    functions.push(Ends {
+        at_lower: from.high,
+        at_upper: to.high,
+    })?;
     Ok(functions)
 }
 

@@ -84,21 +84,12 @@ fn around(
 {
     // A call of a method tells the proof what holds of every span.
     let _ = part.lower();
-    let mut out = match piece_on(
-        alloc,
-        slice,
-        front(&slice.span, part),
-        same_bool(want, false),
-    ) {
+    let outside = same_bool(want, false);
+    let mut out = match piece_on(alloc, slice, front(&slice.span, part), outside) {
         Ok(out) => out,
         Err(fault) => return Err(fault),
     };
-    let more = match piece_on(
-        alloc,
-        slice,
-        back(&slice.span, part),
-        same_bool(want, false),
-    ) {
+    let more = match piece_on(alloc, slice, back(&slice.span, part), outside) {
         Ok(more) => more,
         Err(fault) => return Err(fault),
     };

@@ -1,5 +1,5 @@
 -- The slices of a sequence as a loop makes them.
-use Rattle.std.proofs.Common.{◌≡◌, List, [], ◌∷◌, ◌++◌, Bool, true, false, Option, Some, None, refl, sym, ap, ◌∙◌, arith, append_assoc, option_map}
+use Rattle.std.proofs.Common.{◌≡◌, List, [], ◌∷◌, ◌++◌, Bool, true, false, Option, Some, None, refl, ap, ◌∙◌, arith, append_assoc, option_map}
 use Rattle.mob_ratio.specs.Ratio.{Ratio}
 use Rattle.mob_ratio.specs.Order.{before}
 use Rattle.mob_ratio.proofs.Order.{before-self}
@@ -36,7 +36,5 @@ module _ {C B : Type 0} (course : CourseOf C B) (step : Bool) where
       regroup (Some slices) = ap (λ (x : List (Slice C)). Some x) (append_assoc front (stretch course step lower i j ∷ []) slices)
 
   -- the last slice
-  pub made_ends : (slices pushed : List (Slice C)) (level included upper : Bool) (last : Written B) (rest : List (Written B)) (total : Option (List (Slice C))) → with_list slices (made course step level included (last ∷ rest) upper) ≡ total → rest ≡ [] → upper ≡ true → included ≡ true → pushed ≡ slices ++ instant_slice course included last ∷ [] → Some pushed ≡ total
-  made_ends slices pushed level included upper last rest total h none u k e =
-      let ends : with_list slices (made course step level included (last ∷ rest) upper) ≡ Some (slices ++ instant_slice course included last ∷ []) = rw (none, u, k) refl in
-      ap (λ (x : List (Slice C)). Some x) e ∙ sym ends ∙ h
+  pub made_ends : (slices pushed : List (Slice C)) (level included upper : Bool) (last : Written B) → upper ≡ true → included ≡ true → pushed ≡ slices ++ instant_slice course included last ∷ [] → Some pushed ≡ with_list slices (made course step level included (last ∷ []) upper)
+  made_ends slices pushed level included upper last u k e = ap (λ (x : List (Slice C)). Some x) e ∙ rw (u, k) refl

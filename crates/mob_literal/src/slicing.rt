@@ -1,5 +1,5 @@
 //! The slices of a sequence.
-ghost use Rattle.std.specs.Prelude.{◌≡◌, IfOk, option_map, cond, true, false};
+ghost use Rattle.std.specs.Prelude.{◌≡◌, ◌++◌, ◌∷◌, [], Bool, IfOk, option_map, cond, true, false};
 ghost use Rattle.mob_slice.specs.CourseOf.{course_of};
 ghost use Rattle.mob_literal.specs.Slices.{made};
 
@@ -41,6 +41,24 @@ where
         last = next;
         included = true;
     }
+    closed(alloc, slices, level, included, last, upper_inc)
+}
+
+/// The slices up to the last written instant, with one for that instant where the sequence has its
+/// upper end. None exactly where the sequence is not sound. `level` tells whether the last of the
+/// slices ends with the value of that instant, `included` whether the one for it may include it.
+fn closed<C: Course + Drop>(
+    alloc: Global,
+    slices: Vec<Slice<C>>,
+    level: bool,
+    included: bool,
+    last: Written<C::Base>,
+    upper_inc: bool,
+) -> Result<Option<Vec<Slice<C>>>, AllocError>
+where
+    C::Base: BaseValue + Drop,
+    ensures made { IfOk result (λ o. (step : Bool) → option_map (λ all. all.items) o ≡ option_map (λ more. slices.items ++ more) (made (course_of C.Course C.Base.is_same) step level included (last ∷ []) upper_inc)) }
+{
     if !upper_inc {
         if level {
             return Ok(Some(slices));
@@ -51,8 +69,9 @@ where
         return Ok(None);
     };
     let course = alone::<C>(alloc, last)?;
-    slices.push(Slice { span, course })?;
-    Ok(Some(slices))
+    let mut all = slices;
+    all.push(Slice { span, course })?;
+    Ok(Some(all))
 }
 
 /// Whether the course from a value to the next one ends with that.

@@ -189,6 +189,7 @@ impl<T> RowsLeft<T> {
         T: Drop,
         ensures row { IfOk result (λ next. IfSome next (λ row. self.old ≡ row ∷ self.new)) }
         ensures none { IfOk result (λ next. IsNone next → self.old ≡ []) }
+        ensures ended { IfOk result (λ next. IsNone next → self.new ≡ []) }
     {
         let Some(end) = self.ends.pop_front() else {
             return Ok(None);

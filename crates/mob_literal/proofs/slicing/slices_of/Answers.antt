@@ -1,10 +1,11 @@
-use Rattle.std.proofs.Common.{refl, sym, ◌∙◌, rules, false}
+use Rattle.std.proofs.Common.{refl, sym, ◌∙◌, rules}
 use Rattle.std.proofs.lemmas.List.{nil_from_length}
+use Rattle.std.proofs.lemmas.Result.{IfOk-weaker}
 use Rattle.std.specs.Vec.Iter.{into_iter_items}
 use Rattle.mob_normal.proofs.Runs.{counted_down}
 use Rattle.mob_slice.specs.CourseOf.{course_of}
 use Rattle.mob_literal.specs.Slices.{made}
-use Rattle.mob_literal.proofs.Made.{made_begins, made_more, made_ends, opens_before, point_included}
+use Rattle.mob_literal.proofs.Made.{made_begins, made_more, opens_before}
 use Rattle.mob_literal.proofs.slicing.slices_of.Goals as goal
 
 pub loop-next-init : goal.loop-next-init
@@ -29,7 +30,4 @@ loop-next-preserved g c =
 pub returns : goal.returns
 returns g c =
     let none = nil_from_length (into_iter_items c.loop-next.next-iterator) (sym c.loop-next.invariant.counted ∙ c.in-None.ensures.steps.0) in
-    let included = point_included c.loop-next.included c.loop-next.last.instant (rw c.in-Some-new-2.ensures.ends at c.in-Some-new-2.ensures.test) in
-    record {
-      made = made_ends (course_of g.C.Course g.C.Base.BaseValue.is_same) c.args.step c.loop-next.slices.items c.push-2.new.self.items c.loop-next.level c.loop-next.included c.args.upper_inc c.loop-next.last (into_iter_items c.loop-next.next-iterator) (made (course_of g.C.Course g.C.Base.BaseValue.is_same) c.args.step false c.args.lower_inc c.args.instants.items c.args.upper_inc) c.loop-next.invariant.together none (search rules) included (rw (c.in_ok-push-2.ensures.items, c.in_ok-course-2.ensures.made, c.in-Some-new-2.ensures.ends) refl);
-    }
+    record { made = IfOk-weaker c.closed.result _ _ (λ o h. h c.args.step ∙ (rw none at c.loop-next.invariant.together)) c.closed.ensures.made }
