@@ -12,5 +12,6 @@ pub mod OneSplit
 pub mod Parts
 pub mod Ranges
 pub mod Roots
+pub mod SharedTiles
 pub mod TileOrder
 pub mod Walking

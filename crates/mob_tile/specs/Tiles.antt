@@ -1,6 +1,6 @@
 -- Tiles of space and time, and the tiles that a box reaches.
-use Rattle.std.specs.Prelude.{◌≡◌, Bool, ◌&&◌, ℤ, pos, ◌+ℤ◌, ◌-ℤ◌, ◌*ℤ◌, ◌≤ℤ◌, ◌<ℤ◌, List, [], ◌∷◌, Some}
-use Rattle.std.specs.Ordering.{int_cmp, ordering_then}
+use Rattle.std.specs.Prelude.{◌≡◌, Bool, false, cond, ◌&&◌, ℤ, int_lt, pos, ◌+ℤ◌, ◌-ℤ◌, ◌*ℤ◌, ◌≤ℤ◌, ◌<ℤ◌, List, [], ◌∷◌, Some}
+use Rattle.std.specs.Ordering.{int_cmp, is_eq, is_gt, ordering_then}
 use Rattle.std.specs.declared.cmp.Ordering.{Ordering}
 use Rattle.mob_ratio.specs.Ratio.{Ratio, ◌/ℚ◌, ◌<ℚ◌}
 use Rattle.mob_ratio.specs.Sign.{nil}
@@ -86,3 +86,21 @@ pub record IsRange (r : TileRange) : Type 0 where
 -- the range has more than 10,000 tiles
 abbrev pub HasMany : TileRange → Type 0
 HasMany r = pos 10000 <ℤ tiles_in r
+
+-- ---- the tiles that two ranges share
+
+abbrev pub greater_number : ℤ → ℤ → ℤ
+greater_number a b = cond (int_lt a b) b a
+
+-- where two ranges share a tile, this one is the least of those that they share
+abbrev pub least_shared : TileRange → TileRange → Tile
+least_shared r s = record { i = greater_number r.low.i s.low.i; j = greater_number r.low.j s.low.j; k = greater_number r.low.k s.low.k }
+
+abbrev pub is_least_shared : Tile → TileRange → TileRange → Bool
+is_least_shared a r s = is_eq (compare_tiles a (least_shared r s))
+
+-- a stands in both ranges, and no tile that does comes before it
+pub record IsLeastShared (r s : TileRange) (a : Tile) : Type 0 where
+  pub first : InRange r a
+  pub second : InRange s a
+  pub least : (b : Tile) → InRange r b → InRange s b → is_gt (compare_tiles a b) ≡ false

@@ -1,4 +1,4 @@
-//! What holds of every grid and of every split. No code runs here.
+//! What holds of every grid, range and split. No code runs here.
 ghost use Rattle.std.specs.Prelude.{◌≡◌, ◌≢◌, ◌↔◌, true, Some, List, Ok, Err};
 ghost use Rattle.std.specs.List.{AllByRecursion};
 ghost use Rattle.mob_ratio.specs.Ratio.{Ratio};
@@ -10,11 +10,12 @@ ghost use Rattle.mob_slice.specs.Slices.{value_at};
 ghost use Rattle.mob_slice.specs.Lines.{plane_value_of};
 ghost use Rattle.mob_slice.specs.declared.slice.Slice.{Slice};
 ghost use Rattle.mob_slice.specs.declared.line.PlaneLine.{PlaneLine};
-ghost use Rattle.mob_tile.specs.Tiles.{GridOf, IsGrid, InTile, in_tile, tile_of, InRange, range_of};
+ghost use Rattle.mob_tile.specs.Tiles.{GridOf, IsGrid, InTile, in_tile, tile_of, InRange, range_of, IsLeastShared, least_shared};
 ghost use Rattle.mob_tile.specs.Split.{IsSplit, HasPartAt, OnRange, SplitAnswer};
 ghost use Rattle.mob_tile.specs.declared.splitting.SplitFault.{SplitFault};
 ghost use Rattle.mob_tile.specs.declared.splitting.SplitFault.TheVariants.{NoMemory};
 ghost use Rattle.mob_tile.specs.declared.tile.Tile.{Tile as TileOf};
+ghost use Rattle.mob_tile.specs.declared.tile.TileRange.{TileRange};
 
 /// Each point is at each instant in exactly one tile, and the test of membership says what it
 /// means.
@@ -27,6 +28,12 @@ pub fn one_tile()
 /// That tile is in the range of each rectangle and span that have the point and the instant.
 pub fn boxes_reach_their_tiles()
     ensures reach { (g : GridOf) (a : Area) (s : SpanOf) (t : Ratio) (p : Point) → IsGrid g → InArea a p → InSpan s t → InRange (range_of g a s) (tile_of g t p) }
+{}
+
+/// Two ranges that share a tile have one least tile that they share.
+pub fn one_least_shared_tile()
+    ensures least { (r s : TileRange) (tile : TileOf) → InRange r tile → InRange s tile → IsLeastShared r s (least_shared r s) }
+    ensures one { (r s : TileRange) (a b : TileOf) → IsLeastShared r s a → IsLeastShared r s b → a ≡ b }
 {}
 
 /// At each instant of a value one part of its split is defined, that of the tile in which the value

@@ -1,6 +1,6 @@
 //! Tiles, by their three numbers.
 ghost use Rattle.std.specs.Prelude.{◌≡◌, ◌↔◌, pos, true, false, ◌<ℤ◌, ◌≤ℤ◌, ◌*ℤ◌, ℤ, nat_abs, ◌<◌, ◌^◌};
-ghost use Rattle.mob_tile.specs.Tiles.{compare_tiles, compare_later, side_of, HasMany, IsRange};
+ghost use Rattle.mob_tile.specs.Tiles.{compare_tiles, compare_later, greater_number, least_shared, is_least_shared, side_of, HasMany, IsRange};
 
 use std::cmp::Ordering;
 
@@ -101,6 +101,15 @@ fn are_many(i: i128, j: i128, k: i128) -> bool
     is_large(volume(area(i, j), k))
 }
 
+fn greater(a: i64, b: i64) -> i64
+    ensures value { result ≡ greater_number a b }
+{
+    if a < b {
+        return b;
+    }
+    a
+}
+
 impl TileRange {
     /// Whether the range has more than 10,000 tiles.
     pub fn has_many(&self) -> bool
@@ -111,5 +120,23 @@ impl TileRange {
         let by_j = side(self.low.j, self.high.j);
         let by_k = side(self.low.k, self.high.k);
         are_many(by_i, by_j, by_k)
+    }
+
+    // The least tile that the two share, if they share one.
+    fn least_shared(&self, other: &TileRange) -> Tile
+        ensures value { result ≡ least_shared self.now other.now }
+    {
+        Tile {
+            i: greater(self.low.i, other.low.i),
+            j: greater(self.low.j, other.low.j),
+            k: greater(self.low.k, other.low.k),
+        }
+    }
+
+    /// Whether a tile is the least that the two share, if they share one.
+    pub fn is_least_shared(&self, other: &TileRange, tile: &Tile) -> bool
+        ensures value { result ≡ is_least_shared tile.now self.now other.now }
+    {
+        tile.compare(&self.least_shared(other)) == Ordering::Equal
     }
 }
