@@ -1,5 +1,5 @@
 // Work divided into pieces, which threads take one after another.
-ghost use Rattle.std.specs.Prelude.{◌≡◌, ◌+◌, ◌≤◌, ◌++◌, IfOk};
+ghost use Rattle.std.specs.Prelude.{◌≡◌, ◌+◌, ◌<◌, ◌≤◌, ◌++◌, IfOk};
 ghost use Rattle.std.specs.Thread.{IsSend, IsSync};
 ghost use Rattle.mob_fan.specs.Outcomes.{outcome_seen};
 ghost use Rattle.mob_fan.specs.Pieces.{ArePieces};
@@ -81,6 +81,19 @@ fn divided<R: Threads + Sync, W: Work, G: Gate>(
     outcome_of(alloc, work, len, done)
 }
 
+// The pieces of one worker.
+fn alone<R: Threads + Sync, W: Work, G: Gate>(
+    alloc: Global,
+    crew: &Crew<'_, R, W, G>,
+    number: usize,
+) -> Result<Vec<Piece<W::Item, W::Fault>>, AllocError>
+    requires size { crew.now.len ≡ W.size_of crew.now.work.now }
+    ensures pieces { IfOk result (λ v. ArePieces W.size_of W.comes crew.now.work.now v.items) }
+{
+    crew.gate.enter(number);
+    taken(alloc, crew.work, crew.cuts, crew.len, crew.next)
+}
+
 // The pieces of `count` workers, of which `first` is the number of the first one.
 #[cycle(pieces)]
 fn pieces<R: Threads + Sync, W: Work, G: Gate>(
@@ -95,48 +108,39 @@ fn pieces<R: Threads + Sync, W: Work, G: Gate>(
     ensures pieces { IfOk result (λ v. ArePieces W.size_of W.comes crew.now.work.now v.items) }
 {
     if count == 1 {
-        crew.gate.enter(first);
-        return taken(alloc, crew.work, crew.cuts, crew.len, crew.next);
+        return alone(alloc, crew, first);
     }
-    let low = count / 2;
-    halves(alloc, crew, first, low, count - low)
+    beside(alloc, crew, first, count - 1)
 }
 
-// The pieces of `low` workers from the number `first` on, and of `high` behind them. The two run
-// side by side.
+// The pieces of the worker of this number, in a thread of its own, and of `others` behind it, which
+// this thread starts meanwhile: none of them waits until another thread runs.
 #[cycle(pieces)]
-fn halves<R: Threads + Sync, W: Work, G: Gate>(
+fn beside<R: Threads + Sync, W: Work, G: Gate>(
     alloc: Global,
     crew: &Crew<'_, R, W, G>,
-    first: usize,
-    low: usize,
-    high: usize,
+    number: usize,
+    others: usize,
 ) -> Result<Vec<Piece<W::Item, W::Fault>>, AllocError>
     requires size { crew.now.len ≡ W.size_of crew.now.work.now }
-    requires low { 1 ≤ low }
-    requires high { 1 ≤ high }
-    requires few { first + low + high ≤ 64 }
+    requires some { 1 ≤ others }
+    requires few { number + others < 64 }
     ensures pieces { IfOk result (λ v. ArePieces W.size_of W.comes crew.now.work.now v.items) }
 {
-    let middle = first + low;
-    let front = move || -> Result<Vec<Piece<W::Item, W::Fault>>, AllocError>
+    let one = move || -> Result<Vec<Piece<W::Item, W::Fault>>, AllocError>
         requires shared { IsSync R.row × IsSync W.row × IsSync G.row }
         requires sent { IsSend W.Item.row × IsSend W.Fault.row }
         requires size { crew.now.len ≡ W.size_of crew.now.work.now }
-        requires some { 1 ≤ low }
-        requires few { first + low ≤ 64 }
         ensures pieces { IfOk result (λ v. ArePieces W.size_of W.comes crew.entry.now.work.now v.items) }
-    { pieces(alloc, crew, first, low) };
-    let back = move || -> Result<Vec<Piece<W::Item, W::Fault>>, AllocError>
-        requires shared { IsSync R.row × IsSync W.row × IsSync G.row }
-        requires sent { IsSend W.Item.row × IsSend W.Fault.row }
+    { alone(alloc, crew, number) };
+    let rest = move || -> Result<Vec<Piece<W::Item, W::Fault>>, AllocError>
         requires size { crew.now.len ≡ W.size_of crew.now.work.now }
-        requires some { 1 ≤ high }
-        requires few { middle + high ≤ 64 }
+        requires some { 1 ≤ others }
+        requires few { number + others < 64 }
         ensures pieces { IfOk result (λ v. ArePieces W.size_of W.comes crew.entry.now.work.now v.items) }
-    { pieces(alloc, crew, middle, high) };
-    let (left, right) = join(crew.rt, front, back);
-    both_lists(left?, right?)
+    { pieces(alloc, crew, number + 1, others) };
+    let (done, more) = join(crew.rt, one, rest);
+    both_lists(more?, done?)
 }
 
 // Two lists of pieces as one.

@@ -1,15 +1,12 @@
--- Two halves come before all of them, and a closure with the call on one half before the two.
+-- A call on the other workers comes before one on all, and the closure with it before the two.
 use Rattle.std.proofs.Common.{◌+◌, ◌*◌}
 use Rattle.mob_fan.proofs.dividing.+pieces.Given as goal
 
 abbrev pub decreases-pieces : goal.decreases-pieces
-decreases-pieces g l = 3 * l.count + 2
+decreases-pieces g l = 3 * l.count
 
-abbrev pub decreases-halves : goal.decreases-halves
-decreases-halves g l = 3 * (l.low + l.high) + 1
+abbrev pub decreases-beside : goal.decreases-beside
+decreases-beside g l = 3 * l.others + 2
 
-abbrev pub decreases-halves-front : goal.decreases-halves-front
-decreases-halves-front g l = 3 * l.low + 3
-
-abbrev pub decreases-halves-back : goal.decreases-halves-back
-decreases-halves-back g l = 3 * l.high + 3
+abbrev pub decreases-beside-rest : goal.decreases-beside-rest
+decreases-beside-rest g l = 3 * l.others + 1
