@@ -14,6 +14,20 @@ use std::marker::{Send, Sync};
 use std::sync::atomic::AtomicU64;
 use std::thread::{Threads, join};
 
+// The workers of one call: what they share.
+#[derive(Drop)]
+struct Crew<'a, R, W, G> {
+    rt: &'a R,
+    work: &'a W,
+    gate: &'a G,
+    // the places at which the work is cut
+    cuts: &'a [usize],
+    // how long it is
+    len: usize,
+    // the number of the first piece that nobody has taken
+    next: &'a AtomicU64,
+}
+
 /// The outcome of all of the work, by so many workers, but no more than there is work. Worker i
 /// passes the gate with its number before it begins. Each takes one piece after another, always the
 /// next that none has taken, so a worker that is slower takes fewer. Where no thread can be made
@@ -36,37 +50,6 @@ pub fn fan<R: Threads + Sync, W: Work, G: Gate>(
         gate.enter(0);
         return work.piece(alloc, 0, len);
     }
-    divided(rt, alloc, work, len, workers, gate)
-}
-
-// The workers of one call: what they share.
-#[derive(Drop)]
-struct Crew<'a, R, W, G> {
-    rt: &'a R,
-    work: &'a W,
-    gate: &'a G,
-    // the places at which the work is cut
-    cuts: &'a [usize],
-    // how long it is
-    len: usize,
-    // the number of the first piece that nobody has taken
-    next: &'a AtomicU64,
-}
-
-// The outcome of all of the work by some workers.
-fn divided<R: Threads + Sync, W: Work, G: Gate>(
-    rt: &R,
-    alloc: Global,
-    work: &W,
-    len: usize,
-    workers: usize,
-    gate: &G,
-) -> Result<Outcome<W::Item, W::Fault>, AllocError>
-    requires size { len ≡ W.size_of work.now }
-    requires some { 1 ≤ workers }
-    requires few { workers ≤ 64 }
-    ensures whole { IfOk result (λ o. W.comes work.now 0 len (outcome_seen o)) }
-{
     let cuts = work.cuts(alloc, len, workers)?;
     let next = AtomicU64::new(0);
     let crew = Crew {
