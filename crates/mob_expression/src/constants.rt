@@ -1,7 +1,7 @@
 //! Constants, and what else is settled before operands are looked at.
 ghost use Rattle.std.specs.Prelude.{◌≡◌, None, Some, option_map};
 ghost use Rattle.mob_ast.specs.Trees.{tree_of, trees_of};
-ghost use Rattle.mob_expression.specs.Answers.{TypesTo, refuse};
+ghost use Rattle.mob_expression.specs.Answers.{TypesTo};
 ghost use Rattle.mob_typed.specs.Trees.{typed, typed_of, none};
 ghost use Rattle.mob_expression.specs.Scopes.{scope_of};
 ghost use Rattle.mob_expression.specs.Expressions.{next_constant, constant, settled, typed_string, only, lone_string, cast_of_string, typed_before_operands};
