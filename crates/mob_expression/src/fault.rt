@@ -40,7 +40,7 @@ impl<T: Drop> From<AllocFailed<T>> for Fault {
     }
 }
 
-/// Refuses where the test holds.
+/// Refuses with this kind at this place where the test holds.
 pub fn unless(test: bool, kind: Kind, place: u32) -> Result<(), Fault>
     ensures refused { AnswersAs (λ u. u) result (unless test kind place) }
 {
