@@ -11,11 +11,10 @@ use Rattle.mob_slice.specs.declared.formula.OpFault.{OpFault}
 abbrev pub IsOutcome : {V : Type 0} → (V → Type 0) → (Option Formula → Type 0) → Result V OpFault → Type 0
 IsOutcome P first r = MatchResult r (λ v. P v × first None) (OnFormula (λ f. first (Some f)))
 
--- of the restrictions, atTime and its like keep what is asked for, and minusTime and its like the
--- rest
-abbrev pub keeps_asked : Op → Bool
-keeps_asked op.AtTime = true
-keeps_asked op.AtValues = true
-keeps_asked op.AtStbox = true
-keeps_asked op.AtGeometry = true
-keeps_asked _ = false
+-- whether what a restriction asks for is wanted, as by atTime, or the rest, as by minusTime
+abbrev pub wanted : Op → Bool
+wanted op.AtTime = true
+wanted op.AtValues = true
+wanted op.AtStbox = true
+wanted op.AtGeometry = true
+wanted _ = false

@@ -5,7 +5,7 @@ ghost use Rattle.mob_meaning.specs.Operators.{GivesOfOne, GivesOfTwo, GivesOfThr
 ghost use Rattle.mob_eval.specs.SoFar.{operand_types};
 ghost use Rattle.mob_slice.specs.Entries.{IsFirst};
 ghost use Rattle.mob_ordinary.specs.Held.{held};
-ghost use Rattle.mob_eval.specs.Outcomes.{IsOutcome, keeps_asked};
+ghost use Rattle.mob_eval.specs.Outcomes.{IsOutcome, wanted};
 
 mod arithmetic;
 mod asked;
@@ -87,9 +87,9 @@ pub fn of_one<'a>(
     }
 }
 
-// Whether a restriction keeps what is asked for, as atTime does, or the rest, as minusTime does.
-fn keeps_asked(op: Op) -> bool
-    ensures kept { result ≡ keeps_asked op }
+// Whether what a restriction asks for is wanted, as by atTime, or the rest, as by minusTime.
+fn wanted(op: Op) -> bool
+    ensures want { result ≡ wanted op }
 {
     matches!(op, Op::AtTime | Op::AtValues | Op::AtStbox | Op::AtGeometry)
 }
@@ -119,18 +119,13 @@ pub fn of_two(
         Op::Lifted(sign) => sign_test(alloc, Scope::Each, sign, meeting(args), left, right),
         Op::Ever(sign) => sign_test(alloc, Scope::Ever, sign, meeting(args), left, right),
         Op::Always(sign) => sign_test(alloc, Scope::Always, sign, meeting(args), left, right),
-        Op::AtTime | Op::MinusTime => restriction(alloc, keeps_asked(op), left, right),
-        Op::AtValues | Op::MinusValues => value_restriction(alloc, keeps_asked(op), left, right),
+        Op::AtTime | Op::MinusTime => restriction(alloc, wanted(op), left, right),
+        Op::AtValues | Op::MinusValues => value_restriction(alloc, wanted(op), left, right),
         Op::ValueAtTimestamp => look_up(alloc, left, right),
         Op::Overlap => Ok(overlap(left, right)),
         Op::ExpandSpace => expansion(alloc, left, right),
-        Op::AtStbox | Op::MinusStbox => box_restriction(alloc, keeps_asked(op), left, right),
-        Op::AtGeometry | Op::MinusGeometry => polygon_restriction(
-            alloc,
-            keeps_asked(op),
-            left,
-            right,
-        ),
+        Op::AtStbox | Op::MinusStbox => box_restriction(alloc, wanted(op), left, right),
+        Op::AtGeometry | Op::MinusGeometry => polygon_restriction(alloc, wanted(op), left, right),
         Op::EIntersects => intersects(alloc, left, right),
         Op::NearestApproachSquared => nearest_approach(alloc, left, right),
         _ => Ok(Value::Null),
