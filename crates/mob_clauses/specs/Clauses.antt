@@ -10,8 +10,13 @@ use Rattle.mob_expression.specs.Scopes.{ScopeParts}
 use Rattle.mob_clauses.specs.Conditions.{condition, typed_joins}
 use Rattle.mob_clauses.specs.Outputs.{ColumnNumbers, is_grouped, grouping, OutputLists, with_items, no_outputs}
 use Rattle.mob_clauses.specs.Keys.{with_groups, key_item, typed_keys, limit_of}
+use Rattle.mob_clauses.specs.declared.clauses.Tables.{Tables}
 use Rattle.mob_clauses.specs.declared.clauses.Conditions.{Conditions as ConditionsOf}
 use Rattle.mob_clauses.specs.declared.clauses.Order.{Order}
+
+-- the tables of FROM, with the names that they go by there
+abbrev pub scope_tables : ScopeParts → Tables
+scope_tables scope = record { numbers = map (λ t. t.1.table) scope.from; names = map (λ t. t.0) scope.from }
 
 -- ON of each table, and WHERE
 pub record ConditionParts : Type 0 where
@@ -32,12 +37,12 @@ abbrev pub typed_order : ScopeParts → Option (List ColumnNumbers) → OutputLi
 typed_order scope g o s cs = with_groups scope [] s.groups >>= λ gs. typed_keys scope g o s.keys cs >>= λ k. limit_of s.limit >>= λ l. Ok (record { groups = gs; keys = k.0; key_items = map (key_item o) s.keys; limit = l }, k.1)
 
 -- what the clauses make together
-abbrev pub select_made : ScopeParts → SelectParts → Bool → OutputLists → ConditionParts → OrderParts → TypedSelectParts
-select_made scope s grouped o c r = record {
+abbrev pub select_made : Tables → SelectParts → Bool → OutputLists → ConditionParts → OrderParts → TypedSelectParts
+select_made t s grouped o c r = record {
   distinct = s.distinct;
   items = o.columns;
-  from = map (λ t. t.1.table) scope.from;
-  names = map (λ t. t.0) scope.from;
+  from = t.numbers;
+  names = t.names;
   joins = c.joins;
   cond = c.cond;
   grouped = grouped;
@@ -54,7 +59,7 @@ typed_clauses scope s cs = do
   o ← with_items scope (grouping (is_grouped s) scope s.groups) no_outputs s.items cs
   c ← typed_conditions scope s o.1
   r ← typed_order scope (grouping (is_grouped s) scope s.groups) o.0 s c.1
-  Ok (select_made scope s (is_grouped s) o.0 c.0 r.0, r.1)
+  Ok (select_made (scope_tables scope) s (is_grouped s) o.0 c.0 r.0, r.1)
 
 -- A DELETE is typed as the SELECT of one table with its condition and no item.
 abbrev pub rows_to_go : Word → Option Tree → SelectParts

@@ -6,7 +6,7 @@ ghost use Rattle.mob_expression.specs.Answers.{TypesTo};
 ghost use Rattle.mob_expression.specs.Scopes.{scope_of};
 ghost use Rattle.mob_typed.specs.Selects.{select_seen};
 ghost use Rattle.mob_clauses.specs.Outputs.{outputs_seen};
-ghost use Rattle.mob_clauses.specs.Clauses.{typed_conditions, conditions_seen, typed_order, order_seen, rows_to_go, select_made, typed_clauses};
+ghost use Rattle.mob_clauses.specs.Clauses.{scope_tables, typed_conditions, conditions_seen, typed_order, order_seen, rows_to_go, select_made, typed_clauses};
 
 use crate::conditions::{condition, typed_joins};
 use crate::groups::{grouping, is_grouped};
@@ -17,8 +17,18 @@ use mob_ast::{Expr, SelectTree};
 use mob_expression::fault::Fault;
 use mob_expression::scope::Scope;
 use mob_list::items::Items;
+use mob_list::text::Text;
 use mob_typed::{ConstText, TExpr, TypedSelect};
 use std::alloc::{AllocError, Global};
+
+/// The tables of FROM of a SELECT.
+#[derive(Drop)]
+pub struct Tables {
+    /// Their numbers.
+    pub numbers: Items<u32>,
+    /// The names that they go by.
+    pub names: Items<Text>,
+}
 
 /// The conditions of a SELECT.
 #[derive(Drop)]
@@ -40,6 +50,15 @@ pub struct Order {
     pub key_items: Items<Option<u32>>,
     /// The number of LIMIT.
     pub limit: Option<u64>,
+}
+
+// The tables of FROM, with the names that they go by there.
+fn scope_tables(alloc: Global, scope: &Scope<'_>) -> Result<Tables, AllocError>
+    ensures tables { IfOk result (λ t. t ≡ scope_tables (scope_of scope.now)) }
+{
+    let numbers = table_numbers(alloc, scope.from)?;
+    let names = table_names(alloc, scope.from)?;
+    Ok(Tables { numbers, names })
 }
 
 // ON of each table, and WHERE.
@@ -88,18 +107,16 @@ fn typed_order(
 
 // The typed SELECT that the clauses make together.
 fn select_made(
-    alloc: Global,
-    scope: &Scope<'_>,
     select: &SelectTree,
     grouped: bool,
+    tables: Tables,
     outputs: Outputs<'_>,
     conditions: Conditions,
     order: Order,
-) -> Result<TypedSelect, AllocError>
-    ensures whole { IfOk result (λ s. select_seen s ≡ select_made (scope_of scope.now) (select_of select.now) grouped (outputs_seen outputs.entry) (conditions_seen conditions) (order_seen order)) }
+) -> TypedSelect
+    ensures whole { select_seen result ≡ select_made tables (select_of select.now) grouped (outputs_seen outputs.entry) (conditions_seen conditions) (order_seen order) }
 {
-    let from = table_numbers(alloc, scope.from)?;
-    let names = table_names(alloc, scope.from)?;
+    let Tables { numbers, names } = tables;
     let Outputs {
         columns,
         aggs,
@@ -112,10 +129,10 @@ fn select_made(
         key_items,
         limit,
     } = order;
-    Ok(TypedSelect {
+    TypedSelect {
         distinct: select.distinct,
         items: Items::from_vec(columns),
-        from,
+        from: numbers,
         names,
         joins,
         cond,
@@ -125,7 +142,7 @@ fn select_made(
         keys,
         key_items,
         limit,
-    })
+    }
 }
 
 /// Types a SELECT over its tables of FROM. Clauses are typed in written order: the select list, ON,
@@ -143,7 +160,8 @@ pub fn typed_clauses(
     let outputs = outputs_of(alloc, scope, &grouping, consts, select.items.as_slice())?;
     let conditions = typed_conditions(alloc, scope, consts, select)?;
     let order = typed_order(alloc, scope, &grouping, consts, &outputs, select)?;
-    Ok(select_made(alloc, scope, select, grouped, outputs, conditions, order)?)
+    let tables = scope_tables(alloc, scope)?;
+    Ok(select_made(select, grouped, tables, outputs, conditions, order))
 }
 
 /// Types a DELETE over its table: a SELECT with its condition and no column of an answer. Returns
@@ -158,13 +176,12 @@ pub fn clauses_to_go(
 {
     let mut joins = Items::new(alloc);
     joins.push(None)?;
-    let from = table_numbers(alloc, scope.from)?;
-    let names = table_names(alloc, scope.from)?;
+    let Tables { numbers, names } = scope_tables(alloc, scope)?;
     let cond = condition(alloc, scope, consts, cond)?;
     Ok(TypedSelect {
         distinct: false,
         items: Items::new(alloc),
-        from,
+        from: numbers,
         names,
         joins,
         cond,

@@ -14,15 +14,14 @@ use crate::groups::is_ungrouped;
 use crate::outputs::Outputs;
 use mob_ast::{Expr, Key, Kind, Node, SqlType, Word};
 use mob_expression::columns::column_named;
-use mob_expression::constants::leaf;
+use mob_expression::constants::column_leaf;
 use mob_expression::expression::type_expr;
-use mob_expression::fault::Fault;
+use mob_expression::fault::{Fault, unless};
 use mob_expression::operators::type_of;
 use mob_expression::scope::{Found, Scope, number};
 use mob_expression::words::has_digits_alone;
 use mob_list::items::Items;
 use mob_list::text::Text;
-use mob_operators::Op;
 use mob_typed::{Agg, ConstText, TExpr, copy_of};
 use std::alloc::Global;
 
@@ -39,17 +38,8 @@ fn is_key(ty: SqlType) -> bool
 fn group_of(alloc: Global, place: u32, found: Found) -> Result<TExpr, Fault>
     ensures judged { AnswersAs typed_of result (group_of place found) }
 {
-    if !is_key(found.ty) {
-        return Err(Fault::Wrong {
-            kind: Kind::NoSuchOperator,
-            place,
-        });
-    }
-    let op = Op::Column {
-        from: found.from,
-        column: found.column,
-    };
-    Ok(leaf(alloc, op, found.ty, place))
+    unless(!is_key(found.ty), Kind::NoSuchOperator, place)?;
+    Ok(column_leaf(alloc, found, place))
 }
 
 // A column of GROUP BY.
@@ -212,12 +202,7 @@ fn key_value(
     let Some((_, (value, ty))) = aliased(outputs, e) else {
         return plain_key(alloc, scope, groups, consts, e);
     };
-    if !is_key(ty) {
-        return Err(Fault::Wrong {
-            kind: Kind::NoSuchOperator,
-            place: tree_place(e),
-        });
-    }
+    unless(!is_key(ty), Kind::NoSuchOperator, tree_place(e))?;
     Ok(copy_of(alloc, value)?)
 }
 

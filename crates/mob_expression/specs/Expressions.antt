@@ -26,9 +26,13 @@ use Rattle.mob_expression.specs.Scopes.{ScopeTableParts, ScopeParts}
 use Rattle.mob_expression.specs.declared.scope.Found.{Found}
 use Rattle.mob_expression.specs.Words.{type_named, literal_type, number_type, is_zero}
 
--- a constant of this type and text takes the next number
+-- a constant of this type and text, of the statement of number n, takes the next number
+abbrev pub next_constant : ℕ → SqlType → List ℕ → ℕ → TypingStep ℕ
+next_constant n ty text p cs = Ok (length cs, cs ++ record { ty = ty; text = text; statement = n; place = p } ∷ [])
+
+-- the typed expression of the next constant
 abbrev pub constant : ScopeParts → SqlType → List ℕ → ℕ → TypingStep TypedTree
-constant s ty text p cs = Ok (typed (op.Const (length cs)) ty p none, cs ++ record { ty = ty; text = text; statement = s.statement; place = p } ∷ [])
+constant s ty text p cs = next_constant s.statement ty text p cs >>= λ r. Ok (typed (op.Const r.0) ty p none, r.1)
 
 abbrev pub with_first : Option (ℕ × SqlType) → ℕ → List Found → List Found
 with_first None n others = others

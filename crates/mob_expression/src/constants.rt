@@ -1,14 +1,14 @@
 //! Constants, and what else is settled before operands are looked at.
 ghost use Rattle.std.specs.Prelude.{◌≡◌, None, Some, option_map};
 ghost use Rattle.mob_ast.specs.Trees.{tree_of, trees_of};
-ghost use Rattle.mob_expression.specs.Answers.{TypesTo, refuse};
+ghost use Rattle.mob_expression.specs.Answers.{TypesTo};
 ghost use Rattle.mob_typed.specs.Trees.{typed, typed_of, none};
 ghost use Rattle.mob_expression.specs.Scopes.{scope_of};
-ghost use Rattle.mob_expression.specs.Expressions.{constant, settled, typed_string, only, lone_string, cast_of_string, typed_before_operands};
+ghost use Rattle.mob_expression.specs.Expressions.{next_constant, constant, settled, typed_string, only, lone_string, cast_of_string, typed_before_operands};
 
 use crate::columns::column_named;
-use crate::fault::Fault;
-use crate::scope::{Scope, number};
+use crate::fault::{Fault, unless};
+use crate::scope::{Found, Scope, number};
 use crate::words::{literal_type, number_type, type_named};
 use mob_ast::{Expr, Kind, Node, SqlType, TypeWord};
 use mob_list::items::Items;
@@ -24,7 +24,41 @@ pub fn leaf(alloc: Global, op: Op, ty: SqlType, place: u32) -> TExpr
     with_args(op, ty, place, Vec::new(alloc))
 }
 
-// A constant of this type and text, which takes the next number.
+/// The typed expression of a column that a name stands for.
+pub fn column_leaf(alloc: Global, found: Found, place: u32) -> TExpr
+    ensures tree { typed_of result ≡ typed (Op.Column found.from found.column) found.ty place none }
+{
+    let op = Op::Column {
+        from: found.from,
+        column: found.column,
+    };
+    leaf(alloc, op, found.ty, place)
+}
+
+/// Adds a constant of this type and text, of the statement of this number. Returns the constant's
+/// number.
+pub fn next_constant(
+    alloc: Global,
+    statement: u32,
+    consts: &mut Items<ConstText>,
+    ty: SqlType,
+    text: &str,
+    place: u32,
+) -> Result<u32, Fault>
+    ensures next { TypesTo (λ n. n) result consts.new (next_constant statement ty text.now place consts.old) }
+{
+    let index = number(consts.len())?;
+    let text = Text::from_string(String::from_str(alloc, text)?);
+    consts.push(ConstText {
+        ty,
+        text,
+        statement,
+        place,
+    })?;
+    Ok(index)
+}
+
+// The typed expression of a constant of this type and text, which takes the next number.
 fn constant(
     alloc: Global,
     scope: &Scope<'_>,
@@ -35,14 +69,7 @@ fn constant(
 ) -> Result<TExpr, Fault>
     ensures next { TypesTo typed_of result consts.new (constant (scope_of scope.now) ty text.now place consts.old) }
 {
-    let index = number(consts.len())?;
-    let text = Text::from_string(String::from_str(alloc, text)?);
-    consts.push(ConstText {
-        ty,
-        text,
-        statement: scope.statement,
-        place,
-    })?;
+    let index = next_constant(alloc, scope.statement, consts, ty, text, place)?;
     Ok(leaf(alloc, Op::Const(index), ty, place))
 }
 
@@ -157,19 +184,11 @@ pub(crate) fn typed_before_operands(
         }
         Node::Column { table, column } => {
             let found = column_named(scope, table, column)?;
-            let op = Op::Column {
-                from: found.from,
-                column: found.column,
-            };
-            Ok(Some(leaf(alloc, op, found.ty, place)))
+            Ok(Some(column_leaf(alloc, found, place)))
         }
         Node::Call(name) => {
-            if is_irrational(Form::Call, name.as_str()) {
-                return Err(Fault::Wrong {
-                    kind: Kind::Irrational,
-                    place,
-                });
-            }
+            let irrational = is_irrational(Form::Call, name.as_str());
+            unless(irrational, Kind::Irrational, place)?;
             Ok(None)
         }
         Node::Cast(word) => cast_of_string(alloc, scope, consts, word, place, args),

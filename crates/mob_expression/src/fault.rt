@@ -1,4 +1,5 @@
 //! Why typing stops.
+ghost use Rattle.mob_expression.specs.Answers.{AnswersAs, unless};
 
 use mob_ast::Kind;
 use std::alloc::{AllocError, AllocFailed};
@@ -37,4 +38,14 @@ impl<T: Drop> From<AllocFailed<T>> for Fault {
     fn from(_: AllocFailed<T>) -> Fault {
         Fault::NoMemory
     }
+}
+
+/// Refuses with this kind at this place where the test holds.
+pub fn unless(test: bool, kind: Kind, place: u32) -> Result<(), Fault>
+    ensures refused { AnswersAs (λ u. u) result (unless test kind place) }
+{
+    if test {
+        return Err(Fault::Wrong { kind, place });
+    }
+    Ok(())
 }

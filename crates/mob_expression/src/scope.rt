@@ -1,5 +1,5 @@
 //! What an expression sees: tables of FROM and their columns.
-ghost use Rattle.std.specs.Prelude.{◌≡◌, Ok};
+ghost use Rattle.std.specs.Prelude.{Ok};
 ghost use Rattle.mob_expression.specs.Answers.{AnswersAs};
 
 use crate::column_list::Columns;

@@ -4,7 +4,7 @@ ghost use Rattle.std.specs.List.{list_all};
 ghost use Rattle.std.specs.Char.{is_ascii_digit};
 ghost use Rattle.mob_language.specs.Language.{is_blank};
 ghost use Rattle.mob_language.specs.NonZero.{has_figure};
-ghost use Rattle.mob_expression.specs.Words.{type_among, type_words, geometry_words, type_named, number_type, is_zero, skip_blanks, begins_with_word, skip_digits, after_srid, after_digits, after_semicolon, is_polygon, geometry_type, literal_type};
+ghost use Rattle.mob_expression.specs.Words.{type_among, type_words, geometry_words, type_named, number_type, is_zero, skip_blanks, begins_with_word, skip_digits, after_srid, after_digits, is_polygon, geometry_type, literal_type};
 
 use mob_ast::{SqlType, TypeWord};
 

@@ -35,7 +35,7 @@ fn end_of(refusal: Refusal) -> LoadEnd
     }
 }
 
-// Reads a literal.
+// Reads a literal, and adds its value to those so far.
 fn read_literal(
     alloc: Global,
     loading: &mut Loading<'_>,
@@ -55,7 +55,7 @@ fn read_literal(
     }
 }
 
-// Makes a table.
+// Adds a table of these columns, which has no row yet.
 fn make_table<'a>(loading: &mut Loading<'a>, columns: &'a [(Text, SqlType)]) -> Result<(), LoadEnd>
     ensures made { OnOk result (loaded_of loading.new ≡ with_made_table (loaded_of loading.old) columns.now) }
     ensures memory { IfErr result (λ e. e ≡ NoMemory) }
@@ -86,7 +86,7 @@ fn add_rows(rows: &mut Vec<u32>, table: u32, count: u32)
     }
 }
 
-// Makes room for a row of an INSERT.
+// Counts a row of an INSERT. It is refused where its table is full.
 fn take_row(
     loading: &mut Loading<'_>,
     table: u32,
@@ -153,7 +153,7 @@ fn put_rows(loading: &mut Loading<'_>, table: u32, rows: Rows<Value>) -> Result<
     Ok(())
 }
 
-// Makes rows of the bytes of a file.
+// Reads the bytes of a file as rows, and puts them into the table of this number.
 fn load_bytes(
     alloc: Global,
     loading: &mut Loading<'_>,
@@ -182,7 +182,7 @@ fn load_bytes(
     }
 }
 
-// Loads a file.
+// Reads a file, and puts its rows into the table of this number.
 fn load_file<F: Files>(
     alloc: Global,
     loading: &mut Loading<'_>,

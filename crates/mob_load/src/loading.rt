@@ -1,4 +1,4 @@
-// What was read so far.
+// How far loading has come.
 
 use mob_ast::SqlType;
 use mob_list::items::Items;

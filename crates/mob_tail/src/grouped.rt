@@ -3,7 +3,7 @@ ghost use Rattle.std.specs.Prelude.{◌≡◌, Ok, Err, Some, IfOk, IfErr, Match
 ghost use Rattle.std.specs.List.{AllByRecursion, AllZip};
 ghost use Rattle.mob_typed.specs.Trees.{typed_of};
 ghost use Rattle.mob_eval.specs.Views.{scene_of};
-ghost use Rattle.mob_ordinary.specs.Faults.{OnPassed, fault_of};
+ghost use Rattle.mob_ordinary.specs.Faults.{OnPassed};
 ghost use Rattle.mob_ordinary.specs.Held.{held};
 ghost use Rattle.mob_tail.specs.Aggregated.{leaves_out};
 ghost use Rattle.mob_tail.specs.Groups.{column_on};
@@ -12,7 +12,7 @@ ghost use Rattle.mob_tail.specs.GroupSteps.{column_seen, IsAggregateOn, IsColumn
 
 use crate::columns::{Column, argument_on, column_on};
 use crate::state::{State, nothing_yet, state_with, value_of};
-use mob_eval::{Held, View};
+use mob_eval::{Held, View, fault_at};
 use mob_ordinary::fault::EvalFault;
 use mob_slice::OpFault;
 use mob_tuples::Tuple;
@@ -35,16 +35,6 @@ pub struct Cell<'a> {
 pub struct Group<'a> {
     pub first: Option<Tuple>,
     pub cells: Vec<Cell<'a>>,
-}
-
-// The fault of an aggregate, at its place.
-fn fault_at(place: u32, fault: OpFault) -> EvalFault
-    ensures same { result ≡ fault_of place fault }
-{
-    match fault {
-        OpFault::Passed { formula } => EvalFault::Passed { place, formula },
-        OpFault::NoMemory => EvalFault::NoMemory,
-    }
 }
 
 // Replaces what is held. At a type parameter the drop of the old value is one call.

@@ -95,8 +95,7 @@ fn truths_copy(alloc: Global, value: &Value) -> Result<Option<Moving<Steady<bool
     }
 }
 
-// A tbool among values that are taken together. The clause of `slices` says that its own are
-// normal.
+// Says that the slices of a tbool are normal, by the clause of `slices`.
 fn is_normal(moving: &Moving<Steady<bool>>)
     ensures normal { AreNormalBy (steady_course same_bool) moving.now }
 {

@@ -1,4 +1,4 @@
-// What the arguments of a command line say.
+// The settings of a run.
 use mob_frac::Frac;
 use mob_scalar::Epoch;
 use mob_tile::Grid;

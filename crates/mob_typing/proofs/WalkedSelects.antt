@@ -30,7 +30,7 @@ use Rattle.mob_typing.specs.Names.{table_of}
 use Rattle.mob_clauses.specs.Conditions.{condition, is_bool, tree_place, source_start, seen_by_on, joins_from, typed_joins}
 use Rattle.mob_clauses.specs.Outputs.{is_aggregate_call, is_aggregate_item, is_grouped, ColumnNumbers, column_numbers, group_column, grouping, is_column, is_ungrouped, any_ungrouped, columns_of_table, all_outputs, OutputLists, Value, counting, lone_operand, aggregate_value, plain_value, item_value, with_output, no_agg, with_every, with_item, with_items, no_outputs}
 use Rattle.mob_clauses.specs.Keys.{is_key, group_of, typed_group, with_groups, alias_number, value_type, output_at, aliased, key_item, key_value, typed_key, typed_keys, limit_value, limit_of}
-use Rattle.mob_clauses.specs.Clauses.{ConditionParts, typed_conditions, OrderParts, typed_order, select_made, typed_clauses, rows_to_go}
+use Rattle.mob_clauses.specs.Clauses.{ConditionParts, typed_conditions, OrderParts, typed_order, scope_tables, select_made, typed_clauses, rows_to_go}
 use Rattle.mob_typing.specs.Selects.{from_name, from_table, from_tables, typed_select}
 use Rattle.mob_typing.specs.Stands.{operators_in, aggregate_place, query_operators}
 use Rattle.mob_typing.specs.WellTyped.{column_type, from_type, HasNamedTypes, IsOperated, condition_alone, AreOfSources, column_in, columns_in, IsGroup, IsAggregateOf, IsTypedItem, IsTypedKey, IsTypedQuery, IsTypedDeletion}
@@ -541,7 +541,7 @@ module _ (At : ℕ → Type 0) (tables : List ColumnList) (s : ScopeParts) (begi
     grouped = is_grouped x
 
     abbrev made : OutputLists → List (Option TypedTree) → Option TypedTree → List TypedTree → List (TypedTree × Bool) → Option ℕ → TypedSelectParts
-    made o js c gr ks l = select_made s x grouped o (record { joins = js; cond = c }) (record { groups = gr; keys = ks; key_items = map (key_item o) x.keys; limit = l })
+    made o js c gr ks l = select_made (scope_tables s) x grouped o (record { joins = js; cond = c }) (record { groups = gr; keys = ks; key_items = map (key_item o) x.keys; limit = l })
 
     -- what is not outside the groups is one of them
     of_groups : (b : Bool) (columns : List ColumnNumbers) (t : TypedTree) → is_ungrouped (cond b (Some columns) None) t ≡ false → b ≡ true → is_column columns t ≡ true
@@ -637,7 +637,7 @@ module _ (At : ℕ → Type 0) (tables : List ColumnList) (s : ScopeParts) (begi
         gives (record {
           adds = subst (λ ps. Adds n ps cs r.1) (ap (λ ps. flat_map item_places x.items ++ ps) (append_assoc (flat_map from_places x.from) (condition_places x.cond) (flat_map key_places x.keys))) (adds_both a.adds (adds_both e.adds f.adds));
           sound =
-              subst (λ is. IsStandingQuery At tables r.1 (select_made s x grouped o.0 w.0 (record { groups = r.0.groups; keys = r.0.keys; key_items = is; limit = r.0.limit }))) (sym f.sound.1.1.0)
+              subst (λ is. IsStandingQuery At tables r.1 (select_made (scope_tables s) x grouped o.0 w.0 (record { groups = r.0.groups; keys = r.0.keys; key_items = is; limit = r.0.limit }))) (sym f.sound.1.1.0)
               (query_typed r.1 o.0 w.0.joins w.0.cond r.0.groups r.0.keys r.0.limit few apart as_many (still (OutputsHold grouped x.groups) (outputs_stay grouped x.groups) o.0 (adds_both e.adds f.adds) a.sound) later.0 later.1 f.sound.0 f.sound.1.0 f.sound.1.1.1);
         }))))
 
@@ -663,7 +663,7 @@ abbrev condition_of_one : Option TypedTree × List ConstText → Result (Conditi
 condition_of_one d = Ok (record { joins = None ∷ []; cond = d.0 }, d.1)
 
 abbrev made_of_one : ScopeParts → SelectParts → ConditionParts × List ConstText → Result (TypedSelectParts × List ConstText) Mistake
-made_of_one scope row d = typed_order scope None no_outputs row d.1 >>= λ o. Ok (select_made scope row false no_outputs d.0 o.0, o.1)
+made_of_one scope row d = typed_order scope None no_outputs row d.1 >>= λ o. Ok (select_made (scope_tables scope) row false no_outputs d.0 o.0, o.1)
 
 same_made : {A : Type 0} (x y : A) → ◌≡◌ {A = Result A Mistake} (Ok x) (Ok y) → x ≡ y
 same_made x y h = cc
@@ -678,7 +678,7 @@ clauses_bare scope table c cs q is = by (condition scope c cs) refl is
     by (Err w) at so = absurd (cc)
     by (Ok d) at so =
         let nothing_else : OrderParts = record { groups = []; keys = []; key_items = []; limit = None } in
-        let same = same_made (select_made scope row false no_outputs (record { joins = None ∷ []; cond = d.0 }) nothing_else, d.1) q so in
+        let same = same_made (select_made (scope_tables scope) row false no_outputs (record { joins = None ∷ []; cond = d.0 }) nothing_else, d.1) q so in
         (ap (λ z. z.0.items) (sym same), ap (λ z. z.0.from) (sym same))
 
 pub delete_walked : (At : ℕ → Type 0) (tables : List (List ℕ × ColumnList)) (n : ℕ) (table : Word) (c : Option Tree) (cs : List ConstText) → AllByRecursion At (table.place ∷ condition_held c)

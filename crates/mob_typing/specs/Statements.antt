@@ -13,8 +13,9 @@ use Rattle.mob_ast.specs.declared.expression.Node.TheVariants as node
 use Rattle.mob_ast.specs.Trees.{Tree, tree, Trees, RowParts, StatementParts, empty, create_table, create_index, insert, copy, delete, select, explain}
 use Rattle.mob_operators.specs.Lookup.{same_type}
 use Rattle.mob_typed.specs.declared.typed.ConstText.{ConstText}
+use Rattle.mob_typed.specs.declared.typed.TypedStatement.{TypedStatement}
 use Rattle.mob_typed.specs.Selects.{TypedSelectParts}
-use Rattle.mob_typed.specs.Statements.{ColumnList, StatementOut, nothing, new_table, new_index, new_rows, rows_from, deletion, query, plan_of, ScriptOut}
+use Rattle.mob_typed.specs.Statements.{ColumnList, StatementOut, nothing, new_table, new_index, new_rows, rows_from, deletion, query, plan_of, ScriptOut, statement_seen}
 use Rattle.mob_expression.specs.declared.fault.Fault.{Fault}
 use Rattle.mob_expression.specs.declared.fault.Fault.TheVariants.{Wrong as Refused, NoMemory}
 use Rattle.mob_ast.specs.Kinds.{no_memory}
@@ -23,7 +24,7 @@ use Rattle.mob_typing.specs.Names.{NameLists, table_of}
 use Rattle.mob_expression.specs.Names.{column_of, has_entry}
 use Rattle.mob_operators.specs.Table.{is_one_of}
 use Rattle.mob_expression.specs.Words.{type_named, literal_type}
-use Rattle.mob_expression.specs.Expressions.{only, is_signed}
+use Rattle.mob_expression.specs.Expressions.{next_constant, only, is_signed}
 use Rattle.mob_clauses.specs.Clauses.{rows_to_go}
 use Rattle.mob_typing.specs.Selects.{typed_select}
 
@@ -40,6 +41,10 @@ with_columns columns (c ∷ cs) = with_column columns c >>= λ more. with_column
 pub record Made : Type 0 where
   pub statement : StatementOut
   pub names : NameLists
+
+-- a typed statement of the program, with the names after it
+abbrev pub made_seen : NameLists → TypedStatement → Made
+made_seen names t = record { statement = statement_seen t; names = names }
 
 abbrev pub with_table : NameLists → List ℕ → ColumnList → NameLists
 with_table names name columns = record { tables = names.tables ++ (name, columns) ∷ []; indexes = names.indexes }
@@ -66,7 +71,7 @@ made_index names name table column = do
 
 -- a constant of a statement of this number
 abbrev pub row_constant : ℕ → SqlType → List ℕ → ℕ → TypingStep (Option ℕ)
-row_constant n ty text p cs = Ok (Some (length cs), cs ++ record { ty = ty; text = text; statement = n; place = p } ∷ [])
+row_constant n ty text p cs = next_constant n ty text p cs >>= λ r. Ok (Some r.0, r.1)
 
 -- the digits of a number and their place, where there is one
 abbrev pub number_digits : Tree → Option (List ℕ × ℕ)

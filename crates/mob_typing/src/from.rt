@@ -9,7 +9,7 @@ ghost use Rattle.mob_typing.specs.Selects.{from_name, from_table, from_tables};
 use crate::names::Names;
 use mob_ast::{FromTable, Kind, Word};
 use mob_expression::columns::source_named;
-use mob_expression::fault::Fault;
+use mob_expression::fault::{Fault, unless};
 use mob_expression::scope::{ScopeTable, number};
 use std::alloc::Global;
 
@@ -17,10 +17,10 @@ use std::alloc::Global;
 const TABLES: usize = 4;
 
 // Whether a table of FROM goes by this name already.
-fn has_source(sources: &[ScopeTable<'_>], name: &str) -> bool
-    ensures taken { result ≡ has_entry (sources_of sources.now) name.now }
+fn has_source(sources: &[ScopeTable<'_>], name: &Word) -> bool
+    ensures taken { result ≡ has_entry (sources_of sources.now) name.now.text }
 {
-    source_named(sources, name).is_some()
+    source_named(sources, name.text.as_str()).is_some()
 }
 
 // The name that a table goes by in FROM, behind those that stand before it.
@@ -31,35 +31,16 @@ fn from_name<'a>(
 ) -> Result<&'a str, Fault>
     ensures named { AnswersAs (λ n. n.now) result (from_name (sources_of sources.now) table.now alias.now) }
 {
+    let full = sources.len() >= TABLES;
     match alias {
         None => {
-            if has_source(sources, table.text.as_str()) {
-                return Err(Fault::Wrong {
-                    kind: Kind::Duplicate,
-                    place: table.place,
-                });
-            }
-            if sources.len() >= TABLES {
-                return Err(Fault::Wrong {
-                    kind: Kind::Limit,
-                    place: table.place,
-                });
-            }
+            unless(has_source(sources, table), Kind::Duplicate, table.place)?;
+            unless(full, Kind::Limit, table.place)?;
             Ok(table.text.as_str())
         }
         Some(name) => {
-            if sources.len() >= TABLES {
-                return Err(Fault::Wrong {
-                    kind: Kind::Limit,
-                    place: table.place,
-                });
-            }
-            if has_source(sources, name.text.as_str()) {
-                return Err(Fault::Wrong {
-                    kind: Kind::Duplicate,
-                    place: name.place,
-                });
-            }
+            unless(full, Kind::Limit, table.place)?;
+            unless(has_source(sources, name), Kind::Duplicate, name.place)?;
             Ok(name.text.as_str())
         }
     }

@@ -3,19 +3,17 @@ ghost use Rattle.std.specs.Prelude.{◌≡◌, length, map, option_map, IfOk};
 ghost use Rattle.mob_ast.specs.Trees.{tree_of, trees_of, row_of};
 ghost use Rattle.mob_operators.specs.Lookup.{same_type};
 ghost use Rattle.mob_expression.specs.Answers.{AnswersAs, TypesTo};
-ghost use Rattle.mob_typing.specs.Statements.{row_constant, lone_number, signed_value, bool_value, typed_value, node_value, tree_value, row_values, typed_row, typed_rows, inserted, good_delimiter, copied};
-ghost use Rattle.mob_typed.specs.Statements.{statement_seen};
+ghost use Rattle.mob_typing.specs.Statements.{made_seen, row_constant, lone_number, signed_value, bool_value, typed_value, node_value, tree_value, row_values, typed_row, typed_rows, inserted, good_delimiter, copied};
 
 use crate::names::Names;
 use mob_ast::{Expr, Kind, Node, Quoted, Row, SqlType, TypeWord, Word};
 use mob_expression::column_list::Columns;
-use mob_expression::constants::only;
-use mob_expression::fault::Fault;
+use mob_expression::constants::{next_constant, only};
+use mob_expression::fault::{Fault, unless};
 use mob_expression::operators::is_signed;
 use mob_expression::scope::number;
 use mob_expression::words::literal_type;
 use mob_list::items::Items;
-use mob_list::text::Text;
 use mob_typed::{ConstText, TypedStatement};
 use std::alloc::{AllocError, Global};
 
@@ -30,15 +28,7 @@ fn row_constant(
 ) -> Result<Option<u32>, Fault>
     ensures next { TypesTo (λ v. v) result consts.new (row_constant statement ty text.now place consts.old) }
 {
-    let index = number(consts.len())?;
-    let text = Text::from_string(String::from_str(alloc, text)?);
-    consts.push(ConstText {
-        ty,
-        text,
-        statement,
-        place,
-    })?;
-    Ok(Some(index))
+    Ok(Some(next_constant(alloc, statement, consts, ty, text, place)?))
 }
 
 // The digits of a number and their place, where the operands are a number alone.
@@ -71,12 +61,7 @@ fn signed_value(
             place,
         });
     };
-    if !is_signed(sign) {
-        return Err(Fault::Wrong {
-            kind: Kind::NoSuchOperator,
-            place,
-        });
-    }
+    unless(!is_signed(sign), Kind::NoSuchOperator, place)?;
     let mut text = String::from_str(alloc, sign)?;
     text.push_str(digits)?;
     row_constant(alloc, statement, consts, ty, text.as_str(), digits_place)
@@ -100,12 +85,7 @@ fn bool_value(
 ) -> Result<Option<u32>, Fault>
     ensures of_bool { TypesTo (λ v. v) result consts.new (bool_value statement ty text.now place consts.old) }
 {
-    if !is_same(ty, SqlType::Bool) {
-        return Err(Fault::Wrong {
-            kind: Kind::NoSuchOperator,
-            place,
-        });
-    }
+    unless(!is_same(ty, SqlType::Bool), Kind::NoSuchOperator, place)?;
     row_constant(alloc, statement, consts, ty, text, place)
 }
 
@@ -127,12 +107,7 @@ fn typed_value(
             place: word.name.place,
         });
     };
-    if !is_same(own, ty) {
-        return Err(Fault::Wrong {
-            kind: Kind::NoSuchOperator,
-            place,
-        });
-    }
+    unless(!is_same(own, ty), Kind::NoSuchOperator, place)?;
     row_constant(alloc, statement, consts, ty, text, place)
 }
 
@@ -259,9 +234,9 @@ pub fn inserted(
     names: &Names,
     consts: &mut Items<ConstText>,
     table: &Word,
-    rows: &[Row],
+    rows: &Items<Row>,
 ) -> Result<TypedStatement, Fault>
-    ensures made { TypesTo (λ t. record { statement = statement_seen t; names = names.now }) result consts.new (inserted statement names.now table.now (map row_of rows.now) consts.old) }
+    ensures made { TypesTo (made_seen names.now) result consts.new (inserted statement names.now table.now (map row_of rows.now) consts.old) }
 {
     let Some((index, columns)) = names.find(table.text.as_str()) else {
         return Err(Fault::Wrong {
@@ -269,8 +244,8 @@ pub fn inserted(
             place: table.place,
         });
     };
-    let values = typed_rows(alloc, statement, consts, columns, rows)?;
-    let places = places_of(alloc, rows)?;
+    let values = typed_rows(alloc, statement, consts, columns, rows.as_slice())?;
+    let places = places_of(alloc, rows.as_slice())?;
     let table = number(index)?;
     Ok(TypedStatement::Insert {
         table,
@@ -286,13 +261,8 @@ fn good_delimiter(delimiter: &Option<Quoted>) -> Result<(), Fault>
     let Some(string) = delimiter else {
         return Ok(());
     };
-    if string.text.as_str() != "," {
-        return Err(Fault::Wrong {
-            kind: Kind::NoSuchOperator,
-            place: string.place,
-        });
-    }
-    Ok(())
+    let other = string.text.as_str() != ",";
+    unless(other, Kind::NoSuchOperator, string.place)
 }
 
 /// A COPY, or what is wrong first.
@@ -303,7 +273,7 @@ pub fn copied(
     file: &Quoted,
     delimiter: &Option<Quoted>,
 ) -> Result<TypedStatement, Fault>
-    ensures made { AnswersAs (λ t. record { statement = statement_seen t; names = names.now }) result (copied names.now table.now file.now delimiter.now) }
+    ensures made { AnswersAs (made_seen names.now) result (copied names.now table.now file.now delimiter.now) }
 {
     let Some((index, _)) = names.find(table.text.as_str()) else {
         return Err(Fault::Wrong {

@@ -1,9 +1,9 @@
 //! Names and types of whole scripts.
-ghost use Rattle.std.specs.Prelude.{◌≡◌, ◌+◌, [], Ok, map, IfOk, IfErr};
+ghost use Rattle.std.specs.Prelude.{◌≡◌, [], Ok, map, IfOk, IfErr};
 ghost use Rattle.mob_ast.specs.Trees.{statement_of, script_of};
-ghost use Rattle.mob_expression.specs.Answers.{AnswersAs, TypesTo};
-ghost use Rattle.mob_typed.specs.Statements.{statement_seen, script_seen};
-ghost use Rattle.mob_typing.specs.Statements.{typed_statement, typed_from, typed_script, IsTypingRefusal, refusal_of};
+ghost use Rattle.mob_expression.specs.Answers.{TypesTo};
+ghost use Rattle.mob_typed.specs.Statements.{script_seen};
+ghost use Rattle.mob_typing.specs.Statements.{made_seen, typed_statement, typed_from, typed_script, IsTypingRefusal, refusal_of};
 
 use crate::names::Names;
 use crate::rows::{copied, inserted};
@@ -24,29 +24,17 @@ fn type_statement(
     consts: &mut Items<ConstText>,
     statement: &Statement,
 ) -> Result<TypedStatement, Fault>
-    ensures typed { TypesTo (λ t. record { statement = statement_seen t; names = names.new }) result consts.new (typed_statement number names.old (statement_of statement.now) consts.old) }
+    ensures typed { TypesTo (made_seen names.new) result consts.new (typed_statement number names.old (statement_of statement.now) consts.old) }
 {
     match statement {
         Statement::Empty => Ok(TypedStatement::Empty),
-        Statement::CreateTable { name, columns } => made_table(
-            alloc,
-            names,
-            name,
-            columns.as_slice(),
-        ),
+        Statement::CreateTable { name, columns } => made_table(alloc, names, name, columns),
         Statement::CreateIndex {
             name,
             table,
             column,
         } => made_index(alloc, names, name, table, column),
-        Statement::Insert { table, rows } => inserted(
-            alloc,
-            number,
-            names,
-            consts,
-            table,
-            rows.as_slice(),
-        ),
+        Statement::Insert { table, rows } => inserted(alloc, number, names, consts, table, rows),
         Statement::Copy {
             table,
             file,

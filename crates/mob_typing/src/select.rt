@@ -3,10 +3,10 @@ ghost use Rattle.std.specs.Prelude.{option_map};
 ghost use Rattle.mob_ast.specs.Trees.{tree_of, select_of};
 ghost use Rattle.mob_expression.specs.Answers.{TypesTo};
 ghost use Rattle.mob_typed.specs.Selects.{select_seen};
-ghost use Rattle.mob_typed.specs.Statements.{statement_seen, deletion, query, plan_of};
+ghost use Rattle.mob_typed.specs.Statements.{deletion, query, plan_of};
 ghost use Rattle.mob_clauses.specs.Clauses.{rows_to_go};
 ghost use Rattle.mob_typing.specs.Selects.{typed_select};
-ghost use Rattle.mob_typing.specs.Statements.{asked};
+ghost use Rattle.mob_typing.specs.Statements.{asked, made_seen};
 
 use crate::from::{from_table, from_tables};
 use crate::names::Names;
@@ -67,7 +67,7 @@ pub fn selected(
     consts: &mut Items<ConstText>,
     select: &SelectTree,
 ) -> Result<TypedStatement, Fault>
-    ensures made { TypesTo (λ t. record { statement = statement_seen t; names = names.now }) result consts.new (asked query names.now (typed_select names.now.tables statement (select_of select.now) consts.old)) }
+    ensures made { TypesTo (made_seen names.now) result consts.new (asked query names.now (typed_select names.now.tables statement (select_of select.now) consts.old)) }
 {
     let select = typed_select(alloc, names, statement, consts, select)?;
     Ok(TypedStatement::Select(select))
@@ -81,7 +81,7 @@ pub fn explained(
     consts: &mut Items<ConstText>,
     select: &SelectTree,
 ) -> Result<TypedStatement, Fault>
-    ensures made { TypesTo (λ t. record { statement = statement_seen t; names = names.now }) result consts.new (asked plan_of names.now (typed_select names.now.tables statement (select_of select.now) consts.old)) }
+    ensures made { TypesTo (made_seen names.now) result consts.new (asked plan_of names.now (typed_select names.now.tables statement (select_of select.now) consts.old)) }
 {
     let select = typed_select(alloc, names, statement, consts, select)?;
     Ok(TypedStatement::Explain(select))
@@ -96,7 +96,7 @@ pub fn deleted(
     table: &Word,
     cond: &Option<Expr>,
 ) -> Result<TypedStatement, Fault>
-    ensures made { TypesTo (λ t. record { statement = statement_seen t; names = names.now }) result consts.new (asked deletion names.now (typed_select names.now.tables statement (rows_to_go table.now (option_map tree_of cond.now)) consts.old)) }
+    ensures made { TypesTo (made_seen names.now) result consts.new (asked deletion names.now (typed_select names.now.tables statement (rows_to_go table.now (option_map tree_of cond.now)) consts.old)) }
 {
     let delete = typed_delete(alloc, names, statement, consts, table, cond)?;
     Ok(TypedStatement::Delete(delete))

@@ -5,13 +5,13 @@ ghost use Rattle.mob_operators.specs.Table.{is_one_of};
 ghost use Rattle.mob_ast.specs.declared.types.SqlType.TheVariants.{TPoint};
 ghost use Rattle.mob_expression.specs.Answers.{AnswersAs};
 ghost use Rattle.mob_expression.specs.Names.{has_entry};
-ghost use Rattle.mob_typing.specs.Statements.{Made, with_column, with_columns, made_table, with_index, made_index};
-ghost use Rattle.mob_typed.specs.Statements.{statement_seen, new_index};
+ghost use Rattle.mob_typing.specs.Statements.{made_seen, with_column, with_columns, made_table, with_index, made_index};
+ghost use Rattle.mob_typed.specs.Statements.{new_index};
 
 use crate::names::Names;
 use mob_ast::{Kind, SqlType, TypeWord, Word};
 use mob_expression::column_list::Columns;
-use mob_expression::fault::Fault;
+use mob_expression::fault::{Fault, unless};
 use mob_expression::scope::number;
 use mob_expression::words::type_named;
 use mob_list::items::Items;
@@ -33,12 +33,7 @@ fn with_column(alloc: Global, columns: &mut Columns, column: &(Word, TypeWord)) 
             place: name.place,
         });
     }
-    if columns.len() >= MOST {
-        return Err(Fault::Wrong {
-            kind: Kind::Limit,
-            place: name.place,
-        });
-    }
+    unless(columns.len() >= MOST, Kind::Limit, name.place)?;
     let Some(ty) = type_named(word) else {
         return Err(Fault::Wrong {
             kind: Kind::UnknownName,
@@ -89,14 +84,14 @@ fn added(
     Ok(list)
 }
 
-/// A new table.
+/// Types a CREATE TABLE, and adds its table to the names. Returns it, or its first refusal.
 pub fn made_table(
     alloc: Global,
     names: &mut Names,
     name: &Word,
-    columns: &[(Word, TypeWord)],
+    columns: &Items<(Word, TypeWord)>,
 ) -> Result<TypedStatement, Fault>
-    ensures made { AnswersAs (λ t. record { statement = statement_seen t; names = names.new }) result (made_table names.old name.now columns.now) }
+    ensures made { AnswersAs (made_seen names.new) result (made_table names.old name.now columns.now) }
 {
     if names.has(name.text.as_str()) {
         return Err(Fault::Wrong {
@@ -104,15 +99,10 @@ pub fn made_table(
             place: name.place,
         });
     }
-    if names.len() >= MOST {
-        return Err(Fault::Wrong {
-            kind: Kind::Limit,
-            place: name.place,
-        });
-    }
+    unless(names.len() >= MOST, Kind::Limit, name.place)?;
     let table = number(names.len())?;
     let text = name.text.copy(alloc)?;
-    let columns = with_columns(alloc, columns)?;
+    let columns = with_columns(alloc, columns.as_slice())?;
     let list = added(alloc, names, name.text.as_str(), columns)?;
     Ok(TypedStatement::CreateTable {
         table,
@@ -136,7 +126,7 @@ fn added_index(
     column: usize,
 ) -> Result<TypedStatement, Fault>
     requires absent { is_one_of names.old.indexes name.now.text ≡ false }
-    ensures added { AnswersAs {Y = Made} (λ t. record { statement = statement_seen t; names = names.new }) result (Ok (record { statement = new_index table column name.now.text; names = with_index names.old name.now.text })) }
+    ensures added { AnswersAs (made_seen names.new) result (Ok (record { statement = new_index table column name.now.text; names = with_index names.old name.now.text })) }
 {
     let table = number(table)?;
     let column = number(column)?;
@@ -149,7 +139,7 @@ fn added_index(
     })
 }
 
-/// A new index.
+/// Types a CREATE INDEX, and adds its index to the names. Returns it, or its first refusal.
 pub fn made_index(
     alloc: Global,
     names: &mut Names,
@@ -157,7 +147,7 @@ pub fn made_index(
     table: &Word,
     column: &Word,
 ) -> Result<TypedStatement, Fault>
-    ensures made { AnswersAs (λ t. record { statement = statement_seen t; names = names.new }) result (made_index names.old name.now table.now column.now) }
+    ensures made { AnswersAs (made_seen names.new) result (made_index names.old name.now table.now column.now) }
 {
     let Some((table_index, columns)) = names.find(table.text.as_str()) else {
         return Err(Fault::Wrong {
@@ -177,11 +167,6 @@ pub fn made_index(
             place: column.place,
         });
     };
-    if !is_moving_point(ty) {
-        return Err(Fault::Wrong {
-            kind: Kind::NoSuchOperator,
-            place: column.place,
-        });
-    }
+    unless(!is_moving_point(ty), Kind::NoSuchOperator, column.place)?;
     added_index(alloc, names, name, table_index, column_index)
 }

@@ -1,5 +1,5 @@
 //! Arithmetic at each instant on numbers that change evenly.
-ghost use Rattle.std.specs.Prelude.{◌≡◌};
+
 ghost use Rattle.mob_frac.specs.Formula.{sum_parts, difference_parts, product_parts};
 ghost use Rattle.mob_arith.specs.Operations.{sum_of, difference_of, product_of};
 ghost use Rattle.mob_arith.specs.Termwise.{entries_at_ends};

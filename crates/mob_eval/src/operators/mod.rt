@@ -5,7 +5,7 @@ ghost use Rattle.mob_meaning.specs.Operators.{GivesOfOne, GivesOfTwo, GivesOfThr
 ghost use Rattle.mob_eval.specs.SoFar.{operand_types};
 ghost use Rattle.mob_slice.specs.Entries.{IsFirst};
 ghost use Rattle.mob_ordinary.specs.Held.{held};
-ghost use Rattle.mob_eval.specs.Outcomes.{IsOutcome};
+ghost use Rattle.mob_eval.specs.Outcomes.{IsOutcome, wanted};
 
 mod arithmetic;
 mod asked;
@@ -87,6 +87,13 @@ pub fn of_one<'a>(
     }
 }
 
+// Whether what a restriction asks for is wanted, as by atTime, or the rest, as by minusTime.
+fn wanted(op: Op) -> bool
+    ensures want { result ≡ wanted op }
+{
+    matches!(op, Op::AtTime | Op::AtValues | Op::AtStbox | Op::AtGeometry)
+}
+
 /// An operator on two operands, or its first formula with a part that does not fit.
 pub fn of_two(
     alloc: Global,
@@ -112,17 +119,13 @@ pub fn of_two(
         Op::Lifted(sign) => sign_test(alloc, Scope::Each, sign, meeting(args), left, right),
         Op::Ever(sign) => sign_test(alloc, Scope::Ever, sign, meeting(args), left, right),
         Op::Always(sign) => sign_test(alloc, Scope::Always, sign, meeting(args), left, right),
-        Op::AtTime => restriction(alloc, true, left, right),
-        Op::MinusTime => restriction(alloc, false, left, right),
-        Op::AtValues => value_restriction(alloc, true, left, right),
-        Op::MinusValues => value_restriction(alloc, false, left, right),
+        Op::AtTime | Op::MinusTime => restriction(alloc, wanted(op), left, right),
+        Op::AtValues | Op::MinusValues => value_restriction(alloc, wanted(op), left, right),
         Op::ValueAtTimestamp => look_up(alloc, left, right),
         Op::Overlap => Ok(overlap(left, right)),
         Op::ExpandSpace => expansion(alloc, left, right),
-        Op::AtStbox => box_restriction(alloc, true, left, right),
-        Op::MinusStbox => box_restriction(alloc, false, left, right),
-        Op::AtGeometry => polygon_restriction(alloc, true, left, right),
-        Op::MinusGeometry => polygon_restriction(alloc, false, left, right),
+        Op::AtStbox | Op::MinusStbox => box_restriction(alloc, wanted(op), left, right),
+        Op::AtGeometry | Op::MinusGeometry => polygon_restriction(alloc, wanted(op), left, right),
         Op::EIntersects => intersects(alloc, left, right),
         Op::NearestApproachSquared => nearest_approach(alloc, left, right),
         _ => Ok(Value::Null),
