@@ -2,7 +2,7 @@
 ghost use Rattle.std.specs.Prelude.{◌≡◌, true, All, IfSome};
 ghost use Rattle.mob_stbox.specs.Boxes.{is_whole};
 
-use crate::entries::boxed;
+use crate::boxes::boxed;
 use crate::found::finds;
 use mob_rtree::RTree;
 use mob_stbox::StBox;

@@ -3,7 +3,7 @@
 ghost use Rattle.std.specs.Prelude.{◌≡◌, true};
 ghost use Rattle.mob_stbox.specs.Boxes.{is_whole};
 
-use crate::entries::boxed;
+use crate::boxes::boxed;
 use crate::found::finds;
 use mob_rtree::RTree;
 use std::alloc::Global;

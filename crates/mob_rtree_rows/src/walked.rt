@@ -1,7 +1,7 @@
 // A tree as it is walked from its root.
 ghost use Rattle.std.specs.Prelude.{◌≡◌};
 
-use crate::entries::boxed;
+use crate::boxes::boxed;
 use mob_rtree::{Child, RTree};
 use std::alloc::Global;
 

@@ -3,7 +3,7 @@ ghost use Rattle.std.specs.Prelude.{◌≡◌, true, IfSome};
 ghost use Rattle.std.specs.List.Sorted.{IsNonDecreasing};
 ghost use Rattle.mob_stbox.specs.Boxes.{is_whole};
 
-use crate::entries::boxed;
+use crate::boxes::boxed;
 use crate::found::finds;
 use crate::grown::{all_put, takes};
 use mob_rtree::RTree;
