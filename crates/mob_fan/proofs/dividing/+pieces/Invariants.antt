@@ -1,4 +1,4 @@
--- A call on the other workers comes before one on all, and the closure with it before the two.
+-- `pieces` of some workers calls `beside` with one fewer, and the closure of that calls `pieces` of these.
 use Rattle.std.proofs.Common.{◌+◌, ◌*◌}
 use Rattle.mob_fan.proofs.dividing.+pieces.Given as goal
 
