@@ -1,6 +1,6 @@
 //! Tests of whole runs of mobsql, mobnear, mobthin and mobtile over ends in memory: ends whose
-//! calls fail, runs by many workers and of the demo, a large join, the ends by themselves, and the
-//! arguments. What whole scripts and tables answer is in `checks/rows` and `checks/trips`.
+//! calls fail, runs by many workers and of the demo, and the arguments. What whole scripts and
+//! tables answer is in `checks/rows` and `checks/trips`.
 #![tactic(auto)]
 
 #[cfg(test)]
@@ -9,10 +9,6 @@ mod demo;
 mod ends;
 #[cfg(test)]
 mod failing;
-#[cfg(test)]
-mod large;
-#[cfg(test)]
-mod outside;
 #[cfg(test)]
 mod scripts;
 #[cfg(test)]
