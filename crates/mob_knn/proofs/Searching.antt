@@ -8,6 +8,7 @@ use Rattle.std.proofs.lemmas.List.Concat.{flat_map-append}
 use Rattle.std.proofs.lemmas.List.Elements.{All-contains, Contains-append_cases, Contains-append_left, Contains-append_right}
 use Rattle.std.proofs.lemmas.List.Sorted.{Contains-permutation}
 use Rattle.std.proofs.lemmas.List.Sums.{sum_by-append, sum_by-cons}
+use Rattle.mob_list.proofs.Each.{each_more}
 use borrow.Author.Tests.{eq-eqb, lt-ltb, eqb-true}
 use Rattle.mob_ratio.specs.Ratio.{Ratio}
 use Rattle.mob_ratio.specs.Order.{before, up_to, same}
@@ -41,13 +42,9 @@ pub record IsKnown (bs : List Branch) (root : Option ℕ) (entries : List EntryO
 
 -- ---- lists that rise
 
-all_push : {A : Type 0} (P : A → Type 0) (xs : List A) (x : A) → AllByRecursion P xs → P x → AllByRecursion P (xs ++ x ∷ [])
-all_push P [] x h k = (k, tt)
-all_push P (y ∷ xs) x h k = (h.0, all_push P xs x h.1 k)
-
 rising_push : (xs : List (ℕ × Ratio)) (x : ℕ × Ratio) → IsRising xs → ((o : ℕ × Ratio) → Contains xs o → nearer o x ≡ true) → IsRising (xs ++ x ∷ [])
 rising_push [] x h k = (tt, tt)
-rising_push (y ∷ xs) x h k = (all_push (λ s. nearer y s ≡ true) xs x h.0 (k y (first_in y xs)), rising_push xs x h.1 (λ o c. k o (later_in y xs o c)))
+rising_push (y ∷ xs) x h k = (each_more (λ s. nearer y s ≡ true) xs x h.0 (k y (first_in y xs)), rising_push xs x h.1 (λ o c. k o (later_in y xs o c)))
 
 last_push : (xs : List (ℕ × Ratio)) (x : ℕ × Ratio) → last_approach (xs ++ x ∷ []) ≡ Some x.1
 last_push [] x = refl

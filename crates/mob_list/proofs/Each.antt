@@ -19,6 +19,11 @@ pub each_both : {A : Type 0} (P : A → Type 0) (xs ys : List A) → AllByRecurs
 each_both P [] ys h k = k
 each_both P (x ∷ xs) ys h k = (h.0, each_both P xs ys h.1 k)
 
+-- what holds of each of two lists together holds of each of either
+pub each_parts : {A : Type 0} (P : A → Type 0) (xs ys : List A) → AllByRecursion P (xs ++ ys) → AllByRecursion P xs × AllByRecursion P ys
+each_parts P [] ys h = (tt, h)
+each_parts P (x ∷ xs) ys h = let others = each_parts P xs ys h.1 in ((h.0, others.0), others.1)
+
 -- what holds of each of a list holds with one more
 pub each_more : {A : Type 0} (P : A → Type 0) (xs : List A) (x : A) → AllByRecursion P xs → P x → AllByRecursion P (xs ++ x ∷ [])
 each_more P [] x h k = (k, tt)

@@ -25,7 +25,7 @@ use Rattle.std.proofs.lemmas.Bool.Decides.{nat_tests}
 use Rattle.std.proofs.lemmas.List.{length-map, map-append}
 use Rattle.std.proofs.lemmas.Option.{slice_get_within}
 use Rattle.mob_typed.specs.Named.{reads_before, names_before, all_name_before, reads_from, names_from, all_name_from}
-use Rattle.mob_list.proofs.Each.{each_on}
+use Rattle.mob_list.proofs.Each.{each_on, each_parts}
 use Rattle.mob_expression.specs.declared.scope.Found.{Found}
 use Rattle.mob_expression.specs.Answers.{◌>>=◌, found, TypingStep}
 use Rattle.mob_expression.specs.Names.{column_of, entry_from}
@@ -35,7 +35,6 @@ use Rattle.mob_expression.specs.Expressions.{constant, with_first, matches, the_
 use Rattle.mob_grammar.specs.Places.{IsWithin, nothing, same, literal_place, tree_places, trees_places}
 use Rattle.mob_grammar.specs.Held.{word_held, node_held, tree_held, trees_held}
 use Rattle.mob_grammar.proofs.Within.{within_all, within_back}
-use Rattle.mob_grammar.proofs.Places.{all_parts}
 use Rattle.mob_typing.specs.Stands.{operators_in}
 use Rattle.mob_typing.specs.WellTyped.{column_type, from_type, HasNamedType, HasNamedTypes, IsNumberLiteral, the_number, HasDivisor, is_division, FitsArguments, IsOperated}
 use Rattle.mob_typing.proofs.Walk.{GivesOrStops, gives, stops, then, also, passes, finds, not_false, adds_none, adds_one, adds_within, adds_both, Steps, Stays, still}
@@ -334,7 +333,7 @@ module _ (At : ℕ → Type 0) (tables : List ColumnList) (all : List (List ℕ 
 
     tree_walked : (t : Tree) (cs : List ConstText) → AllByRecursion At (tree_held t) → GivesOrStops At (Steps s.statement (tree_places t) (Reads (digits_of t)) cs) (typed_expression s t cs)
     tree_walked (tree n p args) cs h =
-        let parts = all_parts At (node_held n) (trees_held args) h.1 in
+        let parts = each_parts At (node_held n) (trees_held args) h.1 in
         let digits = signed_digits n (digits_in args) in
         then (early_settles n p args (digits_in args) cs h.0 parts.0 parts.1) (λ e settled.
         later_walked digits (literal_place n p) (trees_places args) cs (λ ds. typed_operands s args ds >>= λ r. finished n p args r.0 >>= λ t. Ok (t, r.1)) e.0 e.1 settled
@@ -343,7 +342,7 @@ module _ (At : ℕ → Type 0) (tables : List ColumnList) (all : List (List ℕ 
     operands_walked : (us : Trees) (cs : List ConstText) → AllByRecursion At (trees_held us) → GivesOrStops At (Steps s.statement (trees_places us) (ReadAs us) cs) (typed_operands s us cs)
     operands_walked no_trees cs h = gives (record { adds = adds_none; sound = tt })
     operands_walked (more_trees t us) cs h =
-        let parts = all_parts At (tree_held t) (trees_held us) h in
+        let parts = each_parts At (tree_held t) (trees_held us) h in
         then (tree_walked t cs parts.0) (λ x a.
         then (operands_walked us x.1 parts.1) (λ xs b. gives (record { adds = adds_both a.adds b.adds; sound = (still (Reads (digits_of t)) (reads_stay (digits_of t)) x.0 b.adds a.sound, b.sound) })))
 
