@@ -27,7 +27,7 @@ use Rattle.mob_knn.specs.declared.waiting.Waiting.{Waiting}
 use Rattle.mob_knn.specs.declared.waiting.What.{What}
 use Rattle.mob_knn.specs.declared.waiting.What.TheVariants.{Node, Entry, Answer}
 use Rattle.mob_knn.specs.Nearest.{nearer, IsRising, AreFirstRows, last_approach, reach_of, lies_within, count_within, HasFewBelow}
-use Rattle.mob_knn.specs.Steps.{IsOnly, found_answer, State, IsOpened, IsMeasured, IsAnswered}
+use Rattle.mob_knn.specs.Steps.{IsOnly, found_answer, State, IsOpened, IsMeasured, IsRowAnswered}
 use Rattle.mob_knn.specs.Waits.{rank_of, waiting_number, what_of, waits_by, waits_at, waits_of, entries_in, answers_at}
 use Rattle.mob_knn.proofs.Lists.{box_in, in_box, sum_in, in_flat, flat_in, flat_permuted, flat_over, in_before, in_same, same_back, count_some}
 use Rattle.mob_knn.proofs.Orders.{up_to-trans, before_up_to, up_to_greater_left, up_to_greater_right, greater_up_to, reaches_on, IsNext, next_key}
@@ -557,7 +557,7 @@ module _ (bs : List Branch) (root : Option ℕ) (entries : List EntryOf) (has : 
 
     -- ---- an answer is told
 
-    module _ (row : ℕ) (is : first.what ≡ Answer row) (new : State) (how : IsAnswered first.key row rest_state new) where
+    module _ (row : ℕ) (is : first.what ≡ Answer row) (new : State) (how : IsRowAnswered first.key row rest_state new) where
       abbrev told_here : ℕ × Ratio
       told_here = (row, first.key)
 

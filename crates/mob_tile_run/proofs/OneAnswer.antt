@@ -12,7 +12,7 @@ use Rattle.mob_pairs.specs.Faults.{IsPairsFault}
 use Rattle.mob_pairs.proofs.OneAnswer.{one_list}
 use Rattle.mob_records.specs.AnswerText.{answer_text}
 use Rattle.mob_trips.specs.Rows.{Trip}
-use Rattle.mob_tile_run.specs.TileAnswers.{AreSameButWorkers, FailsBy, PairsText, TileFails, TileWrites, WritesBy}
+use Rattle.mob_tile_run.specs.TileAnswers.{AreSameButWorkers, PairsFailBy, PairsText, TileFails, TileWrites, WritesBy}
 use Rattle.mob_tile_run.specs.TileParts.{IsFirstSplitFault, IsSplitOf, PartsText, records_from}
 use Rattle.mob_tile_run.specs.TileTexts.{pair_fields, pair_names, part_names}
 use Rattle.mob_tile_run.specs.declared.settings.TileSettings.{TileSettings}
@@ -43,12 +43,12 @@ writes_alike : (near : Option Ratio) (a b : TileSettings) (ids : List Value) (tr
 writes_alike None a b ids trips t s h = subst (λ z. PartsText z a.epoch ids trips t) (sym s.grid) (subst (λ z. PartsText b.grid z ids trips t) (sym s.epoch) h)
 writes_alike (Some d) a b ids trips t s h = subst (λ z. PairsText z d a.epoch ids trips t) (sym s.grid) (subst (λ z. PairsText b.grid d z ids trips t) (sym s.epoch) h)
 
-fails_alike : (near : Option Ratio) (a b : TileSettings) (trips : List (Option Trip)) (f : PairFault) → AreSameButWorkers a b → FailsBy near b trips f → FailsBy near a trips f
+fails_alike : (near : Option Ratio) (a b : TileSettings) (trips : List (Option Trip)) (f : PairFault) → AreSameButWorkers a b → PairsFailBy near b trips f → PairsFailBy near a trips f
 fails_alike None a b trips f s h = subst (λ z. IsFirstSplitFault z trips f) (sym s.grid) h
 fails_alike (Some d) a b trips f s h = subst (λ z. IsPairsFault z d trips f) (sym s.grid) h
 
 fails_too : (a b : TileSettings) (trips : List (Option Trip)) (f : PairFault) → AreSameButWorkers a b → TileFails b trips f → TileFails a trips f
-fails_too a b trips f s h = fails_alike a.near a b trips f s (subst (λ z. FailsBy z b trips f) (sym s.near) h)
+fails_too a b trips f s h = fails_alike a.near a b trips f s (subst (λ z. PairsFailBy z b trips f) (sym s.near) h)
 
 pub one_text : (a b : TileSettings) (ids : List Value) (trips : List (Option Trip)) (t u : List ℕ) → IsGrid a.grid → AreSameButWorkers a b → TileWrites a ids trips t → TileWrites b ids trips u → t ≡ u
 one_text a b ids trips t u ok s h k = same_text a.near a ids trips t u ok h (writes_alike a.near a b ids trips u s (subst (λ z. WritesBy z b ids trips u) (sym s.near) k))

@@ -37,12 +37,12 @@ abbrev pub TileWrites : TileSettings → List Value → List (Option Trip) → L
 TileWrites settings ids trips text = WritesBy settings.near settings ids trips text
 
 -- why there is none
-abbrev pub FailsBy : Option Ratio → TileSettings → List (Option Trip) → PairFault → Type 0
-FailsBy None settings trips fault = IsFirstSplitFault settings.grid trips fault
-FailsBy (Some d) settings trips fault = IsPairsFault settings.grid d trips fault
+abbrev pub PairsFailBy : Option Ratio → TileSettings → List (Option Trip) → PairFault → Type 0
+PairsFailBy None settings trips fault = IsFirstSplitFault settings.grid trips fault
+PairsFailBy (Some d) settings trips fault = IsPairsFault settings.grid d trips fault
 
 abbrev pub TileFails : TileSettings → List (Option Trip) → PairFault → Type 0
-TileFails settings trips fault = FailsBy settings.near settings trips fault
+TileFails settings trips fault = PairsFailBy settings.near settings trips fault
 
 -- the two differ in the number of workers alone
 pub record AreSameButWorkers (a b : TileSettings) : Type 0 where

@@ -16,7 +16,7 @@ use Rattle.mob_expression.specs.Words.{number_type}
 use Rattle.mob_clauses.specs.Conditions.{is_bool}
 use Rattle.mob_clauses.specs.Keys.{is_key}
 use Rattle.mob_typing.specs.Stands.{operators_in, operators_among}
-use Rattle.mob_typing.specs.WellTyped.{constant_type, HasNamedType, HasNamedTypes, AllHaveNamedTypes, IsNumberLiteral, the_number, behind_minus, behind_plus, HasDivisor, HasRow, FitsArguments, IsOperated, AreOperated, expressions_of, IsGroup, IsOfColumn, IsTypedQuery, IsTypedStatement}
+use Rattle.mob_typing.specs.WellTyped.{constant_type, HasNamedType, HasNamedTypes, AllHaveNamedTypes, IsNumberLiteral, the_number, behind_minus, behind_plus, HasDivisor, HasOperatorRow, FitsArguments, IsOperated, AreOperated, expressions_of, IsGroup, IsOfColumn, IsTypedQuery, IsTypedStatement}
 use Rattle.mob_typing.proofs.Walk.{Stays, all_stay}
 
 -- what stands at a number of a list stands there in a longer one
@@ -137,7 +137,7 @@ divisor_stays (more_trees a none) cs more h = absurd h
 divisor_stays (more_trees a (more_trees b (more_trees c ts))) cs more h = absurd h
 
 -- a node stays as it is by its arguments
-row_stays_so : (o : Op) (ty : SqlType) (args : TypedTrees) (cs more : List ConstText) → HasRow cs o ty args → HasRow (cs ++ more) o ty args
+row_stays_so : (o : Op) (ty : SqlType) (args : TypedTrees) (cs more : List ConstText) → HasOperatorRow cs o ty args → HasOperatorRow (cs ++ more) o ty args
 row_stays_so o ty args cs more h = record { form = h.form; name = h.name; row = h.row; divisor = λ division. divisor_stays args cs more (h.divisor division) }
 
 node_stays : (o : Op) (ty : SqlType) (args : TypedTrees) (cs more : List ConstText) → FitsArguments cs o ty args → FitsArguments (cs ++ more) o ty args
