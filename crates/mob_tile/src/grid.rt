@@ -139,7 +139,7 @@ impl Grid {
     }
 
     /// The tile that has `p` at `t`, where it stands in a range.
-    pub fn tile_at(&self, range: &TileRange, p: &Point, t: &Frac) -> Tile
+    pub(crate) fn tile_at(&self, range: &TileRange, p: &Point, t: &Frac) -> Tile
         requires within { InRange range.now (tile_of self.now t.now p.now) }
         ensures value { result ≡ tile_of self.now t.now p.now }
     {

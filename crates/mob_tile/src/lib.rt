@@ -9,7 +9,7 @@ mod groups;
 pub mod laws;
 mod pieces;
 mod splitting;
-pub mod tile;
+mod tile;
 
 pub use grid::{Grid, is_positive};
 pub use splitting::SplitFault;

@@ -39,15 +39,7 @@ slice_map f [] k x h = absurd (cc)
 slice_map f (y ∷ xs) zero x h = let same : y ≡ x = cc in ap (λ z. Some (f z)) same
 slice_map f (y ∷ xs) (suc k) x h = slice_map f xs k x h
 
-pub slice_each : {A : Type 0} (P : A → Type 0) (xs : List A) (k : ℕ) (x : A) → AllByRecursion P xs → slice_get xs k ≡ Some x → P x
-slice_each P [] k x all h = absurd (cc)
-slice_each P (y ∷ xs) zero x all h = let same : y ≡ x = cc in subst P same all.0
-slice_each P (y ∷ xs) (suc k) x all h = slice_each P xs k x all.1 h
-
 -- what holds of each of two lists together
-pub each_apart : {A : Type 0} (P : A → Type 0) (xs ys : List A) → AllByRecursion P (xs ++ ys) → AllByRecursion P xs × AllByRecursion P ys
-each_apart P [] ys h = (tt, h)
-each_apart P (x ∷ xs) ys h = let others = each_apart P xs ys h.1 in ((h.0, others.0), others.1)
 
 -- this entry, with its number, stands among these
 abbrev pub StandsIn : {A : Type 0} → List (List ℕ × A) → ℕ × A → Type 0

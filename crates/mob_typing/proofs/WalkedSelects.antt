@@ -20,7 +20,7 @@ use Rattle.mob_typed.specs.Named.{names_before}
 use Rattle.mob_typed.specs.Trees.{TypedTree, type_of}
 use Rattle.mob_typed.specs.Selects.{Output, TypedSelectParts, on_of}
 use Rattle.mob_typed.specs.Statements.{ColumnList}
-use Rattle.mob_list.proofs.Each.{each_both, each_map, each_on, each_parts}
+use Rattle.mob_list.proofs.Each.{each_both, each_get, each_map, each_on, each_parts}
 use Rattle.mob_expression.specs.declared.scope.Found.{Found}
 use Rattle.mob_expression.specs.Answers.{Mistake, ◌>>=◌, one_more}
 use Rattle.mob_expression.specs.Expressions.{column_named}
@@ -40,7 +40,7 @@ use Rattle.mob_grammar.proofs.Within.{within_all, within_back}
 use Rattle.mob_typing.proofs.Walk.{GivesOrStops, gives, stops, then, also, passes, finds, not_false, Adds, adds_none, adds_within, adds_both, Steps, Stays, still, all_stay}
 use Rattle.mob_typing.proofs.Apart.{entry_last}
 use Rattle.mob_clauses.proofs.Limits.{limit_small}
-use Rattle.mob_typing.proofs.Sound.{slice_map, slice_seam, slice_each, entry_stands, IsSound, both_true, sound_stays}
+use Rattle.mob_typing.proofs.Sound.{slice_map, slice_seam, entry_stands, IsSound, both_true, sound_stays}
 use Rattle.mob_typing.proofs.WalkedExpressions.{AreThere, numbers_of, IsPart, IsFound, column_walked, arguments_walked, expression_walked}
 
 -- the tables of FROM
@@ -265,7 +265,7 @@ module _ (At : ℕ → Type 0) (tables : List ColumnList) (s : ScopeParts) (begi
 
       typed_so : from_type tables (numbers_of s.from) f (length before) ≡ Some c.1
       typed_so = ap (option_and_then (λ j. column_type tables j (length before))) (slice_map (λ (x : List ℕ × ScopeTableParts). x.1.table) s.from f t at)
-          ∙ ap (option_and_then (λ (columns : ColumnList). option_map (λ k. k.1) (slice_get columns (length before)))) (slice_each (λ (x : List ℕ × ScopeTableParts). slice_get tables x.1.table ≡ Some x.1.columns) s.from f t there at)
+          ∙ ap (option_and_then (λ (columns : ColumnList). option_map (λ k. k.1) (slice_get columns (length before)))) (each_get (λ (x : List ℕ × ScopeTableParts). slice_get tables x.1.table ≡ Some x.1.columns) s.from f t there at)
           ∙ ap (λ (columns : ColumnList). option_map (λ k. k.1) (slice_get columns (length before))) (sym parts) ∙ ap (option_map (λ (k : List ℕ × SqlType). k.1)) (slice_seam before columns c)
 
   all_hold : (cs : List ConstText) (p : ℕ) (before more : List (List ℕ × ScopeTableParts)) → At p → before ++ more ≡ s.from → AllByRecursion (OutputHolds cs) (all_outputs (length before) more p)
@@ -448,7 +448,7 @@ module _ (At : ℕ → Type 0) (tables : List ColumnList) (s : ScopeParts) (begi
             let y = alias.0 in
             let a = alias.1 in
             let key : is_key (value_type y.0 a) ≡ true = ap is_key (sym alias.5) ∙ q.1 in
-            let holds : Holds cs x.1.0 = subst (Holds cs) (sym alias.4) (slice_each (OutputHolds cs) o.columns x.0 y so_far.0 alias.2) in
+            let holds : Holds cs x.1.0 = subst (Holds cs) (sym alias.4) (each_get (OutputHolds cs) o.columns x.0 y so_far.0 alias.2) in
             let judged : KeyHolds cs (x.1.0, k.descending) × IsJudged o (x.1.0, k.descending) (Some x.0) =
             ((holds, λ plain. ap (λ t. is_key (type_of t)) alias.4 ∙ own_type y a (zip_get IsItem o.columns o.aggs x.0 y a so_far.1 alias.2 alias.3) key plain), (y, a, alias.2, alias.3, alias.4, key)) in
             gives (subst (λ z. Steps n (key_places k) (λ ds w. KeyHolds ds w × IsJudged o w (Some x.0)) cs ((z.0, k.descending), z.1)) (sym q.0) (record { adds = adds_none; sound = judged })))
@@ -612,9 +612,9 @@ module _ (At : ℕ → Type 0) (tables : List ColumnList) (s : ScopeParts) (begi
     abbrev IsArrangement : OutputLists → List ConstText → ArrangementParts → Type 0
     IsArrangement o cs r = GroupsHold grouped x.groups [] x.groups r.groups × (KeysHold grouped x.groups o x.keys cs r.keys × ((r.key_items ≡ map (key_item o) x.keys) × IfSome r.limit (λ n. n < 10 ^ 18)))
 
-    order_walked : (o : OutputLists) (cs : List ConstText) → OutputsHold grouped x.groups cs o → AllByRecursion At (flat_map tree_held x.groups) → AllByRecursion At (flat_map key_held x.keys) → AllByRecursion At (word_held x.limit)
+    arrangement_walked : (o : OutputLists) (cs : List ConstText) → OutputsHold grouped x.groups cs o → AllByRecursion At (flat_map tree_held x.groups) → AllByRecursion At (flat_map key_held x.keys) → AllByRecursion At (word_held x.limit)
         → GivesOrStops At (Steps n (flat_map key_places x.keys) (IsArrangement o) cs) (typed_arrangement s (grouping grouped s x.groups) o x cs)
-    order_walked o cs so_far groups keys limit =
+    arrangement_walked o cs so_far groups keys limit =
         then (groups_walked grouped x.groups [] x.groups tt groups) (λ gr own.
         then (keys_walked grouped x.groups o x.keys cs so_far keys) (λ k d.
         then (limit_walked x.limit limit) (λ l limited. gives (record { adds = d.adds; sound = (own, (d.sound, (refl, limited))) }))))
@@ -631,7 +631,7 @@ module _ (At : ℕ → Type 0) (tables : List ColumnList) (s : ScopeParts) (begi
         let keys = each_parts At (flat_map key_held x.keys) (word_held x.limit) groups.1 in
         then (items_walked grouped x.groups no_outputs x.items cs (tt, tt) (λ own. any_grouped x own) items.0) (λ o a.
         then (conditions_walked o.1 as_many (ons_of At x.from from.0) cond.0) (λ w e.
-        then (order_walked o.0 w.1 (still (OutputsHold grouped x.groups) (outputs_stay grouped x.groups) o.0 e.adds a.sound) groups.0 keys.0 keys.1) (λ r f.
+        then (arrangement_walked o.0 w.1 (still (OutputsHold grouped x.groups) (outputs_stay grouped x.groups) o.0 e.adds a.sound) groups.0 keys.0 keys.1) (λ r f.
         let later = still AreConditions conditions_stay w.0 f.adds e.sound in
         gives (record {
           adds = subst (λ ps. Adds n ps cs r.1) (ap (λ ps. flat_map item_places x.items ++ ps) (append_assoc (flat_map from_places x.from) (condition_places x.cond) (flat_map key_places x.keys))) (adds_both a.adds (adds_both e.adds f.adds));
