@@ -11,4 +11,5 @@ mod uniting;
 
 pub use adding::{add_in, and_in, one, ones_of, or_in};
 pub use parts::{Part, Uniting, gathered, with_value};
+pub use taking::either;
 pub use uniting::{Conjunctions, Counts, Disjunctions};

@@ -39,8 +39,6 @@ slice_map f [] k x h = absurd (cc)
 slice_map f (y ∷ xs) zero x h = let same : y ≡ x = cc in ap (λ z. Some (f z)) same
 slice_map f (y ∷ xs) (suc k) x h = slice_map f xs k x h
 
--- what holds of each of two lists together
-
 -- this entry, with its number, stands among these
 abbrev pub StandsIn : {A : Type 0} → List (List ℕ × A) → ℕ × A → Type 0
 StandsIn {A} all e = (found : List ℕ × A) × (slice_get all e.0 ≡ Some found) × (found.1 ≡ e.1)
