@@ -2,6 +2,6 @@
 #![tactic(auto)]
 
 pub mod laws;
-mod text;
+pub mod text;
 
 pub use text::{SCRIPT_LIMIT, accept};

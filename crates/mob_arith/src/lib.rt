@@ -1,13 +1,13 @@
 //! Sums, differences and multiples of numbers, logic and the joining of texts, instant by instant.
 #![tactic(auto)]
 
-mod logic;
+pub mod logic;
 mod operate;
 pub mod operation;
-mod summed;
-mod sums;
+pub mod summed;
+pub mod sums;
 mod termwise;
-mod texts;
+pub mod texts;
 
 pub use logic::{and, not, or};
 pub use summed::Summed;

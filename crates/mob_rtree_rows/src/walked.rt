@@ -1,4 +1,5 @@
 // A tree as it is walked from its root.
+ghost use Rattle.std.specs.Prelude.{◌≡◌};
 
 use crate::boxes::boxed;
 use mob_rtree::{Child, RTree};

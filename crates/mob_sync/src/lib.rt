@@ -4,10 +4,10 @@
 #![tactic(auto)]
 
 mod alike;
-mod common;
+pub mod common;
 pub mod laws;
-mod ones;
-mod pieces;
+pub mod ones;
+pub mod pieces;
 
 pub use alike::are_alike;
 pub use common::Common;

@@ -4,13 +4,13 @@
 
 mod cells;
 mod cuts;
-mod grid;
+pub mod grid;
 mod groups;
 pub mod laws;
 mod pieces;
 mod splitting;
-mod tile;
+pub mod tile;
 
-pub use grid::{Grid, is_positive};
+pub use grid::Grid;
 pub use splitting::SplitFault;
 pub use tile::{Tile, TileRange};

@@ -12,4 +12,5 @@ mod settings;
 mod top;
 mod values;
 
+pub use settings::TileSettings;
 pub use top::{run_tile, tell_tile};
