@@ -2,6 +2,6 @@
 #![tactic(auto)]
 
 pub mod laws;
-pub mod text;
+mod text;
 
 pub use text::{SCRIPT_LIMIT, accept};

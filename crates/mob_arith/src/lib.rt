@@ -1,13 +1,13 @@
 //! Sums, differences and multiples of numbers, logic and the joining of texts, instant by instant.
 #![tactic(auto)]
 
-pub mod logic;
+mod logic;
 mod operate;
 pub mod operation;
-pub mod summed;
-pub mod sums;
+mod summed;
+mod sums;
 mod termwise;
-pub mod texts;
+mod texts;
 
 pub use logic::{and, not, or};
 pub use summed::Summed;

@@ -6,7 +6,7 @@ use Rattle.std.proofs.Common.{arith, ap, sym, ◌∙◌, subst, true≢false, in
 use Rattle.std.proofs.lemmas.Option.{slice_get_read}
 use Rattle.std.proofs.lemmas.List.Concat.{flat_map-append}
 use Rattle.std.specs.declared.cmp.Ordering.{Ordering}
-use Rattle.mob_list.proofs.Each.{each_both, each_more}
+use Rattle.mob_list.proofs.Each.{each_both, each_get, each_more, each_on}
 use Rattle.mob_ratio.specs.Ratio.{Ratio}
 use Rattle.mob_ratio.specs.Order.{before}
 use Rattle.mob_ratio.specs.Sign.{opposite, root_at, sign_of}
@@ -33,10 +33,6 @@ pub record IsMaking (s : SpanOf) (fs rest : List Ends) (cells : List SpanOf) (pl
   pub level : AllByRecursion (IsLevel s) rest
   pub fit : AllFit (roots_parts s rest) → AllFit (roots_parts s fs)
   pub fail : AllFit (roots_parts s fs) → AllFit (roots_parts s rest)
-
-each_of : {A : Type 0} (P Q : A → Type 0) → ((x : A) → P x → Q x) → (xs : List A) → AllByRecursion P xs → AllByRecursion Q xs
-each_of P Q f [] h = tt
-each_of P Q f (x ∷ xs) h = (f x h.0, each_of P Q f xs h.1)
 
 map_more : (xs : List Placed) (x : Placed) → functions_of (xs ++ x ∷ []) ≡ functions_of xs ++ x.ends ∷ []
 map_more [] x = refl
@@ -98,7 +94,7 @@ only_more s placed p cells h =
     let r = root_of s p.ends in
     let xs = roots s (functions_of placed) in
     subst (λ l. AllByRecursion (HasEnds (IsCut s l)) (cut_at r cells)) (sym (roots_more s placed p))
-    (cut_ends (IsCut s (xs ++ as_list r)) r cells (new_cut s xs r) (each_of (HasEnds (IsCut s xs)) (HasEnds (IsCut s (xs ++ as_list r))) (λ c k. (cut_front s xs (as_list r) c.lower k.0, cut_front s xs (as_list r) c.upper k.1)) cells h))
+    (cut_ends (IsCut s (xs ++ as_list r)) r cells (new_cut s xs r) (each_on (HasEnds (IsCut s xs)) (HasEnds (IsCut s (xs ++ as_list r))) (λ c k. (cut_front s xs (as_list r) c.lower k.0, cut_front s xs (as_list r) c.upper k.1)) cells h))
 
 pub start_ends : (P : Ratio → Type 0) (s : SpanOf) → P s.lower → P s.upper → (b l u : Bool) → AllByRecursion (HasEnds P) (cond b (cond l (instant_span s.lower ∷ []) [] ++ inner s ∷ cond u (instant_span s.upper ∷ []) []) (s ∷ []))
 start_ends P s p q false l u = ((p, q), tt)
@@ -138,10 +134,6 @@ pub level_next : (s : SpanOf) (fs rest later : List Ends) (f : Ends) (cells : Li
 level_next s fs rest later f cells placed e m = (subst (λ z. AllByRecursion (IsLevel s) z) e m.level).0
 
 -- ---- the sign of a function on a cell
-pub each_get : {A : Type 0} (P : A → Type 0) (xs : List A) (i : ℕ) (x : A) → AllByRecursion P xs → slice_get xs i ≡ Some x → P x
-each_get P [] i x h e = none_some x e
-each_get P (y ∷ xs) zero x h e = subst P (same_some e) h.0
-each_get P (y ∷ xs) (suc i) x h e = each_get P xs i x h.1 e
 
 pub get_ends : (ps : List Placed) (i : ℕ) (p : Placed) → slice_get ps i ≡ Some p → slice_get (functions_of ps) i ≡ Some p.ends
 get_ends [] i p e = none_some p e
@@ -189,7 +181,7 @@ list_read xs i x h e = rw add-one (rw (drop-cons xs i x) (ap (λ y. y ∷ drop (
 
 -- ---- what callers see
 inside_of : (s : SpanOf) (cells : List SpanOf) → AllByRecursion (λ c. is_cell_of s c ≡ true) cells → AllByRecursion (λ c. is_inside s c ≡ true) cells
-inside_of s cells h = each_of (λ c. is_cell_of s c ≡ true) (λ c. is_inside s c ≡ true) (λ c k. (and_parts (is_cell c) (is_inside s c) k).1) cells h
+inside_of s cells h = each_on (λ c. is_cell_of s c ≡ true) (λ c. is_inside s c ≡ true) (λ c k. (and_parts (is_cell c) (is_inside s c) k).1) cells h
 
 pub are_cells : (s : SpanOf) (cells : List SpanOf) → AreSplit s cells → AreCells s cells
 are_cells s cells h = record { clear = h.clear; inside = inside_of s cells h.are; covers = h.covers }

@@ -2,8 +2,9 @@
 use Rattle.std.specs.Prelude.{◌≡◌, Bool, true, false, cond, not, ◌&&◌, ◌||◌, ℕ, List, [], ◌∷◌, ◌++◌, slice_get, Option, Some, None, MatchOption, Result, Ok, Err, MatchResult, refl}
 use Rattle.std.proofs.lemmas.Bool.{and_parts, and_from}
 use Rattle.std.specs.List.{AllByRecursion, flat_map}
-use Rattle.std.proofs.Common.{arith, ap, sym, ◌∙◌, subst, true≢false, inl, inr, append_assoc, append-nil, ◌+◌}
+use Rattle.std.proofs.Common.{arith, ap, sym, ◌∙◌, subst, true≢false, inl, inr, append_assoc, append-nil}
 use Rattle.std.specs.declared.cmp.Ordering.{Ordering}
+use Rattle.mob_list.proofs.Each.{each_get}
 use Rattle.mob_ratio.specs.Ratio.{Ratio}
 use Rattle.mob_frac.specs.Formula.{AllFit}
 use Rattle.mob_span.specs.Span.{SpanOf, has}
@@ -29,7 +30,6 @@ use Rattle.mob_cells.specs.Restricted.{kept_value}
 use Rattle.mob_lifted.specs.Piecewise.{AreGivenInOrder, IsPiecewise}
 use Rattle.mob_lifted.proofs.Making.{is_lifted}
 use Rattle.mob_lifted.proofs.OnOnePiece.{one_kept}
-use Rattle.mob_cells.proofs.Making.{each_get}
 
 -- ---- one cell
 module _ {C B : Type 0} (value : C → Ratio → Ratio → Ratio → B) (start end : C → B) where

@@ -12,7 +12,7 @@ use Rattle.mob_clauses.specs.Outputs.{ColumnNumbers, is_grouped, grouping, Outpu
 use Rattle.mob_clauses.specs.Keys.{with_groups, key_item, typed_keys, limit_of}
 use Rattle.mob_clauses.specs.declared.clauses.Tables.{Tables}
 use Rattle.mob_clauses.specs.declared.clauses.Conditions.{Conditions as ConditionsOf}
-use Rattle.mob_clauses.specs.declared.clauses.Order.{Order}
+use Rattle.mob_clauses.specs.declared.clauses.Arrangement.{Arrangement}
 
 -- the tables of FROM, with the names that they go by there
 abbrev pub scope_tables : ScopeParts → Tables
@@ -27,17 +27,17 @@ abbrev pub typed_conditions : ScopeParts → SelectParts → TypingStep Conditio
 typed_conditions scope s cs = typed_joins scope s.from cs >>= λ j. condition scope s.cond j.1 >>= λ c. Ok (record { joins = j.0; cond = c.0 }, c.1)
 
 -- GROUP BY, ORDER BY and LIMIT
-pub record OrderParts : Type 0 where
+pub record ArrangementParts : Type 0 where
   pub groups : List TypedTree
   pub keys : List (TypedTree × Bool)
   pub key_items : List (Option ℕ)
   pub limit : Option ℕ
 
-abbrev pub typed_order : ScopeParts → Option (List ColumnNumbers) → OutputLists → SelectParts → TypingStep OrderParts
-typed_order scope g o s cs = with_groups scope [] s.groups >>= λ gs. typed_keys scope g o s.keys cs >>= λ k. limit_of s.limit >>= λ l. Ok (record { groups = gs; keys = k.0; key_items = map (key_item o) s.keys; limit = l }, k.1)
+abbrev pub typed_arrangement : ScopeParts → Option (List ColumnNumbers) → OutputLists → SelectParts → TypingStep ArrangementParts
+typed_arrangement scope g o s cs = with_groups scope [] s.groups >>= λ gs. typed_keys scope g o s.keys cs >>= λ k. limit_of s.limit >>= λ l. Ok (record { groups = gs; keys = k.0; key_items = map (key_item o) s.keys; limit = l }, k.1)
 
 -- what the clauses make together
-abbrev pub select_made : Tables → SelectParts → Bool → OutputLists → ConditionParts → OrderParts → TypedSelectParts
+abbrev pub select_made : Tables → SelectParts → Bool → OutputLists → ConditionParts → ArrangementParts → TypedSelectParts
 select_made t s grouped o c r = record {
   distinct = s.distinct;
   items = o.columns;
@@ -58,16 +58,16 @@ abbrev pub typed_clauses : ScopeParts → SelectParts → TypingStep TypedSelect
 typed_clauses scope s cs = do
   o ← with_items scope (grouping (is_grouped s) scope s.groups) no_outputs s.items cs
   c ← typed_conditions scope s o.1
-  r ← typed_order scope (grouping (is_grouped s) scope s.groups) o.0 s c.1
+  r ← typed_arrangement scope (grouping (is_grouped s) scope s.groups) o.0 s c.1
   Ok (select_made (scope_tables scope) s (is_grouped s) o.0 c.0 r.0, r.1)
 
 -- A DELETE is typed as the SELECT of one table with its condition and no item.
 abbrev pub rows_to_go : Word → Option Tree → SelectParts
 rows_to_go table cond = record { distinct = false; items = []; from = record { table = table; alias = None; on = None } ∷ []; cond = cond; groups = []; keys = []; limit = None }
 
--- the program's conditions, and its order, as such values
+-- the program's conditions, and its arrangement, as such values
 abbrev pub conditions_seen : ConditionsOf → ConditionParts
 conditions_seen c = record { joins = map (option_map typed_of) c.joins; cond = option_map typed_of c.cond }
 
-abbrev pub order_seen : Order → OrderParts
-order_seen r = record { groups = map typed_of r.groups; keys = map key_seen r.keys; key_items = r.key_items; limit = r.limit }
+abbrev pub arrangement_seen : Arrangement → ArrangementParts
+arrangement_seen r = record { groups = map typed_of r.groups; keys = map key_seen r.keys; key_items = r.key_items; limit = r.limit }

@@ -6,7 +6,7 @@ ghost use Rattle.mob_expression.specs.Answers.{TypesTo};
 ghost use Rattle.mob_expression.specs.Scopes.{scope_of};
 ghost use Rattle.mob_typed.specs.Selects.{select_seen};
 ghost use Rattle.mob_clauses.specs.Outputs.{outputs_seen};
-ghost use Rattle.mob_clauses.specs.Clauses.{scope_tables, typed_conditions, conditions_seen, typed_order, order_seen, rows_to_go, select_made, typed_clauses};
+ghost use Rattle.mob_clauses.specs.Clauses.{scope_tables, typed_conditions, conditions_seen, typed_arrangement, arrangement_seen, rows_to_go, select_made, typed_clauses};
 
 use crate::conditions::{condition, typed_joins};
 use crate::groups::{grouping, is_grouped};
@@ -41,7 +41,7 @@ pub struct Conditions {
 
 /// GROUP BY, ORDER BY and LIMIT of a SELECT.
 #[derive(Drop)]
-pub struct Order {
+pub struct Arrangement {
     /// The columns of GROUP BY.
     pub groups: Items<TExpr>,
     /// The keys of ORDER BY; true for DESC.
@@ -76,15 +76,15 @@ fn typed_conditions(
 }
 
 // GROUP BY, ORDER BY and LIMIT.
-fn typed_order(
+fn typed_arrangement(
     alloc: Global,
     scope: &Scope<'_>,
     grouping: &Option<Items<(u32, u32)>>,
     consts: &mut Items<ConstText>,
     outputs: &Outputs<'_>,
     select: &SelectTree,
-) -> Result<Order, Fault>
-    ensures typed { TypesTo order_seen result consts.new (typed_order (scope_of scope.now) grouping.now (outputs_seen outputs.now) (select_of select.now) consts.old) }
+) -> Result<Arrangement, Fault>
+    ensures typed { TypesTo arrangement_seen result consts.new (typed_arrangement (scope_of scope.now) grouping.now (outputs_seen outputs.now) (select_of select.now) consts.old) }
 {
     let groups = typed_groups(alloc, scope, select.groups.as_slice())?;
     let keys = typed_keys(
@@ -97,7 +97,7 @@ fn typed_order(
     )?;
     let limit = limit_of(&select.limit)?;
     let key_items = key_items(alloc, outputs, select.keys.as_slice())?;
-    Ok(Order {
+    Ok(Arrangement {
         groups,
         keys,
         key_items,
@@ -112,9 +112,9 @@ fn select_made(
     tables: Tables,
     outputs: Outputs<'_>,
     conditions: Conditions,
-    order: Order,
+    arrangement: Arrangement,
 ) -> TypedSelect
-    ensures whole { select_seen result ≡ select_made tables (select_of select.now) grouped (outputs_seen outputs.entry) (conditions_seen conditions) (order_seen order) }
+    ensures whole { select_seen result ≡ select_made tables (select_of select.now) grouped (outputs_seen outputs.entry) (conditions_seen conditions) (arrangement_seen arrangement) }
 {
     let Tables { numbers, names } = tables;
     let Outputs {
@@ -123,12 +123,12 @@ fn select_made(
         aliases: _,
     } = outputs;
     let Conditions { joins, cond } = conditions;
-    let Order {
+    let Arrangement {
         groups,
         keys,
         key_items,
         limit,
-    } = order;
+    } = arrangement;
     TypedSelect {
         distinct: select.distinct,
         items: Items::from_vec(columns),
@@ -159,9 +159,9 @@ pub fn typed_clauses(
     let grouping = grouping(alloc, grouped, scope, select.groups.as_slice())?;
     let outputs = outputs_of(alloc, scope, &grouping, consts, select.items.as_slice())?;
     let conditions = typed_conditions(alloc, scope, consts, select)?;
-    let order = typed_order(alloc, scope, &grouping, consts, &outputs, select)?;
+    let arrangement = typed_arrangement(alloc, scope, &grouping, consts, &outputs, select)?;
     let tables = scope_tables(alloc, scope)?;
-    Ok(select_made(select, grouped, tables, outputs, conditions, order))
+    Ok(select_made(select, grouped, tables, outputs, conditions, arrangement))
 }
 
 /// Types a DELETE over its table: a SELECT with its condition and no column of an answer. Returns

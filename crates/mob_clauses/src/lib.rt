@@ -2,9 +2,11 @@
 //! ORDER BY and LIMIT. The first error is refused with its place.
 #![tactic(auto)]
 
-pub mod clauses;
+mod clauses;
 mod conditions;
 mod groups;
 mod keys;
 mod outputs;
 mod tables;
+
+pub use clauses::{clauses_to_go, typed_clauses};

@@ -45,7 +45,7 @@ fn push_column(
 ) -> Result<(), Fault>
     ensures last { AnswersAs (λ _. map output_of columns.new.items) result (Ok (map output_of columns.old.items ++ (typed op ty place none, name.now) ∷ [])) }
 {
-    let name = Text::from_string(String::from_str(alloc, name)?);
+    let name = Text::from_str(alloc, name)?;
     columns.push((leaf(alloc, op, ty, place), name))?;
     Ok(())
 }

@@ -24,7 +24,7 @@ pub fn table_names(alloc: Global, sources: &[ScopeTable<'_>]) -> Result<Items<Te
 {
     let mut names = Items::new(alloc);
     for source in sources {
-        names.push(Text::from_string(String::from_str(alloc, source.name)?))?;
+        names.push(Text::from_str(alloc, source.name)?)?;
     }
     Ok(names)
 }

@@ -10,7 +10,7 @@ use Rattle.mob_ratio.specs.Sign.{sign_of}
 use Rattle.mob_frac.specs.Formula.{AllFit}
 use Rattle.mob_span.specs.Span.{SpanOf, has}
 use Rattle.mob_cells.specs.Roots.{function_at}
-use Rattle.mob_list.proofs.Each.{each_more}
+use Rattle.mob_list.proofs.Each.{each_more, each_parts}
 use Rattle.mob_plane.specs.Membership.{is_one_alone}
 use Rattle.mob_plane.specs.EdgeWise.{is_on, crosses, some_on, odd_cross, inside_by}
 use Rattle.mob_plane.specs.declared.edges.EdgeSigns.{EdgeSigns}
@@ -82,10 +82,6 @@ halves_at all left right t a b r e h k m =
     ∙ ap tally_all (sym (map_joined (λ e. steps_at e t) left right))
     ∙ ap (λ z. tally_all (map (λ e. steps_at e t) z)) e
 
-each_half : {A : Type 0} (P : A → Type 0) (left right : List A) → AllByRecursion P (left ++ right) → AllByRecursion P left × AllByRecursion P right
-each_half P [] right k = (tt, k)
-each_half P (x ∷ left) right k = let w = each_half P left right k.1 in ((k.0, w.0), w.1)
-
 -- what holds of what a call answers, from what it ensures
 pub if_ok : {A E : Type 0} {P Q : A → Type 0} (r : Result A E) → ((x : A) → P x → Q x) → IfOk r P → IfOk r Q
 if_ok (Ok x) f h = f x h
@@ -106,7 +102,7 @@ one_fits r all e n a b h = if_ok r (λ m k parts w. k parts (subst (AllChangesFi
 pub two_fit : {E : Type 0} (r : Result (Steps Tally) E) (all front back : List (Steps Tally)) (left right : Steps Tally) → front ++ back ≡ all → ((parts : Ratio → List Ratio) → AllChangesFit parts front → ChangesFit parts left.changes.items) → ((parts : Ratio → List Ratio) → AllChangesFit parts back → ChangesFit parts right.changes.items)
     → IfOk r (λ m. (parts : Ratio → List Ratio) → ChangesFit parts left.changes.items → ChangesFit parts right.changes.items → ChangesFit parts m.changes.items)
     → IfOk r (λ m. (parts : Ratio → List Ratio) → AllChangesFit parts all → ChangesFit parts m.changes.items)
-two_fit r all front back left right e a b h = if_ok r (λ m k parts w. let v = each_half (λ (x : Steps Tally). ChangesFit parts x.changes.items) front back (subst (AllChangesFit parts) (sym e) w) in k parts (a parts v.0) (b parts v.1)) h
+two_fit r all front back left right e a b h = if_ok r (λ m k parts w. let v = each_parts (λ (x : Steps Tally). ChangesFit parts x.changes.items) front back (subst (AllChangesFit parts) (sym e) w) in k parts (a parts v.0) (b parts v.1)) h
 
 pub two_values : {E : Type 0} (r : Result (Steps Tally) E) (all front back : List (Steps Tally)) (left right : Steps Tally) → front ++ back ≡ all → ((t : Ratio) → steps_at left t ≡ tally_all (map (λ e. steps_at e t) front)) → ((t : Ratio) → steps_at right t ≡ tally_all (map (λ e. steps_at e t) back))
     → IfOk r (λ m. (t : Ratio) → steps_at m t ≡ tally_both (steps_at left t) (steps_at right t)) → IfOk r (λ m. (t : Ratio) → steps_at m t ≡ tally_all (map (λ e. steps_at e t) all))

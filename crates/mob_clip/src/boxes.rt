@@ -1,16 +1,15 @@
 //! A moving point and a box.
 
-ghost use Rattle.std.specs.Prelude.{◌≡◌, Bool, true, false, not, [], ◌∷◌, cond, ◌&&◌, Option, Some, None, MatchOption, MatchResult, IfOk, List};
+ghost use Rattle.std.specs.Prelude.{◌≡◌, true, false, ◌&&◌, Option, Some, None, MatchResult, IfOk};
 ghost use Rattle.std.specs.List.{flat_map};
 ghost use Rattle.mob_frac.specs.Formula.{AllFit};
-ghost use Rattle.mob_span.specs.Span.{has, has_instant};
+ghost use Rattle.mob_span.specs.Span.{has};
 ghost use Rattle.mob_span.specs.Neighbours.{is_inside};
 ghost use Rattle.mob_slice.specs.Slices.{IsSound};
 ghost use Rattle.mob_slice.specs.Sides.{at_ends, HasValues};
 ghost use Rattle.mob_slice.specs.Cut.{slice_value, slice_parts};
 ghost use Rattle.mob_slice.specs.Entries.{IsJudged};
 ghost use Rattle.mob_slice.specs.Lines.{plane_value_of, plane_parts_of};
-ghost use Rattle.mob_lifted.specs.OnPiece.{AreKeptOn};
 ghost use Rattle.mob_cells.specs.Restricted.{IsRestricted};
 ghost use Rattle.mob_stbox.specs.Boxes.{in_box, in_space};
 ghost use Rattle.mob_clip.specs.Boxes.{entries_of_space, entries_of_box, entries_in_time, AreAround, front_span, back_span};

@@ -1,6 +1,6 @@
 //! Whether a moving point is inside a polygon, edge by edge.
 
-ghost use Rattle.std.specs.Prelude.{◌≡◌, true, [], None, Some, map, List, IfOk, MatchOption};
+ghost use Rattle.std.specs.Prelude.{◌≡◌, true, [], None, Some, map, List, IfOk};
 ghost use Rattle.std.specs.List.{AllByRecursion};
 ghost use Rattle.mob_ratio.specs.Ratio.{Ratio};
 ghost use Rattle.mob_ratio.specs.Sign.{sign_of};

@@ -1,6 +1,6 @@
 //! Values that change at some instants, and pairs of them taken together in one walk.
 
-ghost use Rattle.std.specs.Prelude.{◌≡◌, ◌<◌, ◌≤◌, ◌+◌, length, drop, map, List, IfOk};
+ghost use Rattle.std.specs.Prelude.{◌≡◌, ◌<◌, ◌≤◌, ◌+◌, length, drop, List, IfOk};
 ghost use Rattle.mob_ratio.specs.Ratio.{Ratio};
 ghost use Rattle.mob_clip.specs.Steps.{steps_at, ChangesFit, IsNextChange, mixed_left, mixed_right, mixed_both};
 

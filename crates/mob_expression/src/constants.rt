@@ -48,7 +48,7 @@ pub fn next_constant(
     ensures next { TypesTo (λ n. n) result consts.new (next_constant statement ty text.now place consts.old) }
 {
     let index = number(consts.len())?;
-    let text = Text::from_string(String::from_str(alloc, text)?);
+    let text = Text::from_str(alloc, text)?;
     consts.push(ConstText {
         ty,
         text,

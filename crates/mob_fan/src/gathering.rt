@@ -1,5 +1,5 @@
 // The outcome of all pieces together.
-ghost use Rattle.std.specs.Prelude.{◌≡◌, ◌≤◌, IfOk};
+ghost use Rattle.std.specs.Prelude.{◌≡◌, IfOk};
 ghost use Rattle.std.specs.List.Sorted.{IsPermutation};
 ghost use Rattle.mob_fan.specs.Outcomes.{outcome_seen};
 ghost use Rattle.mob_fan.specs.Pieces.{IsPiece, ArePieces, IsJoined};

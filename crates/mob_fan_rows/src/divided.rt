@@ -1,5 +1,5 @@
 // Divided work has one outcome for every number of workers, as many as there are to be.
-ghost use Rattle.std.specs.Prelude.{◌≡◌, ◌≤◌};
+ghost use Rattle.std.specs.Prelude.{◌≤◌};
 
 use crate::gates::{Passing, TwoFlags};
 use crate::numbers::Numbers;

@@ -1,5 +1,5 @@
 -- The operations on fractions that need not be in lowest terms.
-use Rattle.std.proofs.Common.{◌≡◌, ℕ, ◌*◌, ◌/◌, ◌^◌, ◌<◌, ℤ, pos, negsuc, ◌+ℤ◌, ◌*ℤ◌, ◌<ℤ◌, nat_abs, arith, sym, ap, refl, subst, ◌∙◌, lt_of_le_of_lt}
+use Rattle.std.proofs.Common.{◌≡◌, ℕ, ◌*◌, ◌^◌, ◌<◌, ℤ, pos, negsuc, ◌+ℤ◌, ◌*ℤ◌, ◌<ℤ◌, nat_abs, arith, sym, ap, refl, subst, ◌∙◌, lt_of_le_of_lt}
 use Rattle.std.specs.Prelude.{Option, Some, None, IfSome}
 use native.Mathlib.Nat.{mul-pos, div-le_self}
 use Rattle.mob_ratio.specs.Gcd.{gcd}

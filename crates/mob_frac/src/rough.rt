@@ -1,5 +1,5 @@
 // Fractions that need not be in lowest terms: steps on the way to a result that is reduced once.
-ghost use Rattle.std.specs.Prelude.{◌≡◌, ◌<◌, ◌^◌, pos, ◌<ℤ◌, nat_abs, IfSome};
+ghost use Rattle.std.specs.Prelude.{◌≡◌, ◌<◌, pos, ◌<ℤ◌, nat_abs, IfSome};
 ghost use Rattle.mob_ratio.specs.Ratio.{over, whole, ◌+ℚ◌, ◌*ℚ◌, ◌/ℚ◌, ◌<ℚ◌};
 ghost use Rattle.mob_frac.specs.Fits.{Fits, IsExact};
 

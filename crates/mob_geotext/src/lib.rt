@@ -19,7 +19,7 @@ pub use box_printing::write_stbox;
 pub use boxes::read_stbox;
 pub use laws::{one_reading, span_read_again, span_set_read_again};
 pub use many::read_span_set;
-pub use mob_points::{one_point, point_read_again, read_point, write_point};
+pub use mob_points::{read_point, write_point};
 pub use polygon_laws::{one_polygon, polygon_read_again};
 pub use polygon_printing::write_polygon;
 pub use polygons::read_polygon;

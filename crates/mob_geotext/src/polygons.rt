@@ -1,6 +1,6 @@
 //! Polygons, read from their texts.
-ghost use Rattle.std.specs.Prelude.{◌≡◌, ◌∷◌, [], option_map, Option, IfOk, IfSome, MatchOption, map};
-ghost use Rattle.mob_language.specs.Readers.{TextReader, all_of, within_blanks_at, separated_at as separated_in};
+ghost use Rattle.std.specs.Prelude.{◌≡◌, [], option_map, Option, IfOk};
+ghost use Rattle.mob_language.specs.Readers.{all_of, within_blanks_at, separated_at as separated_in};
 ghost use Rattle.mob_numeral.specs.Verdict.{Lit};
 ghost use Rattle.mob_scalar.specs.Brackets.{comma_at as comma_in};
 ghost use Rattle.mob_scalar.specs.Traverse.{traverse};

@@ -8,6 +8,7 @@ use Rattle.std.proofs.lemmas.List.Concat.{flat_map-append}
 use Rattle.std.proofs.lemmas.List.Elements.{All-contains, Contains-append_cases, Contains-append_left, Contains-append_right}
 use Rattle.std.proofs.lemmas.List.Sorted.{Contains-permutation}
 use Rattle.std.proofs.lemmas.List.Sums.{sum_by-append, sum_by-cons}
+use Rattle.mob_list.proofs.Each.{each_more}
 use borrow.Author.Tests.{eq-eqb, lt-ltb, eqb-true}
 use Rattle.mob_ratio.specs.Ratio.{Ratio}
 use Rattle.mob_ratio.specs.Order.{before, up_to, same}
@@ -26,7 +27,7 @@ use Rattle.mob_knn.specs.declared.waiting.Waiting.{Waiting}
 use Rattle.mob_knn.specs.declared.waiting.What.{What}
 use Rattle.mob_knn.specs.declared.waiting.What.TheVariants.{Node, Entry, Answer}
 use Rattle.mob_knn.specs.Nearest.{nearer, IsRising, AreFirstRows, last_approach, reach_of, lies_within, count_within, HasFewBelow}
-use Rattle.mob_knn.specs.Steps.{IsOnly, found_answer, State, IsOpened, IsMeasured, IsAnswered}
+use Rattle.mob_knn.specs.Steps.{IsOnly, found_answer, State, IsOpened, IsMeasured, IsRowAnswered}
 use Rattle.mob_knn.specs.Waits.{rank_of, waiting_number, what_of, waits_by, waits_at, waits_of, entries_in, answers_at}
 use Rattle.mob_knn.proofs.Lists.{box_in, in_box, sum_in, in_flat, flat_in, flat_permuted, flat_over, in_before, in_same, same_back, count_some}
 use Rattle.mob_knn.proofs.Orders.{up_to-trans, before_up_to, up_to_greater_left, up_to_greater_right, greater_up_to, reaches_on, IsNext, next_key}
@@ -41,13 +42,9 @@ pub record IsKnown (bs : List Branch) (root : Option ℕ) (entries : List EntryO
 
 -- ---- lists that rise
 
-all_push : {A : Type 0} (P : A → Type 0) (xs : List A) (x : A) → AllByRecursion P xs → P x → AllByRecursion P (xs ++ x ∷ [])
-all_push P [] x h k = (k, tt)
-all_push P (y ∷ xs) x h k = (h.0, all_push P xs x h.1 k)
-
 rising_push : (xs : List (ℕ × Ratio)) (x : ℕ × Ratio) → IsRising xs → ((o : ℕ × Ratio) → Contains xs o → nearer o x ≡ true) → IsRising (xs ++ x ∷ [])
 rising_push [] x h k = (tt, tt)
-rising_push (y ∷ xs) x h k = (all_push (λ s. nearer y s ≡ true) xs x h.0 (k y (first_in y xs)), rising_push xs x h.1 (λ o c. k o (later_in y xs o c)))
+rising_push (y ∷ xs) x h k = (each_more (λ s. nearer y s ≡ true) xs x h.0 (k y (first_in y xs)), rising_push xs x h.1 (λ o c. k o (later_in y xs o c)))
 
 last_push : (xs : List (ℕ × Ratio)) (x : ℕ × Ratio) → last_approach (xs ++ x ∷ []) ≡ Some x.1
 last_push [] x = refl
@@ -560,7 +557,7 @@ module _ (bs : List Branch) (root : Option ℕ) (entries : List EntryOf) (has : 
 
     -- ---- an answer is told
 
-    module _ (row : ℕ) (is : first.what ≡ Answer row) (new : State) (how : IsAnswered first.key row rest_state new) where
+    module _ (row : ℕ) (is : first.what ≡ Answer row) (new : State) (how : IsRowAnswered first.key row rest_state new) where
       abbrev told_here : ℕ × Ratio
       told_here = (row, first.key)
 

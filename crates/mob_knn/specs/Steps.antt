@@ -49,7 +49,7 @@ pub record IsMeasured (has : ℕ → Ratio → Type 0) (row : ℕ) (old new : St
   pub found : new.found ≡ old.found
   pub steps : new.steps ≡ old.steps + 1
 
-pub record IsAnswered (key : Ratio) (row : ℕ) (old new : State) : Type 0 where
+pub record IsRowAnswered (key : Ratio) (row : ℕ) (old new : State) : Type 0 where
   pub heap : new.heap ≡ old.heap
   pub found : new.found ≡ old.found ++ (row, key) ∷ []
   pub steps : new.steps ≡ old.steps
@@ -57,7 +57,7 @@ pub record IsAnswered (key : Ratio) (row : ℕ) (old new : State) : Type 0 where
 abbrev pub IsAdvanced : List Branch → BoxOf → (ℕ → Ratio → Type 0) → Ratio → What → State → State → Type 0
 IsAdvanced bs q has key (Node n) old new = IsOpened bs q key n old new
 IsAdvanced bs q has key (Entry row) old new = IsMeasured has row old new
-IsAdvanced bs q has key (Answer row) old new = IsAnswered key row old new
+IsAdvanced bs q has key (Answer row) old new = IsRowAnswered key row old new
 
 -- a fault at an entry
 abbrev pub HasUnfitPart : List (Option Trip) → Asked → ℕ → Formula → Type 0

@@ -1,5 +1,5 @@
 // The approach of one row.
-ghost use Rattle.std.specs.Prelude.{◌≡◌, IfOk, IfErr, Some, MatchOption};
+ghost use Rattle.std.specs.Prelude.{IfOk, IfErr, Some, MatchOption};
 ghost use Rattle.std.specs.List.{flat_map};
 ghost use Rattle.mob_slice.specs.Entries.{IsFirst};
 ghost use Rattle.mob_slice.specs.Sides.{Slices, given_at, operand_of, pieces};

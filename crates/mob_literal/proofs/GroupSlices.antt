@@ -4,6 +4,7 @@ use Rattle.std.proofs.Common.{◌≡◌, suc, ◌-◌, List, [], ◌∷◌, ◌+
 use Rattle.std.proofs.lemmas.Bool.{and_parts as both, and_from as and, not-true as not_true}
 use Rattle.std.specs.Prelude.{◌&&◌, ◌||◌, not, slice_get}
 use Rattle.std.specs.List.{AllByRecursion, list_all}
+use Rattle.mob_list.proofs.Each.{each_parts}
 use Rattle.mob_span.proofs.FirstOf.{or_else}
 use Rattle.mob_ratio.specs.Ratio.{Ratio}
 use Rattle.mob_ratio.specs.Order.{before, up_to, same}
@@ -22,10 +23,6 @@ use Rattle.mob_written.specs.Printed.{is_long, takes_up, shares_group, neighbour
 use Rattle.mob_literal.proofs.Drawn.{IsLawful, drawn_again, arrives_again}
 use Rattle.mob_literal.proofs.FlatLemmas.{flat, Ordered, ordered_rest}
 use Rattle.mob_written.proofs.Small.{false_true}
-
-pub alls_rest : {A : Type 0} (P : A → Type 0) (xs ys : List A) → AllByRecursion P (xs ++ ys) → AllByRecursion P ys
-alls_rest P [] ys h = h
-alls_rest P (x ∷ xs) ys h = alls_rest P xs ys h.1
 
 -- the slices of all groups
 abbrev pub joined : {C : Type 0} → List (List (Slice C)) → List (Slice C)
@@ -294,7 +291,7 @@ module _ {C B : Type 0} (has_value : B → Bool) (course : CourseOf C B) (laws :
   all_sound ([] ∷ groups) together ordered kept values = absurd together
   all_sound ((s ∷ group) ∷ groups) together ordered kept values =
       and _ _ (sound_group s group (joined groups) together.0 ordered kept values)
-      (all_sound groups together.1 (ordered_rest course (s ∷ group) (joined groups) ordered) (alls_rest IsKept (s ∷ group) (joined groups) kept) (alls_rest (λ (x : Slice C). (has_value (course.start x.course) ≡ true) × (has_value (course.end x.course) ≡ true)) (s ∷ group) (joined groups) values))
+      (all_sound groups together.1 (ordered_rest course (s ∷ group) (joined groups) ordered) (each_parts IsKept (s ∷ group) (joined groups) kept).1 (each_parts (λ (x : Slice C). (has_value (course.start x.course) ≡ true) × (has_value (course.end x.course) ≡ true)) (s ∷ group) (joined groups) values).1)
 
   -- ---- the groups are in order
 
@@ -332,7 +329,7 @@ module _ {C B : Type 0} (has_value : B → Bool) (course : CourseOf C B) (laws :
   flat_values ([] ∷ groups) together ordered kept t = absurd together
   flat_values ((s ∷ group) ∷ groups) together ordered kept t =
       let g = group_is s group (joined groups) together.0 ordered kept in
-      let others = flat_values groups together.1 (ordered_rest course (s ∷ group) (joined groups) ordered) (alls_rest IsKept (s ∷ group) (joined groups) kept) t in
+      let others = flat_values groups together.1 (ordered_rest course (s ∷ group) (joined groups) ordered) (each_parts IsKept (s ∷ group) (joined groups) kept).1 t in
       value_at-append course.value (slices_of course step s.span.lower_inc (start_of course s ∷ more course s group) (upper_of course s group)) (flat course step (map (sequence_of course) groups)) t
       ∙ ap (λ (o : Option B). or_else o (value_at course.value (flat course step (map (sequence_of course) groups)) t)) (g.values t)
       ∙ ap (λ (o : Option B). or_else (value_at course.value (s ∷ group) t) o) others

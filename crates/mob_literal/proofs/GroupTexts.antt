@@ -2,6 +2,7 @@
 use Rattle.std.proofs.Common.{◌≡◌, ℤ, List, [], ◌∷◌, ◌++◌, map, codes, Bool, true, false, cond, Option, Some, refl, sym, ap, subst, ◌∙◌, append_assoc, inl, inr}
 use Rattle.std.specs.Prelude.{◌&&◌, not, nat_eq}
 use Rattle.std.specs.List.{AllByRecursion, list_all}
+use Rattle.mob_list.proofs.Each.{each_parts}
 use Rattle.mob_ratio.specs.Ratio.{Ratio}
 use Rattle.mob_ratio.specs.Order.{same}
 use Rattle.mob_language.specs.Language.{Text, Separated}
@@ -21,7 +22,7 @@ use Rattle.mob_scalar.specs.Brackets.{comma, with_commas}
 use Rattle.mob_written.specs.Literal.{at_sign, noted, sequence, members, alone, literal, temporal}
 use Rattle.mob_written.specs.Printed.{Style, is_long, takes_up, neighbour_groups, put_in_group, instant_text, instants_of, start_text, opening_text, closing_text, group_text, groups_text, set_text, moving_text}
 use Rattle.mob_written.specs.Style.{style_of}
-use Rattle.mob_literal.proofs.GroupSlices.{alls_rest, start_of, end_of, more, upper_of, sequence_of, AllHoldTogether, are_groups, joined}
+use Rattle.mob_literal.proofs.GroupSlices.{start_of, end_of, more, upper_of, sequence_of, AllHoldTogether, are_groups, joined}
 use Rattle.mob_written.proofs.Small.{false_true}
 
 -- ---- the sign as it is printed
@@ -146,7 +147,7 @@ module _ {C B : Type 0} (course : CourseOf C B) (day : ℤ) (value : Text → Op
   groups_said : (groups : List (List (Slice C))) → AllHoldTogether course groups → AreSaid (joined groups) → Each (sequence entry) (group_text style) (noted_of_group course) groups
   groups_said [] together h = tt
   groups_said ([] ∷ groups) together h = absurd together
-  groups_said ((s ∷ group) ∷ groups) together h = (group_said s group (joined groups) h, groups_said groups together.1 (alls_rest IsSliceSaid (s ∷ group) (joined groups) h))
+  groups_said ((s ∷ group) ∷ groups) together h = (group_said s group (joined groups) h, groups_said groups together.1 (each_parts IsSliceSaid (s ∷ group) (joined groups) h).1)
 
   -- ---- groups, alone or in braces
 

@@ -1,5 +1,5 @@
 //! Temporal literals, read.
-ghost use Rattle.std.specs.Prelude.{◌≡◌, option_map, Option, Some, None, Ok, Err, IfOk, MatchResult, true, false};
+ghost use Rattle.std.specs.Prelude.{◌≡◌, option_map, Option, Some, None, Ok, Err, IfOk, true, false};
 ghost use Rattle.std.specs.List.{list_all};
 ghost use Rattle.mob_numeral.specs.Verdict.{Lit};
 ghost use Rattle.mob_literal.specs.Sound.{is_over_limit, written_of as written_in, fitting_sequence as fitting_in, fitting_all as all_fitting, clear_ends as ends_clear, is_before as precedes, are_in_order as in_order, fitting_literal as fitting_in_literal, written_literals, literals};

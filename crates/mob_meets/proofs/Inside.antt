@@ -3,6 +3,7 @@ use Rattle.std.proofs.Common.{◌≡◌, Bool, true, false, not, ◌&&◌, ◌||
 use Rattle.std.proofs.lemmas.Bool.{or_parts}
 use Rattle.std.specs.Prelude.{All, suc, length, slice_get, ◌-◌}
 use Rattle.std.specs.List.{AllByRecursion, list_any}
+use Rattle.mob_list.proofs.Each.{each_on, each_parts}
 use Rattle.mob_ratio.specs.Ratio.{Ratio, ◌+ℚ◌, ◌-ℚ◌, neg_ℚ, ◌*ℚ◌, ◌<ℚ◌, ◌≤ℚ◌}
 use Rattle.mob_ratio.specs.Order.{before, up_to}
 use Rattle.mob_ratio.specs.Sign.{nil}
@@ -217,21 +218,9 @@ all_is : {X : Type 0} (P : X → Type 0) (xs : List X) → All P xs → AllByRec
 all_is P [] h = tt
 all_is P (x ∷ xs) h = (h 0 x (omega arith), all_is P xs (λ k d lt. h (suc k) d (omega (arith, lt))))
 
-front_of : {X : Type 0} (P : X → Type 0) (xs ys : List X) → AllByRecursion P (xs ++ ys) → AllByRecursion P xs
-front_of P [] ys h = tt
-front_of P (x ∷ xs) ys h = (h.0, front_of P xs ys h.1)
-
-rest_of : {X : Type 0} (P : X → Type 0) (xs ys : List X) → AllByRecursion P (xs ++ ys) → AllByRecursion P ys
-rest_of P [] ys h = h
-rest_of P (x ∷ xs) ys h = rest_of P xs ys h.1
-
 ring_by_ring : (P : Point → Type 0) (rings : List (List Point)) → AllByRecursion P (all_points rings) → AllByRecursion (AllByRecursion P) rings
 ring_by_ring P [] h = tt
-ring_by_ring P (r ∷ rs) h = (front_of P r (all_points rs) h, ring_by_ring P rs (rest_of P r (all_points rs) h))
-
-all_then : {X : Type 0} (P Q : X → Type 0) → ((x : X) → P x → Q x) → (xs : List X) → AllByRecursion P xs → AllByRecursion Q xs
-all_then P Q f [] h = tt
-all_then P Q f (x ∷ xs) h = (f x h.0, all_then P Q f xs h.1)
+ring_by_ring P (r ∷ rs) h = let parts = each_parts P r (all_points rs) h in (parts.0, ring_by_ring P rs parts.1)
 
 each_closed : (rings : List (List Point)) → has_open rings ≡ false → AllByRecursion (λ r. is_open_ring r ≡ false) rings
 each_closed [] h = tt
@@ -248,7 +237,7 @@ pub inside_in : (a : Area) (rings : List (List Point)) (p : Point) → has_open 
 inside_in a rings p closed all k =
     let o = each_closed rings closed in
     let r = all_is (InArea a) (all_points rings) all in
-    let off : (Off : Point → Type 0) → ((q : Point) → InArea a q → Off q) → AllByRecursion (AllByRecursion Off) rings = λ Off f. ring_by_ring Off rings (all_then (InArea a) Off f (all_points rings) r) in
+    let off : (Off : Point → Type 0) → ((q : Point) → InArea a q → Off q) → AllByRecursion (AllByRecursion Off) rings = λ Off f. ring_by_ring Off rings (each_on (InArea a) Off f (all_points rings) r) in
     record {
       from_west = never_before a.xmin p.x (λ w.
           outside p (λ q. before p.x q.x ≡ true) (λ c d lc ld. on_x _ _ _ (between_above p.x c.x d.x lc ld))

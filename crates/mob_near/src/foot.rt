@@ -1,8 +1,6 @@
 //! The point of a way that is nearest to (0, 0).
-ghost use Rattle.std.specs.Prelude.{◌≡◌, ◌&&◌, ◌++◌, ◌∷◌};
+ghost use Rattle.std.specs.Prelude.{◌≡◌, ◌&&◌};
 ghost use Rattle.mob_ratio.specs.Ratio.{◌+ℚ◌, ◌-ℚ◌, ◌*ℚ◌};
-ghost use Rattle.mob_ratio.specs.Order.{before, same};
-ghost use Rattle.mob_ratio.specs.Sign.{nil};
 ghost use Rattle.mob_frac.specs.Formula.{IsFormula, approach_parts, within_parts};
 ghost use Rattle.mob_quadratic.specs.Quadratic.{absolute};
 ghost use Rattle.mob_near.specs.Legs.{dot_parts, cross_parts, foot_by, foot_by_parts, foot_of, is_on_the_way, foot_reaches, reach_quotients, foot_square, square_quotients};

@@ -1,6 +1,5 @@
 ghost use Rattle.std.specs.Prelude.{◌≡◌, ◌||◌, true, false, cond, Some, None, Ok, Err, IfOk, IsTrue, ◌↔◌};
 ghost use Rattle.std.specs.List.{flat_map};
-ghost use Rattle.mob_ratio.specs.Ratio.{◌*ℚ◌};
 ghost use Rattle.mob_ratio.specs.Order.{up_to};
 ghost use Rattle.mob_ratio.specs.Sign.{nil};
 ghost use Rattle.mob_slice.specs.Entries.{IsDecided};

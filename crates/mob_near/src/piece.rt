@@ -1,7 +1,5 @@
 //! How near two points come on one piece of time.
-ghost use Rattle.std.specs.Prelude.{◌≡◌, ◌&&◌, ◌||◌, true, IfOk};
-ghost use Rattle.mob_ratio.specs.Order.{before, up_to};
-ghost use Rattle.mob_ratio.specs.Sign.{nil};
+ghost use Rattle.std.specs.Prelude.{◌≡◌, ◌&&◌, ◌||◌, IfOk};
 ghost use Rattle.mob_quadratic.specs.Quadratic.{reaches_by, infimum_by};
 ghost use Rattle.mob_slice.specs.Entries.{IsDecided};
 ghost use Rattle.mob_slice.specs.Sides.{HoldsPiece, piece_of};

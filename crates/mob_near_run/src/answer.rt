@@ -115,8 +115,8 @@ fn rows_of(
 fn names(alloc: Global) -> Result<Items<Text>, AllocError>
     ensures names { IfOk result (λ names. names ≡ near_names) }
 {
-    let id = Text::from_string(String::from_str(alloc, "id")?);
-    let approach = Text::from_string(String::from_str(alloc, "approach")?);
+    let id = Text::from_str(alloc, "id")?;
+    let approach = Text::from_str(alloc, "approach")?;
     let mut names = Items::new(alloc);
     names.push(id)?;
     names.push(approach)?;

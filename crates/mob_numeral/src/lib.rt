@@ -12,8 +12,8 @@ mod words;
 
 pub use fault::ReadText;
 pub use laws::{number_read_again, numbers_with_figures, whole_read_again};
-pub use number::{evaluate, number_value_at, read_number, read_whole, ten_to};
-pub use numeral::{Exponent, Figures, Numeral, Tail, digits_at, number_at};
+pub use number::{number_value_at, read_number, read_whole, ten_to};
+pub use numeral::{Figures, digits_at};
 pub use printing::write_number;
 pub use readers::{
     behind, blanks, is_blank, maybe, some_blanks_at, spaced_at, split_while, within_blanks,

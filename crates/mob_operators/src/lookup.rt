@@ -2,7 +2,7 @@
 ghost use Rattle.std.specs.Prelude.{◌≡◌, map};
 ghost use Rattle.std.specs.List.{list_any, list_all};
 ghost use Rattle.mob_operators.specs.Table.{table, is_irrational};
-ghost use Rattle.mob_operators.specs.Lookup.{line_of, lines_of, same_type, same_form, has_type, is_temporal, is_whole_type, types_fit, are_same, meets, given, operator_named, operator_in, takes, answer_of, found_in, has_function};
+ghost use Rattle.mob_operators.specs.Lookup.{line_of, lines_of, same_type, has_type, is_temporal, is_whole_type, types_fit, are_same, meets, given, operator_named, operator_in, takes, answer_of, found_in, has_function};
 
 use crate::operator::{Form, Op};
 use crate::table::{Bond, ROWS, ResultType, Row};

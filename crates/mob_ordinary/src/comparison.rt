@@ -1,5 +1,5 @@
 //! The six plain comparisons.
-ghost use Rattle.std.specs.Prelude.{◌≡◌, ◌↔◌, IsTrue, ◌&&◌, cond, [], ◌∷◌, map};
+ghost use Rattle.std.specs.Prelude.{◌≡◌, ◌↔◌, IsTrue, ◌&&◌, [], ◌∷◌, map};
 ghost use Rattle.mob_span.specs.Flags.{same_bool};
 ghost use Rattle.mob_normal.specs.Widened.{level_line};
 ghost use Rattle.mob_slice.specs.Slices.{value_at};

@@ -12,4 +12,4 @@ pub mod logic;
 pub mod numbers;
 pub mod reading;
 pub mod sets;
-pub mod weights;
+mod weights;

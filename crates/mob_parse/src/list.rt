@@ -1,5 +1,5 @@
 //! Lists: phrases of one kind with a mark between.
-ghost use Rattle.std.specs.Prelude.{◌≡◌, map};
+ghost use Rattle.std.specs.Prelude.{map};
 ghost use Rattle.mob_grammar.specs.Reading.{TokenReader, listed};
 ghost use Rattle.mob_parse.specs.Cursors.{left, FollowsReading};
 ghost use Rattle.mob_parse.specs.Orderings.{put_behind};

@@ -2,7 +2,7 @@
 ghost use Rattle.std.specs.Prelude.{◌≡◌, Ok, true, false, map, IfOk, MatchOption, option_map};
 ghost use Rattle.mob_ast.specs.Trees.{tree_of, Tree, FromParts, from_of, ItemParts, item_of, KeyParts, key_of, select_of, StatementParts, statement_of};
 ghost use Rattle.mob_grammar.specs.Symbols.{begins, is_name, counts_all, first, rest};
-ghost use Rattle.mob_grammar.specs.Reading.{some_name_at, second_name_at, from_entry_at, on_at, joined_entry_at, joins_at, source_at, sources_at, group_column_at, group_at, delete_at, alias_at, count_tail_at, one_item_at, item_at, direction_at, key_at, distinct_at, from_at, condition_at, order_at, limit_at, select_at, explain_at, statement_at, script_at, listed};
+ghost use Rattle.mob_grammar.specs.Reading.{some_name_at, second_name_at, from_entry_at, on_at, joined_entry_at, joins_at, source_at, sources_at, group_column_at, group_at, delete_at, alias_at, count_tail_at, one_item_at, item_at, direction_at, key_at, distinct_at, from_at, condition_at, order_at, limit_at, select_at, explain_at, statement_at, script_at};
 ghost use Rattle.mob_parse.specs.Cursors.{left, FollowsReading};
 ghost use Rattle.mob_parse.specs.Orderings.{ordering_at, put_behind};
 ghost use Rattle.mob_parse.specs.Shrinks.{from_entry_shrinks, joined_entry_shrinks, group_column_shrinks, item_shrinks, key_shrinks, statement_shrinks};

@@ -1,6 +1,5 @@
 //! The least rectangle that has some points.
 ghost use Rattle.std.specs.Prelude.{◌≡◌, fold};
-ghost use Rattle.mob_ratio.specs.Order.{before};
 ghost use Rattle.mob_plane.specs.Corners.{all_points, widened, smaller, greater};
 ghost use Rattle.mob_plane.specs.Rings.{rings_of};
 

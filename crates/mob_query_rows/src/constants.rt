@@ -11,7 +11,7 @@ use std::alloc::{AllocError, Global};
 fn truth(alloc: Global, characters: &str, place: u32) -> Result<ConstText, AllocError> {
     Ok(ConstText {
         ty: SqlType::Bool,
-        text: Text::from_string(String::from_str(alloc, characters)?),
+        text: Text::from_str(alloc, characters)?,
         statement: 2,
         place,
     })

@@ -86,7 +86,7 @@ fn is_null(alloc: Global, store: &Store, op: Op, operands: &[u32]) -> bool {
 }
 
 fn constants(alloc: Global) -> Result<Items<Value>, AllocError> {
-    let text = Text::from_string(String::from_str(alloc, "b")?);
+    let text = Text::from_str(alloc, "b")?;
     let values = [
         number(1),
         Value::Text(text),

@@ -1,6 +1,6 @@
 //! What holds of every tree. No code runs here.
 
-ghost use Rattle.std.specs.Prelude.{◌≡◌, All, List};
+ghost use Rattle.std.specs.Prelude.{◌≡◌, All};
 ghost use Rattle.mob_rtree_nodes.specs.Reach.{HaveOneDepth};
 ghost use Rattle.mob_rtree.specs.Shape.{HasLeastBox, boxes_of};
 

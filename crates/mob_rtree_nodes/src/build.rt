@@ -1,8 +1,6 @@
 //! How a tree is built of many entries: near ones beside one another, packed level upon level.
-ghost use Rattle.std.specs.Prelude.{◌≡◌, ℕ, ◌+◌, ◌*◌, ◌^◌, ◌<◌, ◌≤◌, sum_by, count_by, length, map, OnOk, IfOk, All, true, not, List, [], ◌∷◌, ◌++◌};
-ghost use Rattle.std.specs.Vec.{vec_len};
-ghost use Rattle.arrayvec.specs.ArrayVec.{array_vec_len};
-ghost use Rattle.mob_rtree_nodes.specs.Tree.{IsTree, IsSoundNode, Kid, EntryOf, entry_of, ref, is_fit, entries_sum, AreLive};
+ghost use Rattle.std.specs.Prelude.{◌≡◌, ℕ, ◌+◌, ◌*◌, ◌^◌, ◌<◌, ◌≤◌, sum_by, count_by, length, map, OnOk, IfOk, true, not, List, [], ◌∷◌, ◌++◌};
+ghost use Rattle.mob_rtree_nodes.specs.Tree.{IsTree, Kid, EntryOf, ref, is_fit, entries_sum, AreLive};
 ghost use Rattle.mob_rtree_nodes.specs.Builds.{kid_of, IsForest, IsPacking, IsClosed, leaf_sum};
 
 use crate::insert::cover_all;

@@ -1,5 +1,5 @@
 //! How an entry is put in below a node, and nodes are split.
-ghost use Rattle.std.specs.Prelude.{◌≡◌, ℕ, ◌+◌, ◌*◌, ◌^◌, ◌<◌, ◌≤◌, sum_by, count_by, length, IfSome, All, true, not, List, ◌++◌, set, get_or};
+ghost use Rattle.std.specs.Prelude.{◌≡◌, ℕ, ◌+◌, ◌^◌, ◌<◌, sum_by, count_by, length, IfSome, All, true, not};
 ghost use Rattle.std.specs.Vec.{vec_len, vec_capacity};
 ghost use Rattle.arrayvec.specs.ArrayVec.{array_vec_len};
 ghost use Rattle.mob_stbox.specs.Boxes.{contains, is_whole};

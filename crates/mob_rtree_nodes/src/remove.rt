@@ -1,7 +1,7 @@
 //! How an entry is taken out below a node.
-ghost use Rattle.std.specs.Prelude.{◌≡◌, ◌≢◌, ℕ, ◌+◌, ◌<◌, ◌≤◌, sum_by, count_by, length, List, All, set, get_or, IfNone, IfSome, true, []};
+ghost use Rattle.std.specs.Prelude.{◌≡◌, ◌<◌, ◌≤◌, count_by, length, All, get_or, IfNone, IfSome, true};
 ghost use Rattle.std.specs.Vec.{vec_capacity};
-ghost use Rattle.mob_stbox.specs.Boxes.{contains, is_whole};
+ghost use Rattle.mob_stbox.specs.Boxes.{is_whole};
 ghost use Rattle.mob_rtree_nodes.specs.Tree.{IsTree, IsSoundNode, IsFree, Ref, Kid, kids_at, height_at};
 ghost use Rattle.mob_rtree_nodes.specs.declared.remove.Removed.TheVariants.{Missing, Narrowed, Emptied};
 ghost use Rattle.mob_rtree_nodes.specs.Removes.{is_entry, IsSettled, IsSettledAt, IsRemoved, is_whole_left};

@@ -1,7 +1,7 @@
 //! How entries are looked for below a node.
 ghost use Rattle.std.specs.Prelude.{◌≡◌, ℕ, ◌+◌, ◌*◌, ◌<◌, ◌≤◌, sum_by, length, OnOk, List, ◌++◌};
 ghost use Rattle.mob_stbox.specs.Boxes.{overlaps};
-ghost use Rattle.mob_rtree_nodes.specs.Tree.{IsTree, EntryOf, height_at, walk_sum, Ref};
+ghost use Rattle.mob_rtree_nodes.specs.Tree.{IsTree, height_at, walk_sum, Ref};
 
 use crate::node::TreeNode;
 use mob_stbox::StBox;

@@ -1,7 +1,6 @@
 // A tree of points on a line, put in one by one: nodes are split, entries are taken out and put in
 // again.
-ghost use Rattle.std.specs.Prelude.{◌≡◌, true};
-ghost use Rattle.mob_stbox.specs.Boxes.{is_whole};
+ghost use Rattle.std.specs.Prelude.{true};
 
 use crate::boxes::boxed;
 use crate::found::finds;

@@ -1,7 +1,6 @@
 // Entries of many ids that are taken out in one pass, and the same one by one.
-ghost use Rattle.std.specs.Prelude.{◌≡◌, true, IfSome};
+ghost use Rattle.std.specs.Prelude.{true, IfSome};
 ghost use Rattle.std.specs.List.Sorted.{IsNonDecreasing};
-ghost use Rattle.mob_stbox.specs.Boxes.{is_whole};
 
 use crate::boxes::boxed;
 use crate::found::finds;

@@ -1,5 +1,5 @@
 // A tree of three boxes, of which two are equal and touch the one that is asked for.
-ghost use Rattle.std.specs.Prelude.{◌≡◌, true, All, IfSome};
+ghost use Rattle.std.specs.Prelude.{◌≡◌, true, IfSome};
 ghost use Rattle.mob_stbox.specs.Boxes.{is_whole};
 
 use crate::boxes::boxed;

@@ -1,5 +1,4 @@
 // A tree as it is walked from its root.
-ghost use Rattle.std.specs.Prelude.{◌≡◌};
 
 use crate::boxes::boxed;
 use mob_rtree::{Child, RTree};

@@ -3,6 +3,7 @@ use Rattle.std.specs.Prelude.{◌≡◌, ◌⊎◌, Bool, true, false, cond, ref
 use Rattle.std.specs.List.{AllByRecursion}
 use Rattle.std.specs.Iterator.{Yields, Drains}
 use Rattle.std.proofs.Common.{ap, sym, ◌∙◌, subst, inl, inr, ⊎_elim}
+use Rattle.mob_list.proofs.Each.{each_both}
 use Rattle.mob_ratio.specs.Ratio.{Ratio}
 use Rattle.mob_frac.specs.Formula.{AllFit}
 use Rattle.mob_span.specs.Span.{has, has_instant}
@@ -41,10 +42,6 @@ use Rattle.mob_shares.proofs.Walked.{Walk, step_of}
 
 pub pair_fit : {C B : Type 0} (start end : C → B) (p : Pair C C) → HoldsShare start end (share_of (Both p)) → IsPairFit start end start end p
 pair_fit start end p h = record { in_left = h.0.1; in_right = h.1.1; left = h.0.0; right = h.1.0 }
-
-all_joined : {X : Type 0} (P : X → Type 0) (xs ys : List X) → AllByRecursion P xs → AllByRecursion P ys → AllByRecursion P (xs ++ ys)
-all_joined P [] ys h k = k
-all_joined P (x ∷ xs) ys h k = (h.0, all_joined P xs ys h.1 k)
 
 module _ {C B V : Type 0} (value : C → Ratio → Ratio → Ratio → B) (start end : C → B) (parts : C → Ratio → Ratio → Ratio → List Ratio) (items : V → List (Slice C)) (returns : Pair C C → Result V OpFault → Type 0) (gives : Share C → V → Type 0)
     (gave : (p : Share C) (x : V) → gives p x → HoldsShare start end (share_of p) × IsShareGiven value start end parts items returns p (Ok x)) where
@@ -110,7 +107,7 @@ module _ {C B V : Type 0} (value : C → Ratio → Ratio → Ratio → B) (start
     answered_from (p ∷ xs) s t slices can y l h =
         let step = step_of s y.0 p can y.1 in
         subst (λ z. AllByRecursion (λ q. AllFit (piece_parts parts q) × ((x : V) × IsAnswered start end returns q (Ok x))) z) (sym step.shared)
-        (all_joined (λ q. AllFit (piece_parts parts q) × ((x : V) × IsAnswered start end returns q (Ok x))) (both_of (share_of p)) (shared_cuts (rest_of y.0.lefts) (rest_of y.0.rights)) (by p h.0 h.2 step.some) (answered_from xs y.0 t h.1 step.clear y.2 l h.3))
+        (each_both (λ q. AllFit (piece_parts parts q) × ((x : V) × IsAnswered start end returns q (Ok x))) (both_of (share_of p)) (shared_cuts (rest_of y.0.lefts) (rest_of y.0.rights)) (by p h.0 h.2 step.some) (answered_from xs y.0 t h.1 step.clear y.2 l h.3))
       where
         by : (p : Share C) (x : V) → gives p x → has_instant (share_span p) ≡ true → AllByRecursion (λ q. AllFit (piece_parts parts q) × ((x : V) × IsAnswered start end returns q (Ok x))) (both_of (share_of p))
         by (Left o) x g i = tt

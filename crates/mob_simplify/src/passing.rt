@@ -1,6 +1,6 @@
 //! Whether a straight course may stand for a run from one break to another.
 
-ghost use Rattle.std.specs.Prelude.{◌≡◌, ◌++◌, ◌&&◌, [], ◌∷◌, true, IfOk};
+ghost use Rattle.std.specs.Prelude.{◌≡◌, ◌++◌, [], ◌∷◌, true, IfOk};
 ghost use Rattle.std.specs.List.{AllByRecursion};
 ghost use Rattle.mob_ratio.specs.Ratio.{◌*ℚ◌, ◌-ℚ◌};
 ghost use Rattle.mob_ratio.specs.Order.{before, up_to};

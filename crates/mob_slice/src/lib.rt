@@ -9,17 +9,17 @@
 //! has lines and how they are compared; `slice` has a slice and a piece of one.
 #![tactic(auto)]
 
-pub mod comparison;
-pub mod course;
-pub mod formula;
+mod comparison;
+mod course;
+mod formula;
 pub mod laws;
-pub mod line;
-pub mod moving;
-pub mod operand;
-pub mod part;
-pub mod side;
-pub mod slice;
-pub mod steady;
+mod line;
+mod moving;
+mod operand;
+mod part;
+mod side;
+mod slice;
+mod steady;
 
 pub use comparison::{Compared, Gaps, Ranked, Rel};
 pub use course::Course;

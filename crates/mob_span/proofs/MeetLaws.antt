@@ -3,6 +3,7 @@ use Rattle.std.specs.Prelude.{◌≡◌, Bool, true, false, cond, ◌&&◌, Opti
 use Rattle.std.specs.List.{filter, AllByRecursion}
 use Rattle.std.specs.Option.{option_zip}
 use Rattle.std.proofs.Common.{ap, sym, ◌∙◌}
+use Rattle.mob_list.proofs.Each.{each_both}
 use Rattle.mob_span.proofs.FirstOf.{or_else}
 use Rattle.mob_ratio.specs.Ratio.{Ratio}
 use Rattle.mob_span.specs.Span.{SpanOf, has, has_instant}
@@ -126,10 +127,6 @@ module _ {X Y : Type 0} (span : X → SpanOf) (span' : Y → SpanOf) where
     abbrev pub HoldsBoth : PieceOf X Y → Type 0
     HoldsBoth p = (P p.left × (is_inside (span p.left) p.span ≡ true)) × (Q p.right × (is_inside (span' p.right) p.span ≡ true))
 
-    all_both : (ps qs : List (PieceOf X Y)) → AllByRecursion HoldsBoth ps → AllByRecursion HoldsBoth qs → AllByRecursion HoldsBoth (ps ++ qs)
-    all_both [] qs h k = k
-    all_both (p ∷ ps) qs h k = (h.0, all_both ps qs h.1 k)
-
     row_hold : (x : X) (w : List Y) → P x → AllByRecursion Q w → AllByRecursion HoldsBoth (row span span' x w)
     row_hold x [] h k = tt
     row_hold x (y ∷ w) h k = by (row_hold x w h k.1) (has_instant (meet_of (span x) (span' y)))
@@ -140,4 +137,4 @@ module _ {X Y : Type 0} (span : X → SpanOf) (span' : Y → SpanOf) where
 
     pub meets_hold : (v : List X) (w : List Y) → AllByRecursion P v → AllByRecursion Q w → AllByRecursion HoldsBoth (shared_pieces span span' v w)
     meets_hold [] w h k = tt
-    meets_hold (x ∷ v) w h k = all_both (row span span' x w) (shared_pieces span span' v w) (row_hold x w h.0 k) (meets_hold v w h.1 k)
+    meets_hold (x ∷ v) w h k = each_both HoldsBoth (row span span' x w) (shared_pieces span span' v w) (row_hold x w h.0 k) (meets_hold v w h.1 k)

@@ -4,13 +4,13 @@
 //! instants is a list of spans that do not touch.
 #![tactic(auto)]
 
-pub mod flags;
+mod flags;
 pub mod laws;
-pub mod remainder;
-pub mod set;
-pub mod span;
-pub mod spanned;
-pub mod walk;
+mod remainder;
+mod set;
+mod span;
+mod spanned;
+mod walk;
 
 pub use flags::same_bool;
 pub use remainder::{remainders, whole};

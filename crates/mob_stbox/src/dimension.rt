@@ -1,5 +1,5 @@
 //! One dimension of two boxes: each of them has it or lacks it.
-ghost use Rattle.std.specs.Prelude.{◌≡◌, ◌&&◌, ◌||◌, true, is_some, Option};
+ghost use Rattle.std.specs.Prelude.{◌≡◌, ◌&&◌, ◌||◌, true, Option};
 ghost use Rattle.mob_span.specs.Neighbours.{is_inside};
 ghost use Rattle.mob_stbox.specs.Areas.{areas_meet, area_over, area_cover, same_area};
 ghost use Rattle.mob_stbox.specs.Boxes.{both_have, where_both, spans_meet, lies_in, of_both, span_cover, same_span, same_part};

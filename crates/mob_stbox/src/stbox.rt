@@ -1,5 +1,5 @@
 //! Boxes of the plane and of time.
-ghost use Rattle.std.specs.Prelude.{◌≡◌, ◌↔◌, true, false, IsTrue, IsNone, IfSome, MatchOption, Option, Some, None};
+ghost use Rattle.std.specs.Prelude.{◌≡◌, ◌↔◌, true, IsTrue, IsNone, IfSome, MatchOption, Option, Some, None};
 ghost use Rattle.std.specs.Cmp.{partial_equiv_from_equiv};
 ghost use Rattle.mob_frac.specs.Formula.{IsFormula};
 ghost use Rattle.mob_stbox.specs.Areas.{is_area};

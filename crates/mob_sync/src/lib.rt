@@ -4,10 +4,10 @@
 #![tactic(auto)]
 
 mod alike;
-pub mod common;
+mod common;
 pub mod laws;
-pub mod ones;
-pub mod pieces;
+mod ones;
+mod pieces;
 
 pub use alike::are_alike;
 pub use common::Common;

@@ -1,7 +1,8 @@
 -- No count of a list of fewer than 2^62 values passes a formula.
-use Rattle.std.specs.Prelude.{◌≡◌, ◌+◌, ◌<◌, ◌≤◌, ◌^◌, Bool, true, false, cond, not, ℕ, pos, refl, List, [], ◌∷◌, ◌++◌, map, filter, length, Option, Some, None}
+use Rattle.std.specs.Prelude.{◌≡◌, ◌+◌, ◌<◌, ◌≤◌, ◌^◌, Bool, true, false, cond, not, ℕ, pos, refl, List, [], ◌∷◌, map, filter, length, Option, Some, None}
 use Rattle.std.specs.List.{AllByRecursion, flat_map}
 use Rattle.std.proofs.Common.{ap, sym, ◌∙◌, subst, inl, arith}
+use Rattle.mob_list.proofs.Each.{each_both}
 use Rattle.mob_ratio.specs.Ratio.{Ratio, whole, ◌+ℚ◌}
 use Rattle.mob_ratio.specs.Order.{same}
 use Rattle.mob_ratio.proofs.Rings.{whole-add}
@@ -61,10 +62,6 @@ module _ (P : Ratio → Type 0) where
 
 -- ---- the entries of a sum on the pieces that two values share
 
-both_all : {X : Type 0} (P : X → Type 0) (xs ys : List X) → AllByRecursion P xs → AllByRecursion P ys → AllByRecursion P (xs ++ ys)
-both_all P [] ys h k = k
-both_all P (x ∷ xs) ys h k = (h.0, both_all P xs ys h.1 k)
-
 module _ (P Q : Ratio → Type 0) (fits : (x y : Ratio) → P x → Q y → Fits (x +ℚ y)) where
   abbrev Piece : Type 0
   Piece = PieceOf (Slice (Steady Ratio)) (Slice (Steady Ratio))
@@ -84,7 +81,7 @@ module _ (P Q : Ratio → Type 0) (fits : (x y : Ratio) → P x → Q y → Fits
 
   shared : (v w : StepSlices Ratio) → AllByRecursion (λ s. P s.course.value) v → AllByRecursion (λ r. Q r.course.value) w → AllByRecursion Both (shared_pieces (λ s. s.span) (λ r. r.span) v w)
   shared [] w h k = tt
-  shared (s ∷ v) w h k = both_all Both _ (shared_pieces (λ s. s.span) (λ r. r.span) v w) (row s w h.0 k) (shared v w h.1 k)
+  shared (s ∷ v) w h k = each_both Both _ (shared_pieces (λ s. s.span) (λ r. r.span) v w) (row s w h.0 k) (shared v w h.1 k)
 
   entries_fit : (qs : List Piece) → AllByRecursion Both qs → IsFirst (flat_map (entries_at_ends steady_value steady_parts steady_value steady_parts sum_parts) (map (λ q. record { span = q.span; left = Moves q.left; right = Moves q.right }) qs)) None
   entries_fit [] h = refl

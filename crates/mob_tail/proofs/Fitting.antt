@@ -9,14 +9,6 @@ use Rattle.mob_eval.proofs.Fitting.{roots_fit}
 use Rattle.mob_tail.specs.Recalling.{AnswerFits, answer_recollection, item_trees, key_trees}
 
 module _ {X : Type 0} (P : X → Type 0) where
-  pub each_front : (xs ys : List X) → AllByRecursion P (xs ++ ys) → AllByRecursion P xs
-  each_front [] ys h = tt
-  each_front (x ∷ xs) ys h = (h.0, each_front xs ys h.1)
-
-  pub each_back : (xs ys : List X) → AllByRecursion P (xs ++ ys) → AllByRecursion P ys
-  each_back [] ys h = h
-  each_back (x ∷ xs) ys h = each_back xs ys h.1
-
   -- at the place i of a list
   pub each_at : {W : Type 0} (see : W → X) (ws : List W) (i : ℕ) (w : W) → i < length ws → w ≡ get_or ws i w → AllByRecursion P (map see ws) → P (see w)
   each_at see [] i w lt is h = absurd (omega (arith, lt))

@@ -11,7 +11,7 @@ use Rattle.mob_meaning.specs.Scene.{scene}
 use Rattle.mob_value.specs.declared.store.Store.{Store}
 use Rattle.mob_groups.specs.Groups.{first_keys, members}
 use Rattle.mob_tagg.specs.Rows.{earlier}
-use Rattle.mob_tail.specs.declared.grouped.Group.{Group}
+use Rattle.mob_tail.specs.declared.group_cells.Group.{Group}
 use Rattle.mob_tail.specs.Groups.{is_bare, column_on, group_fields, same_texts, same_group, under_fields, has_groups}
 
 -- each two keys differ

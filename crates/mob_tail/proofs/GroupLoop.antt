@@ -15,8 +15,8 @@ use Rattle.mob_groups.specs.Groups.{first_keys, group_number}
 use Rattle.mob_tagg.specs.Rows.{IsTuple}
 use Rattle.mob_tagg.proofs.RowSteps.{none_more, fault_at}
 use Rattle.mob_tail.specs.declared.columns.Column.{Column as ColumnOf}
-use Rattle.mob_tail.specs.declared.grouped.Cell.{Cell}
-use Rattle.mob_tail.specs.declared.grouped.Group.{Group}
+use Rattle.mob_tail.specs.declared.group_cells.GroupCell.{GroupCell}
+use Rattle.mob_tail.specs.declared.group_cells.Group.{Group}
 use Rattle.mob_tail.specs.declared.state.State.{State}
 use Rattle.mob_tail.specs.Groups.{group_fields, same_texts, same_group, under_fields, has_groups, groups_on}
 use Rattle.mob_tail.specs.GroupedAnswers.{Column, columns_of, IsArgumentOn, IsAddingTo, IsColumnValue, keys_from, IsGroupRow, IsGroupedFault}
@@ -48,7 +48,7 @@ module _ (select : TypedSelectParts) (store : Store) (day : ℤ) where
   start_state (e, None) x h = (Null, h, refl)
   start_state (e, Some agg) x h = let s = h agg.ty in (s.0, s.1, ([], tt, s.2))
 
-  start_cells : (columns : List ColumnOf) (cells : List Cell) → AllZip IsStartCell columns cells → AllZip (IsCellOf select store day []) (map column_seen columns) cells
+  start_cells : (columns : List ColumnOf) (cells : List GroupCell) → AllZip IsStartCell columns cells → AllZip (IsCellOf select store day []) (map column_seen columns) cells
   start_cells [] [] h = tt
   start_cells [] (c ∷ cells) h = absurd h
   start_cells (d ∷ columns) [] h = absurd h
@@ -188,7 +188,7 @@ module _ (select : TypedSelectParts) (store : Store) (day : ℤ) where
   -- ---- rows
 
   -- the values that are held for a group
-  cells_made : (group : List (List ℕ)) (columns : List Column) (cells : List Cell) → AllZip (IsCellOf select store day group) columns cells → (values : List Value) × AllZip IsCellHeld values cells × AllZip (IsColumnValue select store day group) columns values
+  cells_made : (group : List (List ℕ)) (columns : List Column) (cells : List GroupCell) → AllZip (IsCellOf select store day group) columns cells → (values : List Value) × AllZip IsCellHeld values cells × AllZip (IsColumnValue select store day group) columns values
   cells_made group [] [] h = ([], tt, tt)
   cells_made group [] (c ∷ cells) h = absurd h
   cells_made group (d ∷ columns) [] h = absurd h

@@ -15,7 +15,7 @@ use Rattle.mob_ordinary.specs.declared.fault.EvalFault.{EvalFault}
 use Rattle.mob_ordinary.specs.declared.fault.EvalFault.TheVariants.{Passed, NoMemory}
 use Rattle.mob_list.proofs.Changing.{AreChanged}
 use Rattle.mob_tagg.specs.Rows.{AreValues, IsItem, IsTuple}
-use Rattle.mob_tail.specs.declared.grouped.Cell.{Cell}
+use Rattle.mob_tail.specs.declared.group_cells.GroupCell.{GroupCell}
 use Rattle.mob_tail.specs.GroupedAnswers.{Column, IsArgumentOn, IsAddingTo}
 use Rattle.mob_tail.specs.declared.state.State.{State}
 use Rattle.mob_tail.specs.Groups.{column_on}
@@ -81,7 +81,7 @@ module _ (select : TypedSelectParts) (store : Store) (day : ℤ) where
   column_err group t (e, Some agg) before first f (inl h) k = inl h
   column_err group t (e, Some agg) before first f (inr h) k = inr (h.0, h.1, (k.2.0, k.2.1, (Some f.1, h.3 k.0 k.1 k.2.0 k.2.2, ap (λ p. Some (p, f.1)) h.2)))
 
-  pub cells_ok : (group : List (List ℕ)) (t : List ℕ) (columns : List Column) (old new : List Cell) (first : Bool) → first ≡ is_none (first_of group) → length group + 1 < 2 ^ 62 → AllZip (IsCellWith (scene store select.from t day) first) old new → AllZip (IsCellOf select store day group) columns old
+  pub cells_ok : (group : List (List ℕ)) (t : List ℕ) (columns : List Column) (old new : List GroupCell) (first : Bool) → first ≡ is_none (first_of group) → length group + 1 < 2 ^ 62 → AllZip (IsCellWith (scene store select.from t day) first) old new → AllZip (IsCellOf select store day group) columns old
       → AllZip (IsCellOf select store day (group ++ t ∷ [])) columns new × IsTuple (IsArgumentOn select store day) IsAddingTo group t columns None
   cells_ok group t [] [] [] first i few h k = (tt, refl)
   cells_ok group t [] [] (d ∷ new) first i few h k = absurd h
@@ -93,7 +93,7 @@ module _ (select : TypedSelectParts) (store : Store) (day : ℤ) where
       let rest = cells_ok group t columns old new first i few h.1 k.1 in
       (((h.0.column ∙ k.0.0, here.0), rest.0), inr (here.1, rest.1))
 
-  pub cells_err : (group : List (List ℕ)) (t : List ℕ) (columns : List Column) (old : List Cell) (first : Bool) (f : Fault) → first ≡ is_none (first_of group) → length group + 1 < 2 ^ 62 → FailsInCells (scene store select.from t day) first old f → AllZip (IsCellOf select store day group) columns old → IsTuple (IsArgumentOn select store day) IsAddingTo group t columns (Some f)
+  pub cells_err : (group : List (List ℕ)) (t : List ℕ) (columns : List Column) (old : List GroupCell) (first : Bool) (f : Fault) → first ≡ is_none (first_of group) → length group + 1 < 2 ^ 62 → FailsInCells (scene store select.from t day) first old f → AllZip (IsCellOf select store day group) columns old → IsTuple (IsArgumentOn select store day) IsAddingTo group t columns (Some f)
   cells_err group t [] [] first f i few h k = absurd h
   cells_err group t [] (c ∷ old) first f i few h k = absurd k
   cells_err group t (column ∷ columns) [] first f i few h k = absurd k
@@ -102,7 +102,7 @@ module _ (select : TypedSelectParts) (store : Store) (day : ℤ) where
       inr ((column_ok group t column c.state h.0 first i few (subst (λ z. IsColumnWith (scene store select.from t day) z c.state first (Ok h.0)) k.0.0 h.1) k.0.1).1, cells_err group t columns old first f i few h.2 k.1)
 
 -- a fault in a cell behind cells that have none
-pub fails_at : (s : Scene) (first : Bool) (n : ℕ) (old now : List Cell) (c : Cell) (f : Fault) → n < length now → c ≡ get_or now n c → AreChanged (IsCellWith s first) n old now → IsColumnWith s (column_seen c.column) c.state first (Err f) → FailsInCells s first old f
+pub fails_at : (s : Scene) (first : Bool) (n : ℕ) (old now : List GroupCell) (c : GroupCell) (f : Fault) → n < length now → c ≡ get_or now n c → AreChanged (IsCellWith s first) n old now → IsColumnWith s (column_seen c.column) c.state first (Err f) → FailsInCells s first old f
 fails_at s first n [] [] c f lt is h k = absurd (omega (arith, lt))
 fails_at s first n [] (b ∷ now) c f lt is h k = absurd h
 fails_at s first n (a ∷ old) [] c f lt is h k = absurd h

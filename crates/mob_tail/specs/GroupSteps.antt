@@ -12,8 +12,8 @@ use Rattle.mob_meaning.specs.Scene.{Scene}
 use Rattle.mob_meaning.specs.Evaluation.{Fault}
 use Rattle.mob_groups.specs.Groups.{first_keys, members}
 use Rattle.mob_tail.specs.declared.columns.Column.{Column as ColumnOf}
-use Rattle.mob_tail.specs.declared.grouped.Cell.{Cell}
-use Rattle.mob_tail.specs.declared.grouped.Group.{Group}
+use Rattle.mob_tail.specs.declared.group_cells.GroupCell.{GroupCell}
+use Rattle.mob_tail.specs.declared.group_cells.Group.{Group}
 use Rattle.mob_tail.specs.declared.state.State.{State}
 use Rattle.mob_tail.specs.declared.state.State.TheVariants.{Whole}
 use Rattle.mob_tail.specs.Aggregated.{leaves_out}
@@ -44,12 +44,12 @@ IsColumnWith s (e, None) before first (Ok x) = IsPlainOn s e first before x
 IsColumnWith s (e, None) before first (Err f) = ⊥
 
 -- a cell with one more tuple
-pub record IsCellWith (s : Scene) (first : Bool) (old new : Cell) : Type 0 where
+pub record IsCellWith (s : Scene) (first : Bool) (old new : GroupCell) : Type 0 where
   pub column : column_seen new.column ≡ column_seen old.column
   pub state : IsColumnWith s (column_seen old.column) old.state first (Ok new.state)
 
 -- a fault in a cell, where those before it have none
-abbrev pub FailsInCells : Scene → Bool → List Cell → Fault → Type 0
+abbrev pub FailsInCells : Scene → Bool → List GroupCell → Fault → Type 0
 FailsInCells s first [] f = ⊥
 FailsInCells s first (c ∷ cells) f = IsColumnWith s (column_seen c.column) c.state first (Err f) ⊎ ((x : State) × IsColumnWith s (column_seen c.column) c.state first (Ok x) × FailsInCells s first cells f)
 
@@ -58,7 +58,7 @@ abbrev pub IsHeldOf : Column → State → Value → Type 0
 IsHeldOf (e, None) x r = x ≡ Whole r
 IsHeldOf (e, Some agg) x r = IsHeld agg.kind x r
 
-abbrev pub IsCellHeld : Value → Cell → Type 0
+abbrev pub IsCellHeld : Value → GroupCell → Type 0
 IsCellHeld r cell = IsHeldOf (column_seen cell.column) cell.state r
 
 -- what is held for a group of no tuple
@@ -67,7 +67,7 @@ IsStart (e, None) x = x ≡ Whole Null
 IsStart (e, Some agg) x = IsStartState agg.kind x
 
 -- a cell for a group of no tuple
-abbrev pub IsStartCell : ColumnOf → Cell → Type 0
+abbrev pub IsStartCell : ColumnOf → GroupCell → Type 0
 IsStartCell column cell = (column_seen cell.column ≡ column_seen column) × IsStart (column_seen column) cell.state
 
 -- what the program has of a group of no tuple
@@ -85,7 +85,7 @@ abbrev pub IsStateOf : TypedSelectParts → Store → ℤ → List (List ℕ) �
 IsStateOf select store day group column x = (r : Value) × IsHeldOf column x r × IsColumnValue select store day group column r
 
 -- a cell holds the value of its column for a group
-abbrev pub IsCellOf : TypedSelectParts → Store → ℤ → List (List ℕ) → Column → Cell → Type 0
+abbrev pub IsCellOf : TypedSelectParts → Store → ℤ → List (List ℕ) → Column → GroupCell → Type 0
 IsCellOf select store day group column cell = (column_seen cell.column ≡ column) × IsStateOf select store day group column cell.state
 
 -- what the program has of a group of these tuples

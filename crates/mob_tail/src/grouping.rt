@@ -16,7 +16,7 @@ ghost use Rattle.mob_arrange.specs.TextsSeen.{texts_of};
 ghost use Rattle.mob_tail.specs.GroupSteps.{first_of, IsGroupOf, AreGroupsOf, keys_on, number_on};
 
 use crate::columns::{column_on, columns_of, is_bare};
-use crate::grouped::{Group, group_with, no_groups, values_of};
+use crate::group_cells::{Group, group_with, no_groups, values_of};
 use mob_arrange::{Row, RowValue};
 use mob_eval::{QueryFault, View};
 use mob_groups::{Groups, numbered};

@@ -5,7 +5,7 @@ mod adding;
 mod answers;
 mod columns;
 mod evaluation;
-mod grouped;
+mod group_cells;
 mod grouping;
 pub mod laws;
 mod plans;

@@ -1,7 +1,7 @@
 // What EXPLAIN answers.
-ghost use Rattle.std.specs.Prelude.{◌≡◌, ◌++◌, ◌∷◌, [], IfOk, codes, is_some, map, option_map};
+ghost use Rattle.std.specs.Prelude.{◌≡◌, ◌++◌, ◌∷◌, [], IfOk, codes, map, option_map};
 ghost use Rattle.mob_typed.specs.Trees.{typed_of};
-ghost use Rattle.mob_typed.specs.Selects.{on_of, select_seen};
+ghost use Rattle.mob_typed.specs.Selects.{select_seen};
 ghost use Rattle.mob_plan.specs.Plans.{plan_seen, step_seen};
 ghost use Rattle.mob_records.specs.AnswerText.{answer_text};
 ghost use Rattle.mob_tail.specs.PlanAnswers.{left_word, plan_line, plan_names, plan_rows};
@@ -11,18 +11,8 @@ use mob_list::items::Items;
 use mob_list::text::Text;
 use mob_plan::{Plan, Step};
 use mob_records::counted_text;
-use mob_typed::{TExpr, TypedSelect};
+use mob_typed::{TExpr, TypedSelect, is_left};
 use std::alloc::{AllocError, Global};
-
-// Whether the table of a place of FROM is left-joined.
-fn is_left(joins: &[Option<TExpr>], place: usize) -> bool
-    ensures left { result ≡ is_some (on_of (map (option_map typed_of) joins.now) place) }
-{
-    match joins.get(place) {
-        None => false,
-        Some(on) => on.is_some(),
-    }
-}
 
 // The word before the step of a left-joined table.
 fn left_word(left: bool) -> &'static str
@@ -113,6 +103,6 @@ pub fn plan_text(
 {
     let joins = select.joins.as_slice();
     let rows = lines_of(alloc, plan.steps(), joins, select.names.as_slice(), catalog)?;
-    let names = one_field(alloc, Text::from_string(String::from_str(alloc, "plan")?))?;
+    let names = one_field(alloc, Text::from_str(alloc, "plan")?)?;
     counted_text(alloc, names.as_slice(), rows.as_slice())
 }

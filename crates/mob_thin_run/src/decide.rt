@@ -1,5 +1,5 @@
 // What a run does before its note.
-ghost use Rattle.std.specs.Prelude.{map, string_bytes, ◌∷◌, []};
+ghost use Rattle.std.specs.Prelude.{map, string_bytes};
 ghost use Rattle.mob_outside.specs.EndsSeen.{stream_seen};
 ghost use Rattle.mob_trips.specs.Endings.{IsTripsEnding};
 ghost use Rattle.mob_trips.specs.Seen.{trips_seen};

@@ -1,13 +1,12 @@
 // The rows with each trip simplified, as text.
-ghost use Rattle.std.specs.Prelude.{◌≡◌, ◌≤◌, ◌∷◌, [], codes, IfOk, IfErr, IsUtf8, List, length, map, true};
+ghost use Rattle.std.specs.Prelude.{◌≡◌, ◌≤◌, ◌∷◌, [], codes, IfOk, IfErr, IsUtf8, length, map, true};
 ghost use Rattle.std.specs.List.{AllZip, AllByRecursion};
 ghost use Rattle.csv.specs.Records.{AllText};
 ghost use Rattle.mob_ratio.specs.Order.{up_to};
 ghost use Rattle.mob_ratio.specs.Sign.{nil};
-ghost use Rattle.mob_slice.specs.Entries.{IsFirst, IsJudged, OnFormula};
+ghost use Rattle.mob_slice.specs.Entries.{IsJudged, OnFormula};
 ghost use Rattle.mob_literal.specs.Fields.{field_text};
-ghost use Rattle.mob_value.specs.declared.value.Value.{Value as ValueSeen};
-ghost use Rattle.mob_thin_run.specs.ThinRows.{AreThinRows, IsThinValue, IsThinRecord, IsThinText, OnTests, PassesFirst, RowTestsFit, RowTestPasses, table_text};
+ghost use Rattle.mob_thin_run.specs.ThinRows.{IsThinValue, IsThinRecord, IsThinText, OnTests, PassesFirst, RowTestsFit, RowTestPasses};
 ghost use Rattle.mob_thin_run.specs.RowFaults.{OnRowFault, thin_row_fault};
 
 use mob_frac::Frac;
@@ -159,8 +158,8 @@ fn thin_records(
 fn names(alloc: Global) -> Result<Vec<Text>, AllocError>
     ensures names { IfOk result (λ v. v.items ≡ codes "id" ∷ codes "trip" ∷ []) }
 {
-    let id = Text::from_string(String::from_str(alloc, "id")?);
-    let trip = Text::from_string(String::from_str(alloc, "trip")?);
+    let id = Text::from_str(alloc, "id")?;
+    let trip = Text::from_str(alloc, "trip")?;
     let mut names = Vec::new(alloc);
     names.push(id)?;
     names.push(trip)?;

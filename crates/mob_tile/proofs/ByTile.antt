@@ -5,6 +5,7 @@ use Rattle.std.specs.List.{filter, AllByRecursion}
 use Rattle.std.specs.List.Sorted.{IsStableBy, ties}
 use Rattle.std.specs.Ordering.{is_lt, ordering_reverse}
 use Rattle.std.specs.declared.cmp.Ordering.TheVariants.{Less}
+use Rattle.mob_list.proofs.Each.{one_of}
 use Rattle.mob_ratio.specs.Ratio.{Ratio}
 use Rattle.mob_ratio.specs.Sign.{nil}
 use Rattle.mob_span.specs.Span.{SpanOf, has}
@@ -314,18 +315,14 @@ grouping_next all rest later q a taken parts parts' e h n m = record {
   are = subst (AreParts (m.done ++ (a, taken) ∷ [])) (sym n.is) (snoc_parts m.done parts (a, taken) n.part m.are n.of);
 }
 
-one_in : (gs later : List (Tile × Value)) (x : Tile × Value) → AllByRecursion IsTileGroup (gs ++ x ∷ later) → IsTileGroup x
-one_in [] later x h = h.0
-one_in (z ∷ gs) later x h = one_in gs later x h.1
-
 -- what is taken before another tile, and at the end, is a group
 pub group_taken : (all rest later : List Piece) (q : Piece) (a : Tile) (taken : Value) (parts : List (Tile × Value)) → rest ≡ q ∷ later → same_tile a q.tile ≡ false → IsGrouping all rest a taken parts → AllByRecursion IsTileGroup (tile_groups all) → IsTileGroup (a, taken)
 group_taken all rest later q a taken parts e h m k =
     let made : m.done ++ (a, taken) ∷ group_with q.tile (q.slice ∷ []) later ≡ tile_groups all = ap (λ b. m.done ++ cond b (group_with a (taken ++ q.slice ∷ []) later) ((a, taken) ∷ group_with q.tile (q.slice ∷ []) later)) (sym h) ∙ ap (λ z. m.done ++ group_with a taken z) (sym e) ∙ m.made in
-    one_in m.done (group_with q.tile (q.slice ∷ []) later) (a, taken) (subst (AllByRecursion IsTileGroup) (sym made) k)
+    one_of IsTileGroup m.done (group_with q.tile (q.slice ∷ []) later) (a, taken) (subst (AllByRecursion IsTileGroup) (sym made) k)
 
 pub group_last : (all rest : List Piece) (a : Tile) (taken : Value) (parts : List (Tile × Value)) → rest ≡ [] → IsGrouping all rest a taken parts → AllByRecursion IsTileGroup (tile_groups all) → IsTileGroup (a, taken)
-group_last all rest a taken parts e m k = one_in m.done [] (a, taken) (subst (AllByRecursion IsTileGroup) (sym (ap (λ z. m.done ++ group_with a taken z) (sym e) ∙ m.made)) k)
+group_last all rest a taken parts e m k = one_of IsTileGroup m.done [] (a, taken) (subst (AllByRecursion IsTileGroup) (sym (ap (λ z. m.done ++ group_with a taken z) (sym e) ∙ m.made)) k)
 
 pub grouping_end : (all rest : List Piece) (a : Tile) (taken : Value) (parts parts' : List (Tile × Value)) → rest ≡ [] → IsPartPushed (a, taken) parts parts' → IsGrouping all rest a taken parts → AreParts (tile_groups all) parts'
 grouping_end all rest a taken parts parts' e n m =

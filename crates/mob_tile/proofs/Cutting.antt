@@ -37,7 +37,7 @@ use Rattle.mob_tile.specs.Bands.{band_of}
 use Rattle.mob_tile.specs.Tiles.{GridOf, IsGrid}
 use Rattle.mob_tile.proofs.BandNumbers.{band_has, bands_rise, edges_lt}
 use Rattle.mob_tile.specs.Edges.{count_up, natural, numbers_between, edge_of, edge_ends, edges_between, x_edges, y_edges, t_edges, differences, cuts_of}
-use Rattle.mob_tile.specs.Pieces.{split_all, IsRising, HasOneTile, AreTileCells}
+use Rattle.mob_tile.specs.Pieces.{split_all, IsRisingFrom, HasOneTile, AreTileCells}
 use Rattle.mob_cells.proofs.Making.{in_front, in_back}
 use Rattle.mob_tile.proofs.Numbers.{number_there, natural_is, in_map, in_flat}
 use Rattle.mob_tile.proofs.EdgeBands.{IsInOrder, in_order, one_band_on, one_time_on}
@@ -126,7 +126,7 @@ abbrev pub Rises : List Ratio → Type 0
 Rises [] = Unit {0}
 Rises (x ∷ xs) = Leads x xs × Rises xs
 
-rising_on : (x : Ratio) (xs : List Ratio) → Leads x xs → Rises xs → IsRising x xs
+rising_on : (x : Ratio) (xs : List Ratio) → Leads x xs → Rises xs → IsRisingFrom x xs
 rising_on x [] h up = tt
 rising_on x (y ∷ xs) h up = (grind (arith, h.0), rising_on y xs up.0 up.1)
 
@@ -280,6 +280,6 @@ module _ (g : GridOf) (s : Slice PlaneLine) (ok : IsGrid g) where
       }
 
   -- sorted cuts rise from the lower end
-  pub rising_cuts : (sorted : List Ratio) → IsSound (λ c. c.from) (λ c. c.to) s → ((r : Ratio) → IsIn r sorted → IsIn r (cuts_of g s)) → Rises sorted → IsRising s.span.lower sorted
+  pub rising_cuts : (sorted : List Ratio) → IsSound (λ c. c.from) (λ c. c.to) s → ((r : Ratio) → IsIn r sorted → IsIn r (cuts_of g s)) → Rises sorted → IsRisingFrom s.span.lower sorted
   rising_cuts [] sound b up = tt
   rising_cuts (r ∷ sorted) sound b up = ((in_all Between (cuts_of g s) r (cuts_between sound) (b r (inl refl))).0, rising_on r sorted up.0 up.1)

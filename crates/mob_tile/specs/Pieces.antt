@@ -26,9 +26,9 @@ split_all [] cells = cells
 split_all (r ∷ cuts) cells = split_all cuts (split_at r cells)
 
 -- each instant is at least q, and at most those behind it
-abbrev pub IsRising : Ratio → List Ratio → Type 0
-IsRising q [] = Unit {0}
-IsRising q (r ∷ cuts) = (up_to q r ≡ true) × IsRising r cuts
+abbrev pub IsRisingFrom : Ratio → List Ratio → Type 0
+IsRisingFrom q [] = Unit {0}
+IsRisingFrom q (r ∷ cuts) = (up_to q r ≡ true) × IsRisingFrom r cuts
 
 -- the least point of the rectangle over two points, and the greatest
 abbrev pub least_of : Point → Point → Point

@@ -1,6 +1,6 @@
 //! Where a slice crosses edges of tiles.
 ghost use Rattle.mob_slice.specs.Entries.{IsMadeBy};
-ghost use Rattle.std.specs.Prelude.{◌≡◌, [], ◌∷◌, ◌++◌, map, ◌+ℤ◌, ◌≤ℤ◌, OnOk};
+ghost use Rattle.std.specs.Prelude.{◌≡◌, [], ◌∷◌, ◌++◌, map, OnOk};
 ghost use Rattle.std.specs.List.{flat_map, AllByRecursion};
 ghost use Rattle.mob_frac.specs.Formula.{IsFormula};
 ghost use Rattle.mob_slice.specs.declared.formula.Formula.TheVariants.{F2, F3};

@@ -1,5 +1,5 @@
 //! A grid, and the tiles that a box reaches.
-ghost use Rattle.std.specs.Prelude.{◌≡◌, ◌↔◌, [], ◌∷◌, ◌⊎◌, pos, true, false, IsNone, IfSome, IfOk, ◌<ℤ◌, ◌≤ℤ◌, ◌*ℤ◌};
+ghost use Rattle.std.specs.Prelude.{◌≡◌, ◌↔◌, [], ◌∷◌, ◌⊎◌, pos, true, IsNone, IfSome, IfOk, ◌<ℤ◌, ◌≤ℤ◌, ◌*ℤ◌};
 ghost use Rattle.std.specs.Int.{int_div_euclid};
 ghost use Rattle.mob_ratio.specs.Ratio.{◌<ℚ◌, ◌≤ℚ◌, whole, ◌*ℚ◌, ◌/ℚ◌};
 ghost use Rattle.mob_ratio.specs.Sign.{nil};
@@ -8,8 +8,8 @@ ghost use Rattle.mob_frac.specs.Formula.{IsFormula};
 ghost use Rattle.mob_slice.specs.Computed.{IsComputed};
 ghost use Rattle.mob_slice.specs.declared.formula.Formula.TheVariants.{F2};
 ghost use Rattle.mob_stbox.specs.Boxes.{is_whole};
-ghost use Rattle.mob_tile.specs.Bands.{InBand, floor_of, band_of};
-ghost use Rattle.mob_tile.specs.Tiles.{GridOf, IsGrid, tile_of, InRange, IsRange, range_of, range_parts, OnSides, HasMany};
+ghost use Rattle.mob_tile.specs.Bands.{floor_of, band_of};
+ghost use Rattle.mob_tile.specs.Tiles.{GridOf, IsGrid, tile_of, InRange, range_of, range_parts, OnSides};
 ghost use Rattle.mob_tile.specs.Split.{IsSplit, OnRange, SplitAnswer, IsLimited};
 
 use crate::splitting::{SplitFault, split_by};
@@ -139,7 +139,7 @@ impl Grid {
     }
 
     /// The tile that has `p` at `t`, where it stands in a range.
-    pub fn tile_at(&self, range: &TileRange, p: &Point, t: &Frac) -> Tile
+    pub(crate) fn tile_at(&self, range: &TileRange, p: &Point, t: &Frac) -> Tile
         requires within { InRange range.now (tile_of self.now t.now p.now) }
         ensures value { result ≡ tile_of self.now t.now p.now }
     {

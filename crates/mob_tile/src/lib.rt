@@ -4,13 +4,13 @@
 
 mod cells;
 mod cuts;
-pub mod grid;
+mod grid;
 mod groups;
 pub mod laws;
 mod pieces;
 mod splitting;
-pub mod tile;
+mod tile;
 
-pub use grid::Grid;
+pub use grid::{Grid, is_positive};
 pub use splitting::SplitFault;
 pub use tile::{Tile, TileRange};

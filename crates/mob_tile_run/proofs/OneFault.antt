@@ -14,7 +14,7 @@ use Rattle.mob_pairs.specs.declared.fault.PairFault.TheVariants.{Passed, Limit, 
 use Rattle.mob_pairs.proofs.OneFault.{one_pairs_fault, fit_or_pairs_fault}
 use Rattle.mob_trips.specs.Program.{IsExactWith}
 use Rattle.mob_trips.specs.Rows.{Trip, id_of, trips_in}
-use Rattle.mob_tile_run.specs.TileAnswers.{WritesBy, FailsBy}
+use Rattle.mob_tile_run.specs.TileAnswers.{TileWritesBy, TileFailsBy}
 use Rattle.mob_tile_run.specs.TileParts.{IsSplitOf, IsSplitFault, IsSomeSplitFault, IsFirstSplitFault}
 use Rattle.mob_tile_run.specs.TileProgram.{tile_program}
 use Rattle.mob_tile_run.specs.declared.settings.TileSettings.{TileSettings}
@@ -94,11 +94,11 @@ module _ (g : GridOf) where
   one_parts_fault trips e f some other h k = one_some_fault trips e f some other (some_fault trips e some h) (some_fault trips f other k)
 
 -- ---- of parts and of pairs
-pub text_or_fault : (near : Option Ratio) (s : TileSettings) (ids : List Value) (trips : List (Option Trip)) (text : List ℕ) (f : PairFault) → f ≢ NoMemory → WritesBy near s ids trips text → FailsBy near s trips f → ⊥
+pub text_or_fault : (near : Option Ratio) (s : TileSettings) (ids : List Value) (trips : List (Option Trip)) (text : List ℕ) (f : PairFault) → f ≢ NoMemory → TileWritesBy near s ids trips text → TileFailsBy near s trips f → ⊥
 text_or_fault None s ids trips text f some h k = parts_or_fault s.grid trips h.of.splits f some h.of.are k
 text_or_fault (Some d) s ids trips text f some h k = fit_or_pairs_fault s.grid d trips f some h.fit k
 
-pub one_answer_fault : (near : Option Ratio) (s : TileSettings) (trips : List (Option Trip)) (e f : PairFault) → e ≢ NoMemory → f ≢ NoMemory → FailsBy near s trips e → FailsBy near s trips f → e ≡ f
+pub one_answer_fault : (near : Option Ratio) (s : TileSettings) (trips : List (Option Trip)) (e f : PairFault) → e ≢ NoMemory → f ≢ NoMemory → TileFailsBy near s trips e → TileFailsBy near s trips f → e ≡ f
 one_answer_fault None s trips e f some other h k = one_parts_fault s.grid trips e f some other h k
 one_answer_fault (Some d) s trips e f some other h k = one_pairs_fault s.grid d trips e f some other h k
 

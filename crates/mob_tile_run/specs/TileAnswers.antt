@@ -29,20 +29,20 @@ pub record PairsText (g : GridOf) (d : Ratio) (day : ℤ) (ids : List Value) (tr
   pub text_is : text ≡ answer_text pair_names (map (pair_fields day ids) pairs)
 
 -- the text for these trips: with a distance of their pairs, and without one of their parts
-abbrev pub WritesBy : Option Ratio → TileSettings → List Value → List (Option Trip) → List ℕ → Type 0
-WritesBy None settings ids trips text = PartsText settings.grid settings.epoch ids trips text
-WritesBy (Some d) settings ids trips text = PairsText settings.grid d settings.epoch ids trips text
+abbrev pub TileWritesBy : Option Ratio → TileSettings → List Value → List (Option Trip) → List ℕ → Type 0
+TileWritesBy None settings ids trips text = PartsText settings.grid settings.epoch ids trips text
+TileWritesBy (Some d) settings ids trips text = PairsText settings.grid d settings.epoch ids trips text
 
 abbrev pub TileWrites : TileSettings → List Value → List (Option Trip) → List ℕ → Type 0
-TileWrites settings ids trips text = WritesBy settings.near settings ids trips text
+TileWrites settings ids trips text = TileWritesBy settings.near settings ids trips text
 
 -- why there is none
-abbrev pub FailsBy : Option Ratio → TileSettings → List (Option Trip) → PairFault → Type 0
-FailsBy None settings trips fault = IsFirstSplitFault settings.grid trips fault
-FailsBy (Some d) settings trips fault = IsPairsFault settings.grid d trips fault
+abbrev pub TileFailsBy : Option Ratio → TileSettings → List (Option Trip) → PairFault → Type 0
+TileFailsBy None settings trips fault = IsFirstSplitFault settings.grid trips fault
+TileFailsBy (Some d) settings trips fault = IsPairsFault settings.grid d trips fault
 
 abbrev pub TileFails : TileSettings → List (Option Trip) → PairFault → Type 0
-TileFails settings trips fault = FailsBy settings.near settings trips fault
+TileFails settings trips fault = TileFailsBy settings.near settings trips fault
 
 -- the two differ in the number of workers alone
 pub record AreSameButWorkers (a b : TileSettings) : Type 0 where

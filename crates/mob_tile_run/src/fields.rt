@@ -120,9 +120,9 @@ impl<'a> FieldPrinter<(u32, u32)> for PairPrinter<'a> {
 pub fn part_names(alloc: Global) -> Result<Items<Text>, AllocError>
     ensures names { IfOk result (λ names. names ≡ part_names) }
 {
-    let id = Text::from_string(String::from_str(alloc, "id")?);
-    let tile = Text::from_string(String::from_str(alloc, "tile")?);
-    let part = Text::from_string(String::from_str(alloc, "part")?);
+    let id = Text::from_str(alloc, "id")?;
+    let tile = Text::from_str(alloc, "tile")?;
+    let part = Text::from_str(alloc, "part")?;
     let mut names = Items::new(alloc);
     names.push(id)?;
     names.push(tile)?;
@@ -134,8 +134,8 @@ pub fn part_names(alloc: Global) -> Result<Items<Text>, AllocError>
 pub fn pair_names(alloc: Global) -> Result<Items<Text>, AllocError>
     ensures names { IfOk result (λ names. names ≡ pair_names) }
 {
-    let a = Text::from_string(String::from_str(alloc, "a")?);
-    let b = Text::from_string(String::from_str(alloc, "b")?);
+    let a = Text::from_str(alloc, "a")?;
+    let b = Text::from_str(alloc, "b")?;
     let mut names = Items::new(alloc);
     names.push(a)?;
     names.push(b)?;

@@ -12,5 +12,4 @@ mod settings;
 mod top;
 mod values;
 
-pub use settings::TileSettings;
 pub use top::{run_tile, tell_tile};

@@ -10,8 +10,7 @@ use crate::settings::TileSettings;
 use crate::values::values_in;
 use mob_frac::Frac;
 use mob_numeral::read_number;
-use mob_tile::Grid;
-use mob_tile::grid::is_positive;
+use mob_tile::{Grid, is_positive};
 use mob_words::{distance_in, epoch_of, workers_of};
 use std::alloc::{AllocError, Global};
 

@@ -2,10 +2,12 @@
 //! expression has its operator, its type and its place.
 #![tactic(auto)]
 
+mod joins;
 pub mod laws;
 mod making;
-pub mod typed;
+mod typed;
 
+pub use joins::is_left;
 pub use making::{copy_of, with_args};
-pub use mob_operators::{AggKind, Op};
+pub use mob_operators::Op;
 pub use typed::{Agg, ConstText, TExpr, Typed, TypedSelect, TypedStatement};

@@ -18,7 +18,7 @@ use Rattle.mob_typed.specs.Statements.{new_table}
 use Rattle.mob_grammar.specs.Held.{statement_held}
 use Rattle.mob_clauses.specs.Keys.{limit_value}
 use Rattle.mob_typing.specs.Stands.{IsHeldIn}
-use Rattle.mob_typing.specs.WellTyped.{IsNumberLiteral, the_number, behind_minus, HasDivisor, HasRow, IsOperated, HasDistinctNames}
+use Rattle.mob_typing.specs.WellTyped.{IsNumberLiteral, the_number, behind_minus, HasDivisor, HasOperatorRow, IsOperated, HasDistinctNames}
 use Rattle.mob_typing.proofs.OperatorRows.{line_passes, first_passes}
 
 -- SELECT b: a place that the one tree does not hold, as that of the blank, is the place of no
@@ -85,7 +85,7 @@ no_such_sum consts h = no_sum h.0.form h.0.name sql.Bool h.0.row
 two_numbers : List ConstText
 two_numbers = record { ty = sql.Int; text = codes "1"; statement = 1; place = 7 } ∷ record { ty = sql.Int; text = codes "2"; statement = 1; place = 12 } ∷ []
 
-by_minus_two : HasRow two_numbers op.Divide sql.Numeric (more (typed (op.Const 0) sql.Int 7 none) (more (typed op.Negate sql.Int 11 (more (typed (op.Const 1) sql.Int 12 none) none)) none))
+by_minus_two : HasOperatorRow two_numbers op.Divide sql.Numeric (more (typed (op.Const 0) sql.Int 7 none) (more (typed op.Negate sql.Int 11 (more (typed (op.Const 1) sql.Int 12 none) none)) none))
 unfolding two_numbers table
 by_minus_two = record { form = form.Sign; name = codes "/"; row = refl; divisor = λ division. (codes "2", behind_minus (the_number (refl, refl)), refl) }
 

@@ -22,7 +22,7 @@ use Rattle.mob_typed.specs.declared.typed.ConstText.{ConstText}
 use Rattle.mob_typed.specs.Trees.{TypedTree, typed, TypedTrees, none, more, typed_trees, types_of, arg_types}
 use Rattle.mob_typed.specs.Statements.{ColumnList}
 use Rattle.mob_expression.specs.Expressions.{is_signed, can_cast_all}
-use Rattle.mob_typing.specs.WellTyped.{HasNamedType, IsNumberLiteral, behind_minus, behind_plus, is_division, HasDivisor, HasRow, FitsArguments}
+use Rattle.mob_typing.specs.WellTyped.{HasNamedType, IsNumberLiteral, behind_minus, behind_plus, is_division, HasDivisor, HasOperatorRow, FitsArguments}
 use Rattle.mob_typing.proofs.Sound.{types_are}
 
 -- an operator and its type
@@ -99,7 +99,7 @@ pub reads_nothing : (first past : ℕ) (o : Op) → is_of_table o ≡ true → (
 reads_nothing first past (op.Column f k) h = absurd (cc)
 reads_nothing first past _ h = (refl, refl)
 
-pub row_fits : (cs : List ConstText) (o : Op) (ty : SqlType) (args : TypedTrees) → is_of_table o ≡ true → HasRow cs o ty args → FitsArguments cs o ty args
+pub row_fits : (cs : List ConstText) (o : Op) (ty : SqlType) (args : TypedTrees) → is_of_table o ≡ true → HasOperatorRow cs o ty args → FitsArguments cs o ty args
 row_fits cs (op.Const k) ty args h row = absurd (cc)
 row_fits cs (op.Column f k) ty args h row = absurd (cc)
 row_fits cs op.Null ty args h row = absurd (cc)
@@ -183,13 +183,13 @@ module _ (f : Form) (name : List ℕ) (ts : List SqlType) where
 
 -- an operator that is found on typed operands has its row
 pub has_row : (cs : List ConstText) (f : Form) (name : List ℕ) (ts : List TypedTree) (literal : Bool) (a : Op × SqlType) → found_in table f name (types_of ts) literal ≡ Some a
-    → (literal ≡ true → is_division a.0 ≡ true → HasDivisor cs (typed_trees ts)) → HasRow cs a.0 a.1 (typed_trees ts)
+    → (literal ≡ true → is_division a.0 ≡ true → HasDivisor cs (typed_trees ts)) → HasOperatorRow cs a.0 a.1 (typed_trees ts)
 has_row cs f name ts literal a is divisor = by literal (is_division a.0) refl refl
   where
     found_so : (b : Bool) → is_division a.0 ≡ b → found_in table f name (types_of ts) b ≡ Some a → found_in table f name (arg_types (typed_trees ts)) (is_division a.0) ≡ Some (a.0, a.1)
     found_so b own so = ap (λ tys. found_in table f name tys (is_division a.0)) (types_are ts) ∙ ap (found_in table f name (types_of ts)) own ∙ so
 
-    by : (l d : Bool) → literal ≡ l → is_division a.0 ≡ d → HasRow cs a.0 a.1 (typed_trees ts)
+    by : (l d : Bool) → literal ≡ l → is_division a.0 ≡ d → HasOperatorRow cs a.0 a.1 (typed_trees ts)
     by true true given own = record { form = f; name = name; row = found_so true own (ap (found_in table f name (types_of ts)) (sym given) ∙ is); divisor = λ division. divisor given division }
     by true false given own =
         record { form = f; name = name; row = found_so false own (found_with f name (types_of ts) table table_divides a own (ap (found_in table f name (types_of ts)) (sym given) ∙ is)); divisor = λ division. absurd (cc) }
@@ -198,7 +198,7 @@ has_row cs f name ts literal a is divisor = by literal (is_division a.0) refl re
         let other = subst (Passes not_division) without (found_without f name (types_of ts) table table_divides) in
         none_other d own other without
       where
-        none_other : (b : Bool) → is_division a.0 ≡ b → not (is_division a.0) ≡ true → found_in table f name (types_of ts) false ≡ Some a → HasRow cs a.0 a.1 (typed_trees ts)
+        none_other : (b : Bool) → is_division a.0 ≡ b → not (is_division a.0) ≡ true → found_in table f name (types_of ts) false ≡ Some a → HasOperatorRow cs a.0 a.1 (typed_trees ts)
         none_other true so other without = absurd (cc)
         none_other false so other without = record { form = f; name = name; row = found_so false so without; divisor = λ division. absurd (cc) }
 

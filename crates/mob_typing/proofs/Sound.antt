@@ -16,7 +16,7 @@ use Rattle.mob_expression.specs.Words.{number_type}
 use Rattle.mob_clauses.specs.Conditions.{is_bool}
 use Rattle.mob_clauses.specs.Keys.{is_key}
 use Rattle.mob_typing.specs.Stands.{operators_in, operators_among}
-use Rattle.mob_typing.specs.WellTyped.{constant_type, HasNamedType, HasNamedTypes, AllHaveNamedTypes, IsNumberLiteral, the_number, behind_minus, behind_plus, HasDivisor, HasRow, FitsArguments, IsOperated, AreOperated, expressions_of, IsGroup, IsOfColumn, IsTypedQuery, IsTypedStatement}
+use Rattle.mob_typing.specs.WellTyped.{constant_type, HasNamedType, HasNamedTypes, AllHaveNamedTypes, IsNumberLiteral, the_number, behind_minus, behind_plus, HasDivisor, HasOperatorRow, FitsArguments, IsOperated, AreOperated, expressions_of, IsGroup, IsOfColumn, IsTypedQuery, IsTypedStatement}
 use Rattle.mob_typing.proofs.Walk.{Stays, all_stay}
 
 -- what stands at a number of a list stands there in a longer one
@@ -38,16 +38,6 @@ pub slice_map : {A B : Type 0} (f : A → B) (xs : List A) (k : ℕ) (x : A) →
 slice_map f [] k x h = absurd (cc)
 slice_map f (y ∷ xs) zero x h = let same : y ≡ x = cc in ap (λ z. Some (f z)) same
 slice_map f (y ∷ xs) (suc k) x h = slice_map f xs k x h
-
-pub slice_each : {A : Type 0} (P : A → Type 0) (xs : List A) (k : ℕ) (x : A) → AllByRecursion P xs → slice_get xs k ≡ Some x → P x
-slice_each P [] k x all h = absurd (cc)
-slice_each P (y ∷ xs) zero x all h = let same : y ≡ x = cc in subst P same all.0
-slice_each P (y ∷ xs) (suc k) x all h = slice_each P xs k x all.1 h
-
--- what holds of each of two lists together
-pub each_apart : {A : Type 0} (P : A → Type 0) (xs ys : List A) → AllByRecursion P (xs ++ ys) → AllByRecursion P xs × AllByRecursion P ys
-each_apart P [] ys h = (tt, h)
-each_apart P (x ∷ xs) ys h = let others = each_apart P xs ys h.1 in ((h.0, others.0), others.1)
 
 -- this entry, with its number, stands among these
 abbrev pub StandsIn : {A : Type 0} → List (List ℕ × A) → ℕ × A → Type 0
@@ -137,7 +127,7 @@ divisor_stays (more_trees a none) cs more h = absurd h
 divisor_stays (more_trees a (more_trees b (more_trees c ts))) cs more h = absurd h
 
 -- a node stays as it is by its arguments
-row_stays_so : (o : Op) (ty : SqlType) (args : TypedTrees) (cs more : List ConstText) → HasRow cs o ty args → HasRow (cs ++ more) o ty args
+row_stays_so : (o : Op) (ty : SqlType) (args : TypedTrees) (cs more : List ConstText) → HasOperatorRow cs o ty args → HasOperatorRow (cs ++ more) o ty args
 row_stays_so o ty args cs more h = record { form = h.form; name = h.name; row = h.row; divisor = λ division. divisor_stays args cs more (h.divisor division) }
 
 node_stays : (o : Op) (ty : SqlType) (args : TypedTrees) (cs more : List ConstText) → FitsArguments cs o ty args → FitsArguments (cs ++ more) o ty args

@@ -25,7 +25,7 @@ use Rattle.std.proofs.lemmas.Bool.Decides.{nat_tests}
 use Rattle.std.proofs.lemmas.List.{length-map, map-append}
 use Rattle.std.proofs.lemmas.Option.{slice_get_within}
 use Rattle.mob_typed.specs.Named.{reads_before, names_before, all_name_before, reads_from, names_from, all_name_from}
-use Rattle.mob_list.proofs.Each.{each_on}
+use Rattle.mob_list.proofs.Each.{each_get, each_on, each_parts}
 use Rattle.mob_expression.specs.declared.scope.Found.{Found}
 use Rattle.mob_expression.specs.Answers.{◌>>=◌, found, TypingStep}
 use Rattle.mob_expression.specs.Names.{column_of, entry_from}
@@ -35,12 +35,11 @@ use Rattle.mob_expression.specs.Expressions.{constant, with_first, matches, the_
 use Rattle.mob_grammar.specs.Places.{IsWithin, nothing, same, literal_place, tree_places, trees_places}
 use Rattle.mob_grammar.specs.Held.{word_held, node_held, tree_held, trees_held}
 use Rattle.mob_grammar.proofs.Within.{within_all, within_back}
-use Rattle.mob_grammar.proofs.Places.{all_parts}
 use Rattle.mob_typing.specs.Stands.{operators_in}
 use Rattle.mob_typing.specs.WellTyped.{column_type, from_type, HasNamedType, HasNamedTypes, IsNumberLiteral, the_number, HasDivisor, is_division, FitsArguments, IsOperated}
 use Rattle.mob_typing.proofs.Walk.{GivesOrStops, gives, stops, then, also, passes, finds, not_false, adds_none, adds_one, adds_within, adds_both, Steps, Stays, still}
 use Rattle.mob_typing.proofs.OperatorRows.{is_of_table, found_of_table, names_nothing, reads_nothing, row_fits, division_alone, has_row, own_cast, keeps_number, sign_keeps, behind_sign}
-use Rattle.mob_typing.proofs.Sound.{slice_more, slice_behind, slice_map, slice_seam, slice_each, each_apart, both_true, all_above, all_below, entry_stands, part_here, constant_here, literal_stays, operands_hold, all_operated, all_placed, types_are, IsSound, sound_stays}
+use Rattle.mob_typing.proofs.Sound.{slice_more, slice_behind, slice_map, slice_seam, both_true, all_above, all_below, entry_stands, part_here, constant_here, literal_stays, operands_hold, all_operated, all_placed, types_are, IsSound, sound_stays}
 
 -- the tables of FROM are those of their numbers
 abbrev pub AreThere : List ColumnList → List (List ℕ × ScopeTableParts) → Type 0
@@ -66,7 +65,7 @@ module _ (At : ℕ → Type 0) (tables : List ColumnList) (seen : List (List ℕ
   found_there n t name k at is =
       let column = entry_stands [] t.1.columns name k is in
       ap (option_and_then (λ j. column_type tables j k.0)) (slice_map (λ (x : List ℕ × ScopeTableParts). x.1.table) seen n t at)
-      ∙ ap (option_and_then (λ (columns : ColumnList). option_map (λ c. c.1) (slice_get columns k.0))) (slice_each (λ (x : List ℕ × ScopeTableParts). slice_get tables x.1.table ≡ Some x.1.columns) seen n t there at)
+      ∙ ap (option_and_then (λ (columns : ColumnList). option_map (λ c. c.1) (slice_get columns k.0))) (each_get (λ (x : List ℕ × ScopeTableParts). slice_get tables x.1.table ≡ Some x.1.columns) seen n t there at)
       ∙ ap (option_map (λ (c : List ℕ × SqlType). c.1)) column.1 ∙ ap (λ ty. Some ty) column.2
 
   matches_there : (before behind : List (List ℕ × ScopeTableParts)) (name : List ℕ) → before ++ behind ≡ seen → AllByRecursion IsAmong (matches (length before) behind name)
@@ -126,7 +125,7 @@ module _ (At : ℕ → Type 0) (tables : List ColumnList) (all : List (List ℕ 
   IsFound f = (from_type tables from f.from f.column ≡ Some f.ty) × ((nat_le s.first f.from ≡ true) × (nat_lt f.from past ≡ true))
 
   seen_there : AreThere tables s.from
-  seen_there = (each_apart Named s.from part.behind (each_apart Named part.before (s.from ++ part.behind) (subst (AllByRecursion Named) (sym part.parts) there)).1).0
+  seen_there = (each_parts Named s.from part.behind (each_parts Named part.before (s.from ++ part.behind) (subst (AllByRecursion Named) (sym part.parts) there)).1).0
     where
       Named : List ℕ × ScopeTableParts → Type 0
       Named x = slice_get tables x.1.table ≡ Some x.1.columns
@@ -334,7 +333,7 @@ module _ (At : ℕ → Type 0) (tables : List ColumnList) (all : List (List ℕ 
 
     tree_walked : (t : Tree) (cs : List ConstText) → AllByRecursion At (tree_held t) → GivesOrStops At (Steps s.statement (tree_places t) (Reads (digits_of t)) cs) (typed_expression s t cs)
     tree_walked (tree n p args) cs h =
-        let parts = all_parts At (node_held n) (trees_held args) h.1 in
+        let parts = each_parts At (node_held n) (trees_held args) h.1 in
         let digits = signed_digits n (digits_in args) in
         then (early_settles n p args (digits_in args) cs h.0 parts.0 parts.1) (λ e settled.
         later_walked digits (literal_place n p) (trees_places args) cs (λ ds. typed_operands s args ds >>= λ r. finished n p args r.0 >>= λ t. Ok (t, r.1)) e.0 e.1 settled
@@ -343,7 +342,7 @@ module _ (At : ℕ → Type 0) (tables : List ColumnList) (all : List (List ℕ 
     operands_walked : (us : Trees) (cs : List ConstText) → AllByRecursion At (trees_held us) → GivesOrStops At (Steps s.statement (trees_places us) (ReadAs us) cs) (typed_operands s us cs)
     operands_walked no_trees cs h = gives (record { adds = adds_none; sound = tt })
     operands_walked (more_trees t us) cs h =
-        let parts = all_parts At (tree_held t) (trees_held us) h in
+        let parts = each_parts At (tree_held t) (trees_held us) h in
         then (tree_walked t cs parts.0) (λ x a.
         then (operands_walked us x.1 parts.1) (λ xs b. gives (record { adds = adds_both a.adds b.adds; sound = (still (Reads (digits_of t)) (reads_stay (digits_of t)) x.0 b.adds a.sound, b.sound) })))
 

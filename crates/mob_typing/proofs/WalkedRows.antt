@@ -3,6 +3,7 @@ use Rattle.std.proofs.Common.{◌≡◌, ◌==◌, refl, ap, ℕ, suc, List, [],
 use Rattle.std.specs.Prelude.{IfSome, not, codes}
 use Rattle.std.specs.List.{AllByRecursion, AllZip, flat_map}
 use Rattle.std.proofs.lemmas.Bool.{eqb-true}
+use Rattle.mob_list.proofs.Each.{each_parts}
 use Rattle.mob_ast.specs.declared.types.TypeWord.{TypeWord}
 use Rattle.mob_ast.specs.declared.types.SqlType.{SqlType}
 use Rattle.mob_ast.specs.declared.types.SqlType.TheVariants as sql
@@ -20,7 +21,6 @@ use Rattle.mob_typing.specs.WellTyped.{IsOfColumn}
 use Rattle.mob_grammar.specs.Places.{IsWithin, nothing, other, same, literal_place, tree_places, trees_places, row_places}
 use Rattle.mob_grammar.specs.Held.{node_held, tree_held, trees_held, row_held}
 use Rattle.mob_grammar.proofs.Within.{within_all}
-use Rattle.mob_grammar.proofs.Places.{all_parts}
 use Rattle.mob_typing.proofs.Walk.{GivesOrStops, gives, stops, then, also, passes, finds, not_false, adds_none, adds_one, adds_within, adds_both, Steps, still}
 use Rattle.mob_typing.proofs.Sound.{constant_here, value_stays, row_stays}
 
@@ -67,14 +67,14 @@ module _ (At : ℕ → Type 0) (n : ℕ) where
     node_walked nd p args cs at h = stops at
 
     value_walked : (t : Tree) (cs : List ConstText) → AllByRecursion At (tree_held t) → GivesOrStops At (Steps n (tree_places t) Fits cs) (tree_value n column.1 t cs)
-    value_walked (tree nd p args) cs h = node_walked nd p args cs h.0 (all_parts At (node_held nd) (trees_held args) h.1).0
+    value_walked (tree nd p args) cs h = node_walked nd p args cs h.0 (each_parts At (node_held nd) (trees_held args) h.1).0
 
   -- a row with as many values as there are columns
   values_walked : (columns : ColumnList) (ts : List Tree) (cs : List ConstText) → length ts ≡ length columns → AllByRecursion At (flat_map tree_held ts) → GivesOrStops At (Steps n (flat_map tree_places ts) (λ ds vs. AllZip (IsOfColumn ds) columns vs) cs) (row_values n columns ts cs)
   values_walked [] ts cs long h = gives (record { adds = adds_none; sound = tt })
   values_walked (c ∷ columns) [] cs long h = absurd (cc)
   values_walked (c ∷ columns) (t ∷ ts) cs long h =
-      let parts = all_parts At (tree_held t) (flat_map tree_held ts) h in
+      let parts = each_parts At (tree_held t) (flat_map tree_held ts) h in
       then (value_walked c t cs parts.0) (λ v a.
       then (values_walked columns ts v.1 (cc) parts.1) (λ vs b. gives (record { adds = adds_both a.adds b.adds; sound = (still (λ ds x. IsOfColumn ds c x) (value_stays c) v.0 b.adds a.sound, b.sound) })))
 
@@ -88,7 +88,7 @@ module _ (At : ℕ → Type 0) (n : ℕ) where
       → GivesOrStops At (Steps n (flat_map row_places rs) (λ ds rows. AllByRecursion (AllZip (IsOfColumn ds) columns) rows × (length rs ≡ length rows)) cs) (typed_rows n columns rs cs)
   rows_walked columns [] cs h = gives (record { adds = adds_none; sound = (tt, refl) })
   rows_walked columns (r ∷ rs) cs h =
-      let parts = all_parts At (row_held r) (flat_map row_held rs) h in
+      let parts = each_parts At (row_held r) (flat_map row_held rs) h in
       then (row_walked columns r cs parts.0) (λ x a.
       then (rows_walked columns rs x.1 parts.1) (λ xs b.
       gives (record { adds = adds_both a.adds b.adds; sound = ((still (λ ds row. AllZip (IsOfColumn ds) columns row) (row_stays columns) x.0 b.adds a.sound, b.sound.0), ap (λ k. suc k) b.sound.1) })))

@@ -20,7 +20,7 @@ use Rattle.mob_typed.specs.Named.{names_before}
 use Rattle.mob_typed.specs.Trees.{TypedTree, type_of}
 use Rattle.mob_typed.specs.Selects.{Output, TypedSelectParts, on_of}
 use Rattle.mob_typed.specs.Statements.{ColumnList}
-use Rattle.mob_list.proofs.Each.{each_both, each_map, each_on}
+use Rattle.mob_list.proofs.Each.{each_both, each_get, each_map, each_on, each_parts}
 use Rattle.mob_expression.specs.declared.scope.Found.{Found}
 use Rattle.mob_expression.specs.Answers.{Mistake, ◌>>=◌, one_more}
 use Rattle.mob_expression.specs.Expressions.{column_named}
@@ -30,18 +30,17 @@ use Rattle.mob_typing.specs.Names.{table_of}
 use Rattle.mob_clauses.specs.Conditions.{condition, is_bool, tree_place, source_start, seen_by_on, joins_from, typed_joins}
 use Rattle.mob_clauses.specs.Outputs.{is_aggregate_call, is_aggregate_item, is_grouped, ColumnNumbers, column_numbers, group_column, grouping, is_column, is_ungrouped, any_ungrouped, columns_of_table, all_outputs, OutputLists, Value, counting, lone_operand, aggregate_value, plain_value, item_value, with_output, no_agg, with_every, with_item, with_items, no_outputs}
 use Rattle.mob_clauses.specs.Keys.{is_key, group_of, typed_group, with_groups, alias_number, value_type, output_at, aliased, key_item, key_value, typed_key, typed_keys, limit_value, limit_of}
-use Rattle.mob_clauses.specs.Clauses.{ConditionParts, typed_conditions, OrderParts, typed_order, scope_tables, select_made, typed_clauses, rows_to_go}
+use Rattle.mob_clauses.specs.Clauses.{ConditionParts, typed_conditions, ArrangementParts, typed_arrangement, scope_tables, select_made, typed_clauses, rows_to_go}
 use Rattle.mob_typing.specs.Selects.{from_name, from_table, from_tables, typed_select}
 use Rattle.mob_typing.specs.Stands.{operators_in, aggregate_place, query_operators}
 use Rattle.mob_typing.specs.WellTyped.{column_type, from_type, HasNamedTypes, IsOperated, condition_alone, AreOfSources, column_in, columns_in, IsGroup, IsAggregateOf, IsTypedItem, IsTypedKey, IsTypedQuery, IsTypedDeletion}
 use Rattle.mob_grammar.specs.Places.{tree_places, trees_places, item_places, from_places, condition_places, key_places, select_places}
 use Rattle.mob_grammar.specs.Held.{word_held, tree_held, trees_held, item_held, from_held, condition_held, key_held, select_held}
-use Rattle.mob_grammar.proofs.Places.{all_parts}
 use Rattle.mob_grammar.proofs.Within.{within_all, within_back}
 use Rattle.mob_typing.proofs.Walk.{GivesOrStops, gives, stops, then, also, passes, finds, not_false, Adds, adds_none, adds_within, adds_both, Steps, Stays, still, all_stay}
 use Rattle.mob_typing.proofs.Apart.{entry_last}
 use Rattle.mob_clauses.proofs.Limits.{limit_small}
-use Rattle.mob_typing.proofs.Sound.{slice_map, slice_seam, slice_each, entry_stands, IsSound, both_true, sound_stays}
+use Rattle.mob_typing.proofs.Sound.{slice_map, slice_seam, entry_stands, IsSound, both_true, sound_stays}
 use Rattle.mob_typing.proofs.WalkedExpressions.{AreThere, numbers_of, IsPart, IsFound, column_walked, arguments_walked, expression_walked}
 
 -- the tables of FROM
@@ -102,8 +101,8 @@ any_grouped x own = either_true (not (length x.groups == 0)) (list_any is_aggreg
 ons_of : (At : ℕ → Type 0) (fs : List FromParts) → AllByRecursion At (flat_map from_held fs) → AllByRecursion At (flat_map (λ f. condition_held f.on) fs)
 ons_of At [] h = tt
 ons_of At (f ∷ fs) h =
-    let parts = all_parts At (from_held f) (flat_map from_held fs) h in
-    each_both At (condition_held f.on) (flat_map (λ e. condition_held e.on) fs) (all_parts At (word_held f.alias) (condition_held f.on) parts.0.1).1 (ons_of At fs parts.1)
+    let parts = each_parts At (from_held f) (flat_map from_held fs) h in
+    each_both At (condition_held f.on) (flat_map (λ e. condition_held e.on) fs) (each_parts At (word_held f.alias) (condition_held f.on) parts.0.1).1 (ons_of At fs parts.1)
 
 -- a query is typed, and its operators and aggregates stand at such places
 abbrev pub IsStandingQuery : (ℕ → Type 0) → List ColumnList → List ConstText → TypedSelectParts → Type 0
@@ -143,8 +142,8 @@ module _ (At : ℕ → Type 0) (tables : List (List ℕ × ColumnList)) where
   pub tables_walked : (from : List (List ℕ × ScopeTableParts)) (fs : List FromParts) → IsScope (named tables) from → AllByRecursion At (flat_map from_held fs) → GivesOrStops At (AreTables from fs) (from_tables tables from fs)
   tables_walked from [] scope h = gives (scope, omega arith)
   tables_walked from (f ∷ fs) scope h =
-      let parts = all_parts At (from_held f) (flat_map from_held fs) h in
-      let own = all_parts At (word_held f.alias) (condition_held f.on) parts.0.1 in
+      let parts = each_parts At (from_held f) (flat_map from_held fs) h in
+      let own = each_parts At (word_held f.alias) (condition_held f.on) parts.0.1 in
       then (table_walked from f.table f.alias scope (parts.0.0, own.0)) (λ more larger. also (tables_walked more fs larger.0 parts.1) (λ all is. let a = is.1 in let b = larger.1 in (is.0, omega (arith, a, b))))
 
 -- the place of an expression is held by its tree
@@ -225,7 +224,7 @@ module _ (At : ℕ → Type 0) (tables : List ColumnList) (s : ScopeParts) (begi
   joins_walked : (k m : ℕ) (fs : List FromParts) (cs : List ConstText) → k ≤ m → m + length fs ≡ length s.from → AllByRecursion At (ons_held fs) → GivesOrStops At (Steps n (flat_map from_places fs) (AreJoins k m fs) cs) (joins_from s k m fs cs)
   joins_walked k m [] cs start all h = gives (record { adds = adds_none; sound = (tt, refl) })
   joins_walked k m (f ∷ fs) cs start all h =
-      let held = all_parts At (condition_held f.on) (ons_held fs) h in
+      let held = each_parts At (condition_held f.on) (ons_held fs) h in
       by f.on held.0 (λ j ds first. joins_walked j (m + 1) fs ds first (omega (arith, all)) held.1)
     where
       by : (on : Option Tree) → AllByRecursion At (condition_held on)
@@ -266,7 +265,7 @@ module _ (At : ℕ → Type 0) (tables : List ColumnList) (s : ScopeParts) (begi
 
       typed_so : from_type tables (numbers_of s.from) f (length before) ≡ Some c.1
       typed_so = ap (option_and_then (λ j. column_type tables j (length before))) (slice_map (λ (x : List ℕ × ScopeTableParts). x.1.table) s.from f t at)
-          ∙ ap (option_and_then (λ (columns : ColumnList). option_map (λ k. k.1) (slice_get columns (length before)))) (slice_each (λ (x : List ℕ × ScopeTableParts). slice_get tables x.1.table ≡ Some x.1.columns) s.from f t there at)
+          ∙ ap (option_and_then (λ (columns : ColumnList). option_map (λ k. k.1) (slice_get columns (length before)))) (each_get (λ (x : List ℕ × ScopeTableParts). slice_get tables x.1.table ≡ Some x.1.columns) s.from f t there at)
           ∙ ap (λ (columns : ColumnList). option_map (λ k. k.1) (slice_get columns (length before))) (sym parts) ∙ ap (option_map (λ (k : List ℕ × SqlType). k.1)) (slice_seam before columns c)
 
   all_hold : (cs : List ConstText) (p : ℕ) (before more : List (List ℕ × ScopeTableParts)) → At p → before ++ more ≡ s.from → AllByRecursion (OutputHolds cs) (all_outputs (length before) more p)
@@ -349,7 +348,7 @@ module _ (At : ℕ → Type 0) (tables : List ColumnList) (s : ScopeParts) (begi
     item_walked : (o : OutputLists) (i : ItemParts) (cs : List ConstText) → OutputsHold cs o → (is_aggregate_item i ≡ true → grouped ≡ true) → AllByRecursion At (item_held i) → GivesOrStops At (Steps n (item_places i) OutputsHold cs) (with_item s g o i cs)
     item_walked o (every p) cs so_far agg h = then (every_walked o p h.0) (λ r more. gives (record { adds = adds_none; sound = more cs so_far }))
     item_walked o (one t a) cs so_far agg h =
-        then (value_walked t cs agg (all_parts At (tree_held t) (word_held a) h).0) (λ r q.
+        then (value_walked t cs agg (each_parts At (tree_held t) (word_held a) h).0) (λ r q.
         gives (record { adds = q.adds; sound = output_more r.1 o r.0 _ a (still OutputsHold outputs_stay o q.adds so_far) q.sound }))
     item_walked o (count_all p a) cs so_far agg h =
         gives (record { adds = adds_none; sound = output_more cs o (counting p) _ a so_far (record { named = (tt, tt); operated = ((refl, refl), tt); placed = (h.0, tt); above = refl; below = refl }, (agg refl, (inl (refl, refl), h.0))) })
@@ -357,7 +356,7 @@ module _ (At : ℕ → Type 0) (tables : List ColumnList) (s : ScopeParts) (begi
     items_walked : (o : OutputLists) (is : List ItemParts) (cs : List ConstText) → OutputsHold cs o → (list_any is_aggregate_item is ≡ true → grouped ≡ true) → AllByRecursion At (flat_map item_held is) → GivesOrStops At (Steps n (flat_map item_places is) OutputsHold cs) (with_items s g o is cs)
     items_walked o [] cs so_far agg h = gives (record { adds = adds_none; sound = so_far })
     items_walked o (i ∷ is) cs so_far agg h =
-        let parts = all_parts At (item_held i) (flat_map item_held is) h in
+        let parts = each_parts At (item_held i) (flat_map item_held is) h in
         then (item_walked o i cs so_far (λ own. agg (either_true (is_aggregate_item i) (list_any is_aggregate_item is) (inl own))) parts.0) (λ r a.
         also (items_walked r.0 is r.1 a.sound (λ own. agg (either_true (is_aggregate_item i) (list_any is_aggregate_item is) (inr own))) parts.1) (λ q b. record { adds = adds_both a.adds b.adds; sound = b.sound }))
 
@@ -373,7 +372,7 @@ module _ (At : ℕ → Type 0) (tables : List ColumnList) (s : ScopeParts) (begi
         ap (λ ys. ys ++ flat_map (group_column s) ts) (flat_both column_in done (x ∷ []) ∙ ap (λ ys. columns_in done ++ ys) is) ∙ append_assoc (columns_in done) (group_column s t) (flat_map (group_column s) ts)
 
     group_walked : (t : Tree) → AllByRecursion At (tree_held t) → GivesOrStops At (λ r. GroupHolds r × (columns_in (r ∷ []) ≡ group_column s t)) (typed_group s t)
-    group_walked (tree (node.Column t c) p args) h = by (column_named s t c) refl (column_walked At tables s.from there s whole t c (all_parts At (c.place ∷ word_held t) (trees_held args) h.1).0)
+    group_walked (tree (node.Column t c) p args) h = by (column_named s t c) refl (column_walked At tables s.from there s whole t c (each_parts At (c.place ∷ word_held t) (trees_held args) h.1).0)
       where
         by : (r : Result Found Mistake) → column_named s t c ≡ r → GivesOrStops At (IsFound At tables s.from there s whole) r → GivesOrStops At (λ x. GroupHolds x × (columns_in (x ∷ []) ≡ column_numbers (column_named s t c))) (r >>= group_of p)
         by (Err w) is (stops at) = stops at
@@ -387,7 +386,7 @@ module _ (At : ℕ → Type 0) (tables : List ColumnList) (s : ScopeParts) (begi
     groups_walked : (done : List TypedTree) (ts : List Tree) → AllByRecursion GroupHolds done → AllByRecursion At (flat_map tree_held ts) → GivesOrStops At (GroupsHold done ts) (with_groups s done ts)
     groups_walked done [] so_far h = gives (so_far, (sym (append-nil (columns_in done)), omega arith))
     groups_walked done (t ∷ ts) so_far h =
-        let parts = all_parts At (tree_held t) (flat_map tree_held ts) h in
+        let parts = each_parts At (tree_held t) (flat_map tree_held ts) h in
         then (group_walked t parts.0) (λ x own.
         also (groups_walked (done ++ x ∷ []) ts (each_both GroupHolds done (x ∷ []) so_far (own.0, tt)) parts.1) (λ all is. (is.0, (is.1.0 ∙ columns_more done x t ts own.1, let a = is.1.1 in let b = length-append done (x ∷ []) in omega (arith, a, b)))))
 
@@ -449,7 +448,7 @@ module _ (At : ℕ → Type 0) (tables : List ColumnList) (s : ScopeParts) (begi
             let y = alias.0 in
             let a = alias.1 in
             let key : is_key (value_type y.0 a) ≡ true = ap is_key (sym alias.5) ∙ q.1 in
-            let holds : Holds cs x.1.0 = subst (Holds cs) (sym alias.4) (slice_each (OutputHolds cs) o.columns x.0 y so_far.0 alias.2) in
+            let holds : Holds cs x.1.0 = subst (Holds cs) (sym alias.4) (each_get (OutputHolds cs) o.columns x.0 y so_far.0 alias.2) in
             let judged : KeyHolds cs (x.1.0, k.descending) × IsJudged o (x.1.0, k.descending) (Some x.0) =
             ((holds, λ plain. ap (λ t. is_key (type_of t)) alias.4 ∙ own_type y a (zip_get IsItem o.columns o.aggs x.0 y a so_far.1 alias.2 alias.3) key plain), (y, a, alias.2, alias.3, alias.4, key)) in
             gives (subst (λ z. Steps n (key_places k) (λ ds w. KeyHolds ds w × IsJudged o w (Some x.0)) cs ((z.0, k.descending), z.1)) (sym q.0) (record { adds = adds_none; sound = judged })))
@@ -460,7 +459,7 @@ module _ (At : ℕ → Type 0) (tables : List ColumnList) (s : ScopeParts) (begi
     keys_walked : (o : OutputLists) (ks : List KeyParts) (cs : List ConstText) → OutputsHold cs o → AllByRecursion At (flat_map key_held ks) → GivesOrStops At (Steps n (flat_map key_places ks) (KeysHold o ks) cs) (typed_keys s g o ks cs)
     keys_walked o [] cs so_far h = gives (record { adds = adds_none; sound = (tt, tt) })
     keys_walked o (k ∷ ks) cs so_far h =
-        let parts = all_parts At (key_held k) (flat_map key_held ks) h in
+        let parts = each_parts At (key_held k) (flat_map key_held ks) h in
         then (key_walked o k cs so_far parts.0) (λ x a.
         then (keys_walked o ks x.1 (still OutputsHold outputs_stay o a.adds so_far) parts.1) (λ xs b.
         gives (record { adds = adds_both a.adds b.adds; sound = ((still KeyHolds key_stays x.0 b.adds a.sound.0, b.sound.0), (a.sound.1, b.sound.1)) })))
@@ -498,7 +497,7 @@ module _ (At : ℕ → Type 0) (tables : List ColumnList) (s : ScopeParts) (begi
   all_joins_walked : (fs : List FromParts) (cs : List ConstText) → length fs ≡ length s.from → AllByRecursion At (ons_held fs) → GivesOrStops At (Steps n (flat_map from_places fs) (AreAllJoins fs) cs) (typed_joins s fs cs)
   all_joins_walked [] cs all h = gives (record { adds = adds_none; sound = (tt, (refl, refl)) })
   all_joins_walked (f ∷ fs) cs all h =
-      then (joins_walked 0 1 fs cs (omega arith) (omega (arith, all)) (all_parts At (condition_held f.on) (ons_held fs) h).1) (λ r b.
+      then (joins_walked 0 1 fs cs (omega arith) (omega (arith, all)) (each_parts At (condition_held f.on) (ons_held fs) h).1) (λ r b.
       gives (record { adds = adds_within (within_back (from_places f) (within_all (flat_map from_places fs))) b.adds; sound = (b.sound.0, (one_longer r.0 fs None f b.sound.1, refl)) }))
 
   all_joins_stay : (fs : List FromParts) → Stays (AreAllJoins fs)
@@ -610,12 +609,12 @@ module _ (At : ℕ → Type 0) (tables : List ColumnList) (s : ScopeParts) (begi
         then (all_joins_walked x.from cs as_many ons) (λ j b.
         then (condition_walked x.cond j.1 cond) (λ c d. gives (record { adds = adds_both b.adds d.adds; sound = (still (AreAllJoins x.from) (all_joins_stay x.from) j.0 d.adds b.sound, d.sound) })))
 
-    abbrev IsOrder : OutputLists → List ConstText → OrderParts → Type 0
-    IsOrder o cs r = GroupsHold grouped x.groups [] x.groups r.groups × (KeysHold grouped x.groups o x.keys cs r.keys × ((r.key_items ≡ map (key_item o) x.keys) × IfSome r.limit (λ n. n < 10 ^ 18)))
+    abbrev IsArrangement : OutputLists → List ConstText → ArrangementParts → Type 0
+    IsArrangement o cs r = GroupsHold grouped x.groups [] x.groups r.groups × (KeysHold grouped x.groups o x.keys cs r.keys × ((r.key_items ≡ map (key_item o) x.keys) × IfSome r.limit (λ n. n < 10 ^ 18)))
 
-    order_walked : (o : OutputLists) (cs : List ConstText) → OutputsHold grouped x.groups cs o → AllByRecursion At (flat_map tree_held x.groups) → AllByRecursion At (flat_map key_held x.keys) → AllByRecursion At (word_held x.limit)
-        → GivesOrStops At (Steps n (flat_map key_places x.keys) (IsOrder o) cs) (typed_order s (grouping grouped s x.groups) o x cs)
-    order_walked o cs so_far groups keys limit =
+    arrangement_walked : (o : OutputLists) (cs : List ConstText) → OutputsHold grouped x.groups cs o → AllByRecursion At (flat_map tree_held x.groups) → AllByRecursion At (flat_map key_held x.keys) → AllByRecursion At (word_held x.limit)
+        → GivesOrStops At (Steps n (flat_map key_places x.keys) (IsArrangement o) cs) (typed_arrangement s (grouping grouped s x.groups) o x cs)
+    arrangement_walked o cs so_far groups keys limit =
         then (groups_walked grouped x.groups [] x.groups tt groups) (λ gr own.
         then (keys_walked grouped x.groups o x.keys cs so_far keys) (λ k d.
         then (limit_walked x.limit limit) (λ l limited. gives (record { adds = d.adds; sound = (own, (d.sound, (refl, limited))) }))))
@@ -625,14 +624,14 @@ module _ (At : ℕ → Type 0) (tables : List ColumnList) (s : ScopeParts) (begi
 
     clauses_walked : (cs : List ConstText) → length s.from ≤ 4 → IsDistinct bytes_eq (names_of s.from) → length x.from ≡ length s.from → AllByRecursion At (select_held x) → GivesOrStops At (Steps n (select_places x) (IsStandingQuery At tables) cs) (typed_clauses s x cs)
     clauses_walked cs few apart as_many h =
-        let items = all_parts At (flat_map item_held x.items) (flat_map from_held x.from ++ (condition_held x.cond ++ (flat_map tree_held x.groups ++ (flat_map key_held x.keys ++ word_held x.limit)))) h in
-        let from = all_parts At (flat_map from_held x.from) (condition_held x.cond ++ (flat_map tree_held x.groups ++ (flat_map key_held x.keys ++ word_held x.limit))) items.1 in
-        let cond = all_parts At (condition_held x.cond) (flat_map tree_held x.groups ++ (flat_map key_held x.keys ++ word_held x.limit)) from.1 in
-        let groups = all_parts At (flat_map tree_held x.groups) (flat_map key_held x.keys ++ word_held x.limit) cond.1 in
-        let keys = all_parts At (flat_map key_held x.keys) (word_held x.limit) groups.1 in
+        let items = each_parts At (flat_map item_held x.items) (flat_map from_held x.from ++ (condition_held x.cond ++ (flat_map tree_held x.groups ++ (flat_map key_held x.keys ++ word_held x.limit)))) h in
+        let from = each_parts At (flat_map from_held x.from) (condition_held x.cond ++ (flat_map tree_held x.groups ++ (flat_map key_held x.keys ++ word_held x.limit))) items.1 in
+        let cond = each_parts At (condition_held x.cond) (flat_map tree_held x.groups ++ (flat_map key_held x.keys ++ word_held x.limit)) from.1 in
+        let groups = each_parts At (flat_map tree_held x.groups) (flat_map key_held x.keys ++ word_held x.limit) cond.1 in
+        let keys = each_parts At (flat_map key_held x.keys) (word_held x.limit) groups.1 in
         then (items_walked grouped x.groups no_outputs x.items cs (tt, tt) (λ own. any_grouped x own) items.0) (λ o a.
         then (conditions_walked o.1 as_many (ons_of At x.from from.0) cond.0) (λ w e.
-        then (order_walked o.0 w.1 (still (OutputsHold grouped x.groups) (outputs_stay grouped x.groups) o.0 e.adds a.sound) groups.0 keys.0 keys.1) (λ r f.
+        then (arrangement_walked o.0 w.1 (still (OutputsHold grouped x.groups) (outputs_stay grouped x.groups) o.0 e.adds a.sound) groups.0 keys.0 keys.1) (λ r f.
         let later = still AreConditions conditions_stay w.0 f.adds e.sound in
         gives (record {
           adds = subst (λ ps. Adds n ps cs r.1) (ap (λ ps. flat_map item_places x.items ++ ps) (append_assoc (flat_map from_places x.from) (condition_places x.cond) (flat_map key_places x.keys))) (adds_both a.adds (adds_both e.adds f.adds));
@@ -649,8 +648,8 @@ no_tables tables = record { there = tt; few = omega arith; apart = tt }
 pub select_walked : (At : ℕ → Type 0) (tables : List (List ℕ × ColumnList)) (n : ℕ) (x : SelectParts) (cs : List ConstText) → AllByRecursion At (select_held x)
     → GivesOrStops At (Steps n (select_places x) (IsStandingQuery At (named tables)) cs) (typed_select tables n x cs)
 select_walked At tables n x cs h =
-    let items = all_parts At (flat_map item_held x.items) (flat_map from_held x.from ++ (condition_held x.cond ++ (flat_map tree_held x.groups ++ (flat_map key_held x.keys ++ word_held x.limit)))) h in
-    let from = all_parts At (flat_map from_held x.from) (condition_held x.cond ++ (flat_map tree_held x.groups ++ (flat_map key_held x.keys ++ word_held x.limit))) items.1 in
+    let items = each_parts At (flat_map item_held x.items) (flat_map from_held x.from ++ (condition_held x.cond ++ (flat_map tree_held x.groups ++ (flat_map key_held x.keys ++ word_held x.limit)))) h in
+    let from = each_parts At (flat_map from_held x.from) (condition_held x.cond ++ (flat_map tree_held x.groups ++ (flat_map key_held x.keys ++ word_held x.limit))) items.1 in
     then {P = Steps n (select_places x) (IsStandingQuery At (named tables)) cs} (tables_walked At tables [] x.from (no_tables (named tables)) from.0)
     (λ f are. let long = are.1 in clauses_walked At (named tables) (record { from = f; first = 0; statement = n }) refl are.0.there x cs are.0.few are.0.apart (omega (arith, long)) h)
 
@@ -663,7 +662,7 @@ abbrev condition_of_one : Option TypedTree × List ConstText → Result (Conditi
 condition_of_one d = Ok (record { joins = None ∷ []; cond = d.0 }, d.1)
 
 abbrev made_of_one : ScopeParts → SelectParts → ConditionParts × List ConstText → Result (TypedSelectParts × List ConstText) Mistake
-made_of_one scope row d = typed_order scope None no_outputs row d.1 >>= λ o. Ok (select_made (scope_tables scope) row false no_outputs d.0 o.0, o.1)
+made_of_one scope row d = typed_arrangement scope None no_outputs row d.1 >>= λ o. Ok (select_made (scope_tables scope) row false no_outputs d.0 o.0, o.1)
 
 same_made : {A : Type 0} (x y : A) → ◌≡◌ {A = Result A Mistake} (Ok x) (Ok y) → x ≡ y
 same_made x y h = cc
@@ -677,7 +676,7 @@ clauses_bare scope table c cs q is = by (condition scope c cs) refl is
     by : (r : Result (Option TypedTree × List ConstText) Mistake) → condition scope c cs ≡ r → (r >>= condition_of_one >>= made_of_one scope row) ≡ Ok q → (q.0.items ≡ []) × (q.0.from ≡ numbers_of scope.from)
     by (Err w) at so = absurd (cc)
     by (Ok d) at so =
-        let nothing_else : OrderParts = record { groups = []; keys = []; key_items = []; limit = None } in
+        let nothing_else : ArrangementParts = record { groups = []; keys = []; key_items = []; limit = None } in
         let same = same_made (select_made (scope_tables scope) row false no_outputs (record { joins = None ∷ []; cond = d.0 }) nothing_else, d.1) q so in
         (ap (λ z. z.0.items) (sym same), ap (λ z. z.0.from) (sym same))
 

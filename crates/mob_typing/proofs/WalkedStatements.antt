@@ -7,6 +7,7 @@ use Rattle.std.proofs.Common.{◌≡◌, ◌≤◌, ◌<◌, ◌+◌, ◌∙◌,
 use Rattle.std.proofs.lemmas.Bool.{leb-false}
 use Rattle.std.proofs.lemmas.List.{length-map, map-append}
 use Rattle.std.proofs.lemmas.Option.{slice_get_within}
+use Rattle.mob_list.proofs.Each.{each_parts}
 use Rattle.mob_ast.specs.declared.types.Word.{Word}
 use Rattle.mob_ast.specs.declared.types.Quoted.{Quoted}
 use Rattle.mob_ast.specs.declared.types.TypeWord.{TypeWord}
@@ -29,7 +30,6 @@ use Rattle.mob_typing.specs.WellTyped.{IsTypedStatement, tables_behind, table_ma
 use Rattle.mob_grammar.specs.Places.{IsWithin, nothing as none_within, same, tree_places, row_places, statement_places}
 use Rattle.mob_grammar.specs.Held.{string_held, column_held, row_held, statement_held}
 use Rattle.mob_grammar.proofs.Within.{within_back}
-use Rattle.mob_grammar.proofs.Places.{all_parts}
 use Rattle.mob_typing.proofs.Walk.{GivesOrStops, gives, then, also, passes, finds, not_false, adds_none, Steps}
 use Rattle.mob_typing.proofs.Apart.{name_last, none_named, entry_last}
 use Rattle.mob_typing.proofs.Sound.{entry_stands}
@@ -85,7 +85,7 @@ module _ (At : ℕ → Type 0) where
   columns_walked : (columns : ColumnList) (cs : List (Word × TypeWord)) → IsRoom columns → AllByRecursion At (flat_map column_held cs) → GivesOrStops At IsRoom (with_columns columns cs)
   columns_walked columns [] so_far h = gives so_far
   columns_walked columns (c ∷ cs) so_far h =
-      let parts = all_parts At (column_held c) (flat_map column_held cs) h in then (column_walked columns c so_far parts.0) (λ more room. columns_walked more cs room parts.1)
+      let parts = each_parts At (column_held c) (flat_map column_held cs) h in then (column_walked columns c so_far parts.0) (λ more room. columns_walked more cs room parts.1)
 
   module _ (names : NameLists) where
     abbrev tables : List ColumnList

@@ -81,7 +81,7 @@ is_division _ = false
 
 -- The operator has a row of the table: for arguments of these types that row gives this operator
 -- and its type. A division alone asks something of its last argument.
-pub record HasRow (consts : List ConstText) (o : Op) (ty : SqlType) (args : TypedTrees) : Type 0 where
+pub record HasOperatorRow (consts : List ConstText) (o : Op) (ty : SqlType) (args : TypedTrees) : Type 0 where
   pub form : Form
   pub name : List ℕ
   pub row : found_in table form name (arg_types args) (is_division o) ≡ Some (o, ty)
@@ -94,7 +94,7 @@ FitsArguments consts (op.Const k) ty args = args ≡ none
 FitsArguments consts (op.Column f k) ty args = args ≡ none
 FitsArguments consts op.Null ty args = (ty ≡ sql.Text) × (args ≡ none)
 FitsArguments consts op.Cast ty args = can_cast_all (arg_types args) ty ≡ true
-FitsArguments consts o ty args = HasRow consts o ty args
+FitsArguments consts o ty args = HasOperatorRow consts o ty args
 
 -- each node of an expression is so
 abbrev mutual

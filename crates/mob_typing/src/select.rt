@@ -11,7 +11,7 @@ ghost use Rattle.mob_typing.specs.Statements.{asked, made_seen};
 use crate::from::{from_table, from_tables};
 use crate::names::Names;
 use mob_ast::{Expr, SelectTree, Word};
-use mob_clauses::clauses::{clauses_to_go, typed_clauses};
+use mob_clauses::{clauses_to_go, typed_clauses};
 use mob_expression::fault::Fault;
 use mob_expression::scope::Scope;
 use mob_list::items::Items;

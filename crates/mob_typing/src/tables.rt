@@ -62,7 +62,7 @@ fn listed(alloc: Global, columns: &Columns) -> Result<Items<(Text, SqlType)>, Al
     let mut list = Items::new(alloc);
     for index in 0..columns.len() {
         let (name, ty) = columns.at(index);
-        list.push((Text::from_string(String::from_str(alloc, name)?), ty))?;
+        list.push((Text::from_str(alloc, name)?, ty))?;
     }
     Ok(list)
 }

@@ -1,5 +1,5 @@
 //! Temporal literals, as they are written.
-ghost use Rattle.std.specs.Prelude.{◌≡◌, ℕ, map, option_map, List, [], ◌∷◌, Option, Some, None, IfOk, Bool, true, ◌&&◌, not};
+ghost use Rattle.std.specs.Prelude.{◌≡◌, ℕ, map, option_map, List, [], Option, Some, None, IfOk, Bool, true, ◌&&◌, not};
 ghost use Rattle.mob_language.specs.Readers.{all_of, means_at};
 ghost use Rattle.mob_written.specs.Literal.{alone as alone_of, one_sequence, one_instant, noted_at as noted_in, instants_at as instants_in, sequence_at as sequence_in, sequences_at as sequences_in, members_at as members_in, braced_at as braced_in, temporal_literal_at, prefixed_at as prefixed_in, temporal_at as temporal_in};
 ghost use Rattle.mob_written.specs.Prefix.{admitted};

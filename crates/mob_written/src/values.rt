@@ -1,5 +1,5 @@
 //! How the values of the temporal types are written and printed.
-ghost use Rattle.std.specs.Prelude.{◌≡◌, Option, IfOk, option_map, false};
+ghost use Rattle.std.specs.Prelude.{Option, false};
 ghost use Rattle.mob_numeral.specs.NumberText.{number_text};
 ghost use Rattle.mob_scalar.specs.Truth.{truth_text};
 ghost use Rattle.mob_scalar.specs.Quoted.{quoted_text};
@@ -20,7 +20,6 @@ use std::alloc::{AllocError, Global};
 pub struct Truths;
 
 impl WrittenValue for Truths {
-    ghost use Rattle.std.specs.Prelude.{Bool};
     ghost use Rattle.mob_written.specs.Values.{any_value, truth_value, truth_value_at as truth_in, truth_follows, truth_values};
 
     type Base = bool;
@@ -56,7 +55,6 @@ impl WrittenValue for Truths {
 pub struct WholeNumbers;
 
 impl WrittenValue for WholeNumbers {
-    ghost use Rattle.mob_ratio.specs.Ratio.{Ratio};
     ghost use Rattle.mob_numeral.specs.Fitting.{number_value, number_value_at as number_in};
     ghost use Rattle.mob_written.specs.Values.{is_whole_number, number_follows, number_values};
 
@@ -127,7 +125,6 @@ impl WrittenValue for Numbers {
 pub struct Texts;
 
 impl WrittenValue for Texts {
-    ghost use Rattle.std.specs.Prelude.{List, ℕ};
     ghost use Rattle.mob_scalar.proofs.QuotedExact.{Behind};
     ghost use Rattle.mob_written.specs.Values.{any_value, quoted_value, quoted_value_at as quoted_in, quoted_values};
 

@@ -155,7 +155,7 @@ impl<K: Remembering> Memory<K> {
     }
 
     /// Whether nothing is remembered.
-    pub fn is_empty(&self) -> bool {
+    pub(crate) fn is_empty(&self) -> bool {
         if !self.slots.is_empty() {
             return false;
         }
@@ -164,7 +164,7 @@ impl<K: Remembering> Memory<K> {
 
     /// Remembers one more operator, by its place in the script. It names one place of FROM alone,
     /// whose table has so many rows, or it names none.
-    pub fn remember(
+    pub(crate) fn remember(
         &mut self,
         alloc: Global,
         at: u32,
@@ -179,7 +179,7 @@ impl<K: Remembering> Memory<K> {
     }
 
     /// Remembers the boxes of one more operand, in the same way.
-    pub fn remember_boxes(
+    pub(crate) fn remember_boxes(
         &mut self,
         alloc: Global,
         at: u32,

@@ -1,6 +1,6 @@
 //! Comparisons of lines, by the signs of their gaps.
 
-ghost use Rattle.std.specs.Prelude.{◌≡◌, true, false};
+ghost use Rattle.std.specs.Prelude.{true, false};
 ghost use Rattle.mob_ratio.specs.Ratio.{◌-ℚ◌};
 ghost use Rattle.mob_frac.specs.Formula.{difference_parts};
 ghost use Rattle.mob_slice.specs.Computed.{IsComputed};

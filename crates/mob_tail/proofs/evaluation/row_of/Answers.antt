@@ -1,6 +1,7 @@
 use Rattle.std.proofs.Common.{ℕ, List, Ok, Err, IfOk, IfErr, sym, subst}
 use Rattle.std.specs.List.{AllByRecursion}
 use Rattle.std.proofs.lemmas.Result.{IfErr-weaker, IfOk-weaker}
+use Rattle.mob_list.proofs.Each.{each_parts}
 use Rattle.mob_typed.specs.Selects.{select_seen}
 use Rattle.mob_meaning.specs.Scene.{scene}
 use Rattle.mob_ordinary.specs.Faults.{OnPassed}
@@ -9,7 +10,6 @@ use Rattle.mob_tail.specs.Answers.{IsRowOf}
 use Rattle.mob_tail.specs.AnswerRows.{answer_row}
 use Rattle.mob_tail.specs.Recalling.{SelectFits, item_trees, key_trees}
 use Rattle.mob_tail.proofs.AnswerRows.{row_seen, row_fails}
-use Rattle.mob_tail.proofs.Fitting.{each_front, each_back}
 use Rattle.mob_tail.proofs.Making.{on_passed}
 use Rattle.mob_tail.proofs.evaluation.row_of.Goals as goal
 
@@ -20,8 +20,8 @@ row_on-requires g c =
     let there = λ (from : List ℕ). scene c.args.store.now from c.args.tuple.now c.args.epoch.now in
     let P = Fits remembered (there c.as_slice.result.now) in
     let fits = subst (λ from. SelectFits remembered select (there from)) (sym c.as_slice.ensures.same) c.requires.fits in record {
-      fit = subst (AllByRecursion P) (sym c.requires.items) (each_front P (item_trees select) (key_trees select) fits);
-      fit_too = subst (AllByRecursion P) (sym c.requires.keys) (each_back P (item_trees select) (key_trees select) fits);
+      fit = subst (AllByRecursion P) (sym c.requires.items) (each_parts P (item_trees select) (key_trees select) fits).0;
+      fit_too = subst (AllByRecursion P) (sym c.requires.keys) (each_parts P (item_trees select) (key_trees select) fits).1;
     }
 
 pub returns-clause-row : goal.returns-clause-row

@@ -1,4 +1,4 @@
-use Rattle.std.proofs.Common.{rules, ◌≡◌, ◌∙◌, ◌+◌, ◌++◌, ◌∷◌, [], ap, sym, subst, arith, length, length-append}
+use Rattle.std.proofs.Common.{rules, ◌≡◌, ◌∙◌, ◌++◌, ◌∷◌, [], ap, sym, subst, arith, length, length-append}
 use Rattle.mob_value.specs.Cuts.{AreCuts, cut}
 use Rattle.mob_value.proofs.Cutting.{cut_more, cuts_more}
 use Rattle.mob_value.proofs.rows.push_row.Goals as goal

@@ -3,7 +3,7 @@ use Rattle.mob_eval.specs.Views.{scene_of}
 use Rattle.mob_tail.specs.GroupSteps.{IsCellWith}
 use Rattle.mob_list.proofs.Changing.{AreChanged, all_changed, changed_length, next_changed, none_changed}
 use Rattle.mob_tail.proofs.TupleSteps.{passed_weaker, fails_at}
-use Rattle.mob_tail.proofs.grouped.cells_with.Goals as goal
+use Rattle.mob_tail.proofs.group_cells.cells_with.Goals as goal
 
 pub loop-number-init : goal.loop-number-init
 loop-number-init c = none_changed (IsCellWith (scene_of c.args.view.now) c.args.is_first) c.args.cells.now.items

@@ -8,7 +8,7 @@ use Rattle.mob_tail.specs.Aggregated.{leaves_out}
 use Rattle.mob_tail.specs.GroupSteps.{IsAggregateOn}
 use Rattle.mob_tail.specs.States.{IsStateWith}
 use Rattle.mob_tail.proofs.Making.{on_passed}
-use Rattle.mob_tail.proofs.grouped.aggregate_on.Goals as goal
+use Rattle.mob_tail.proofs.group_cells.aggregate_on.Goals as goal
 
 pub returns-in-Ok-clause-value : goal.returns-in-Ok-clause-value
 returns-in-Ok-clause-value c = IfOk-weaker c.argument_in.result _ _ (λ u h. (held c.in-Ok.argument, c.in-Ok.ensures.value, h)) c.argument_in.ensures.value

@@ -3,7 +3,7 @@ use Rattle.std.specs.List.{AllZip}
 use Rattle.std.proofs.lemmas.List.{take_more}
 use Rattle.mob_tail.specs.GroupSteps.{IsStartCell}
 use Rattle.mob_tail.proofs.TupleSteps.{zip_more}
-use Rattle.mob_tail.proofs.grouped.no_cells.Goals as goal
+use Rattle.mob_tail.proofs.group_cells.no_cells.Goals as goal
 
 pub loop-column-preserved : goal.loop-column-preserved
 loop-column-preserved c =

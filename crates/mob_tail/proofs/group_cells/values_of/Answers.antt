@@ -6,7 +6,7 @@ use Rattle.mob_span.proofs.Chained.{counted_down}
 use Rattle.mob_tail.specs.GroupSteps.{column_seen, IsCellHeld}
 use Rattle.mob_tail.proofs.MadeSoFar.{made_none, made_more, made_all, same_lists}
 use Rattle.mob_tail.proofs.TupleSteps.{held_value}
-use Rattle.mob_tail.proofs.grouped.values_of.Goals as goal
+use Rattle.mob_tail.proofs.group_cells.values_of.Goals as goal
 
 pub loop-cell-init : goal.loop-cell-init
 loop-cell-init c =

@@ -24,7 +24,7 @@ use std::mem::drop;
 
 /// A column of the answer with what is held of its value for one group.
 #[derive(Drop)]
-pub struct Cell<'a> {
+pub struct GroupCell<'a> {
     pub column: Column<'a>,
     pub state: State,
 }
@@ -34,7 +34,7 @@ pub struct Cell<'a> {
 #[derive(Drop)]
 pub struct Group<'a> {
     pub first: Option<Tuple>,
-    pub cells: Vec<Cell<'a>>,
+    pub cells: Vec<GroupCell<'a>>,
 }
 
 // Replaces what is held. At a type parameter the drop of the old value is one call.
@@ -136,7 +136,7 @@ fn column_with(
 // Brings one more tuple into a cell.
 fn cell_with(
     alloc: Global,
-    cell: &mut Cell<'_>,
+    cell: &mut GroupCell<'_>,
     view: &View<'_>,
     is_first: bool,
 ) -> Result<(), EvalFault>
@@ -149,7 +149,7 @@ fn cell_with(
 // Brings one more tuple into each cell, or tells the first fault.
 fn cells_with(
     alloc: Global,
-    cells: &mut Vec<Cell<'_>>,
+    cells: &mut Vec<GroupCell<'_>>,
     view: &View<'_>,
     is_first: bool,
 ) -> Result<(), EvalFault>
@@ -202,12 +202,12 @@ fn start_of(alloc: Global, column: &Column<'_>) -> State
 }
 
 // The cells of a group of no tuple.
-fn no_cells<'a>(alloc: Global, columns: &[Column<'a>]) -> Result<Vec<Cell<'a>>, AllocError>
+fn no_cells<'a>(alloc: Global, columns: &[Column<'a>]) -> Result<Vec<GroupCell<'a>>, AllocError>
     ensures start { IfOk result (λ cells. AllZip IsStartCell columns.now cells.items) }
 {
     let mut cells = Vec::with_capacity(alloc, columns.len())?;
     for column in columns {
-        cells.push(Cell {
+        cells.push(GroupCell {
             column: *column,
             state: start_of(alloc, column),
         })?;
@@ -239,7 +239,7 @@ pub fn no_groups<'a>(
 }
 
 /// The values of the columns of a group.
-pub fn values_of(alloc: Global, cells: Vec<Cell<'_>>) -> Result<Vec<Value>, AllocError>
+pub fn values_of(alloc: Global, cells: Vec<GroupCell<'_>>) -> Result<Vec<Value>, AllocError>
     ensures values { (all : _) → AllZip IsCellHeld all cells.entry.items → IfOk result (λ values. values.items ≡ all) }
 {
     let mut values = Vec::with_capacity(alloc, cells.len())?;

@@ -3,7 +3,7 @@ use Rattle.std.specs.List.{AllByRecursion}
 use Rattle.mob_tail.specs.GroupSteps.{IsStartGroup}
 use Rattle.mob_list.proofs.Each.{each_more}
 use Rattle.mob_tail.proofs.TupleSteps.{length_more}
-use Rattle.mob_tail.proofs.grouped.no_groups.Goals as goal
+use Rattle.mob_tail.proofs.group_cells.no_groups.Goals as goal
 
 pub loop-preserved : goal.loop-preserved
 loop-preserved c =

@@ -1,7 +1,7 @@
 use Rattle.std.proofs.Common.{◌≡◌, length}
 use Rattle.std.specs.List.{AllByRecursion}
 use Rattle.mob_tail.specs.GroupSteps.{IsStartGroup}
-use Rattle.mob_tail.proofs.grouped.no_groups.Given as goal
+use Rattle.mob_tail.proofs.group_cells.no_groups.Given as goal
 
 abbrev pub invariant-loop : goal.invariant-loop
 invariant-loop l = record {

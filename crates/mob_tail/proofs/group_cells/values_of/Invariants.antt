@@ -4,7 +4,7 @@ use Rattle.std.specs.Vec.Iter.{into_iter_items, into_iter_len}
 use Rattle.mob_value.specs.declared.value.Value.{Value}
 use Rattle.mob_tail.specs.GroupSteps.{IsCellHeld}
 use Rattle.mob_tail.proofs.MadeSoFar.{IsMadeSoFar}
-use Rattle.mob_tail.proofs.grouped.values_of.Given as goal
+use Rattle.mob_tail.proofs.group_cells.values_of.Given as goal
 
 abbrev pub invariant-loop-cell : goal.invariant-loop-cell
 invariant-loop-cell l = record {
