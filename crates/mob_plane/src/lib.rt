@@ -7,7 +7,7 @@ mod point;
 mod polygons;
 mod rectangle;
 
-pub use edges::{EdgeSigns, Tally, is_in, with_edge};
+pub use edges::{EdgeSigns, Tally, is_in, turn, with_edge};
 pub use point::Point;
 pub use polygons::{Polygon, RingFault};
 pub use rectangle::{greater, smaller};
