@@ -2,6 +2,7 @@
 use Rattle.std.proofs.Common.{List, [], ◌∷◌, ℕ, Option, Some, map}
 use Rattle.std.specs.List.{AllByRecursion}
 use Rattle.std.specs.Prelude.{◌≡◌}
+use Rattle.mob_list.proofs.Each.{each_map}
 use Rattle.mob_rtree_nodes.specs.Tree.{EntryOf}
 use Rattle.mob_value.specs.declared.value.Value.{Value}
 use Rattle.mob_value.specs.declared.value.Value.TheVariants.{MovingPoint}
@@ -19,5 +20,4 @@ boxes_of value [] entries h = tt
 boxes_of value (row ∷ rows) entries h = row_box (value row) row value rows entries (λ es. boxes_of value rows es) h
 
 pub row_boxes : (c : Catalogue) (indexes : List TableIndex) → AllByRecursion (λ (i : TableIndex). IndexHolds c i.on i.tree.entries) indexes → AllByRecursion (HasBoxesOn c) (map (λ (i : TableIndex). i.on) indexes)
-row_boxes c [] h = tt
-row_boxes c (i ∷ is) h = (boxes_of (table_value c.store.tables i.on.0 i.on.1) (live_rows c i.on.0) h.0.0 h.0.1, row_boxes c is h.1)
+row_boxes c = each_map (λ (i : TableIndex). IndexHolds c i.on i.tree.entries) (HasBoxesOn c) (λ (i : TableIndex). i.on) (λ i h. boxes_of (table_value c.store.tables i.on.0 i.on.1) (live_rows c i.on.0) h.0 h.1)

@@ -28,7 +28,7 @@ use Rattle.mob_cells.specs.Roots.{IsLevel, root_of, root_parts, roots_parts, roo
 use Rattle.mob_cells.specs.Cells.{IsPlaced}
 use Rattle.mob_cells.proofs.Zeros.{root_inside}
 use Rattle.mob_cells.proofs.OwnEnds.{start_value, end_value}
-use Rattle.mob_list.proofs.Each.{each_both}
+use Rattle.mob_list.proofs.Each.{each_both, each_map}
 use Rattle.mob_clip.specs.declared.sides.Beside.{Beside}
 use Rattle.mob_clip.specs.declared.sides.EdgeEnds.{EdgeEnds}
 use Rattle.mob_clip.specs.declared.roots.EdgePlaced.{EdgePlaced}
@@ -82,17 +82,13 @@ pub within_all : (s : SpanOf) (gs : List EdgePlaced) (rs : List Ratio) → rs �
 within_all s gs rs e h = rw e (within_edges s gs h)
 
 placed_each : (s : SpanOf) (gs : List EdgeEnds) → AllByRecursion (λ g. AllByRecursion (IsLevel s) (listed_ends g)) gs → AllByRecursion (IsPlacedEdge s) (map (place_edge s) gs)
-placed_each s [] h = tt
-placed_each s (g ∷ gs) h = (
-  record {
-    turn = record { level = h.0.0; root = refl };
-    x_a = record { level = h.0.1.0; root = refl };
-    x_b = record { level = h.0.1.1.0; root = refl };
-    y_a = record { level = h.0.1.1.1.0; root = refl };
-    y_b = record { level = h.0.1.1.1.1.0; root = refl };
-  },
-  placed_each s gs h.1,
-)
+placed_each s = each_map (λ g. AllByRecursion (IsLevel s) (listed_ends g)) (IsPlacedEdge s) (place_edge s) (λ g h. record {
+  turn = record { level = h.0; root = refl };
+  x_a = record { level = h.1.0; root = refl };
+  x_b = record { level = h.1.1.0; root = refl };
+  y_a = record { level = h.1.1.1.0; root = refl };
+  y_b = record { level = h.1.1.1.1.0; root = refl };
+})
 
 pub are_placed : (s : SpanOf) (gs : List EdgeEnds) (ps : List EdgePlaced) → ps ≡ map (place_edge s) gs → AllByRecursion (λ g. AllByRecursion (IsLevel s) (listed_ends g)) gs → AllByRecursion (IsPlacedEdge s) ps
 are_placed s gs ps e h = rw e (placed_each s gs h)

@@ -14,8 +14,7 @@ ghost use Rattle.mob_clip.specs.Signs.{changing_sign, known_sign, known_signs, o
 
 use crate::roots::EdgePlaced;
 use crate::steps::{Change, Mix, Steps, merged};
-use mob_cells::signs::Placed;
-use mob_cells::zero::sign_of;
+use mob_cells::{Placed, sign_of};
 use mob_frac::Frac;
 use mob_plane::{EdgeSigns, Tally, with_edge};
 use mob_span::Span;

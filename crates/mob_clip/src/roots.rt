@@ -14,8 +14,7 @@ ghost use Rattle.mob_clip.specs.Roots.{place, place_edge, listed_ends, edge_root
 ghost use Rattle.mob_clip.specs.Polygons.{entries_of_edges};
 
 use crate::sides::{EdgeEnds, add, besides, turned};
-use mob_cells::signs::Placed;
-use mob_cells::{Ends, root};
+use mob_cells::{Ends, Placed, root};
 use mob_frac::Frac;
 use mob_plane::Point;
 use mob_slice::{Formula, LookFault, OpFault, Passed, PlaneLine, Slice, limit};

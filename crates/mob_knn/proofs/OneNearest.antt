@@ -7,6 +7,7 @@ use borrow.Author.Tests.{ltb-true}
 use Rattle.mob_ratio.specs.Ratio.{Ratio}
 use Rattle.mob_ratio.specs.Order.{before}
 use Rattle.mob_ratio.proofs.Order.{before-self, before-trans, same_exact}
+use Rattle.mob_list.proofs.Each.{each_take}
 use Rattle.mob_list.proofs.Entries.{first_in, later_in, none_in, which_in, each_of_all}
 use Rattle.mob_knn.specs.Nearest.{nearer, IsRising, AreFirstRows, AreAllRows}
 use Rattle.mob_knn.proofs.Searching.{nearer_before, nearer_level}
@@ -134,15 +135,10 @@ one_first has k rs os h i = same_list rs os h.rising i.rising (among has k rs os
 
 -- ---- the first k of all
 
-take_all_by : (P : ℕ × Ratio → Type 0) (k : ℕ) (xs : List (ℕ × Ratio)) → AllByRecursion P xs → AllByRecursion P (take k xs)
-take_all_by P zero xs h = tt
-take_all_by P (suc k) [] h = tt
-take_all_by P (suc k) (x ∷ xs) h = (h.0, take_all_by P k xs h.1)
-
 take_rising : (k : ℕ) (xs : List (ℕ × Ratio)) → IsRising xs → IsRising (take k xs)
 take_rising zero xs h = tt
 take_rising (suc k) [] h = tt
-take_rising (suc k) (x ∷ xs) h = (take_all_by (λ s. nearer x s ≡ true) k xs h.0, take_rising k xs h.1)
+take_rising (suc k) (x ∷ xs) h = (each_take (λ s. nearer x s ≡ true) k xs h.0, take_rising k xs h.1)
 
 take_few : (k : ℕ) (xs : List (ℕ × Ratio)) → length (take k xs) ≤ k
 take_few zero xs = omega arith
@@ -162,7 +158,7 @@ take_full (suc k) (y ∷ ys) x h c = elim (which_in y ys x c) [
 
 pub cut_first : (has : ℕ → Ratio → Type 0) (k : ℕ) (all : List (ℕ × Ratio)) → AreAllRows has all → AreFirstRows has k (take k all)
 cut_first has k all h = record {
-  each = take_all_by (λ r. has r.0 r.1) k all h.each;
+  each = each_take (λ r. has r.0 r.1) k all h.each;
   rising = take_rising k all h.rising;
   few = take_few k all;
   full = λ row m i. take_full k all (row, m) h.rising (h.every row m i);

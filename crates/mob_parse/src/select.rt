@@ -9,9 +9,7 @@ ghost use Rattle.mob_parse.specs.Shrinks.{from_entry_shrinks, joined_entry_shrin
 
 use crate::cursor::{Cursor, Fault};
 use crate::list::Entry;
-use mob_ast::expression::Expr;
-use mob_ast::statement::{FromTable, Item, Key, SelectTree, Statement};
-use mob_ast::types::Word;
+use mob_ast::{Expr, FromTable, Item, Key, SelectTree, Statement, Word};
 use mob_grammar::mark::Mark;
 use mob_lexemes::lexeme::begins_count;
 use mob_list::items::Items;

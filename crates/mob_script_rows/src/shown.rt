@@ -1,9 +1,7 @@
 //! Trees as text, for tests: each node with its place behind `@`, and behind it its arguments in
 //! brackets.
 
-use mob_ast::expression::{Expr, Node};
-use mob_ast::statement::{FromTable, Item, Key, Row, SelectTree, Statement};
-use mob_ast::types::{Quoted, TypeWord, Word};
+use mob_ast::{Expr, FromTable, Item, Key, Node, Quoted, Row, SelectTree, Statement, TypeWord, Word};
 use std::alloc::{AllocError, Global};
 
 // A mark, a text and its place.

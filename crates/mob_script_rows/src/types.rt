@@ -2,8 +2,9 @@
 // stands in `checks/rows`.
 
 use mob_ast::{Kind, SqlType};
+use mob_operators::Op;
 use mob_parse::script::parse;
-use mob_typed::{Op, TExpr, Typed, TypedStatement};
+use mob_typed::{TExpr, Typed, TypedStatement};
 use mob_typing::type_script;
 use std::alloc::Global;
 

@@ -2,6 +2,7 @@
 use Rattle.std.specs.Prelude.{◌≡◌, ◌≤◌, ◌∷◌, [], ℕ, ℤ, List, Ok, codes, drop, length, map, suc, true, refl}
 use Rattle.std.specs.List.{AllZip, AllByRecursion, zip}
 use Rattle.std.proofs.Common.{ap, sym, ◌∙◌, subst, inl, inr, true≢false}
+use Rattle.mob_list.proofs.Each.{each_map}
 use Rattle.csv.specs.Reading.{AreRecords, default_config, strip_bom}
 use Rattle.csv.specs.declared.parser.State.TheVariants as st
 use Rattle.mob_ast.specs.declared.types.SqlType.{SqlType}
@@ -45,8 +46,7 @@ row_has : (day : ℤ) (row : List Value) → IsTripRow day row → HasFields (ma
 row_has day row h = subst (λ z. HasFields (map (field_text day) z)) (sym h.is) tt
 
 rows_have : (day : ℤ) (rows : List (List Value)) → AllByRecursion (IsTripRow day) rows → AllByRecursion HasFields (map (map (field_text day)) rows)
-rows_have day [] h = tt
-rows_have day (row ∷ rows) h = (row_has day row h.0, rows_have day rows h.1)
+rows_have day = each_map (IsTripRow day) HasFields (map (field_text day)) (row_has day)
 
 no_mark : (day : ℤ) (rows : List (List Value)) → strip_bom (table_text day rows) ≡ table_text day rows
 unfolding strip_bom

@@ -33,6 +33,7 @@ use Rattle.mob_cells.specs.declared.linear.Ends.{Ends}
 use Rattle.mob_cells.specs.Roots.{IsLevel, root_of, roots, as_list}
 use Rattle.mob_cells.specs.Cells.{IsIn, AreSplit, IsSomeEnd, NoneWithin, is_cell_of, start_cells}
 use Rattle.mob_cells.proofs.Splits.{start_are}
+use Rattle.mob_cells.proofs.Standing.{each_in, one_in}
 use Rattle.mob_tile.specs.Bands.{band_of}
 use Rattle.mob_tile.specs.Tiles.{GridOf, IsGrid}
 use Rattle.mob_tile.proofs.BandNumbers.{band_has, bands_rise, edges_lt}
@@ -41,7 +42,7 @@ use Rattle.mob_tile.specs.Pieces.{split_all, IsRisingFrom, HasOneTile, AreTileCe
 use Rattle.mob_cells.proofs.Making.{in_front, in_back}
 use Rattle.mob_tile.proofs.Numbers.{number_there, natural_is, in_map, in_flat}
 use Rattle.mob_tile.proofs.EdgeBands.{IsInOrder, in_order, one_band_on, one_time_on}
-use Rattle.mob_tile.proofs.Walking.{all_split, all_self, end_or_cut, each_in, only_cuts}
+use Rattle.mob_tile.proofs.Walking.{all_split, all_self, end_or_cut, only_cuts}
 
 -- ---- an edge that is crossed is among the edges of a slice
 sign_less : (x e : Ratio) → before (x -ℚ e) nil ≡ true → x <ℚ e
@@ -260,10 +261,6 @@ module _ (g : GridOf) (s : Slice PlaneLine) (ok : IsGrid g) where
   cuts_between sound = each_both Between (roots s.span (differences g s)) (map (edge_of g.width) (t_edges g s)) (roots_between (differences g s) (level_all sound))
       (times_between (bands_rise g.width s.span.lower s.span.upper ok.some_width (not-up_to-le s.span.lower s.span.upper (ends_rise s.span sound.some))))
 
-  in_all : (P : Ratio → Type 0) (rs : List Ratio) (r : Ratio) → AllByRecursion P rs → IsIn r rs → P r
-  in_all P [] r h k = absurd k
-  in_all P (q ∷ rs) r h k = elim k [ inl e ↦ subst P (sym e) h.0 | inr j ↦ in_all P rs r h.1 j ]
-
   -- the cells of a slice, cut at its cuts in any order that has them all
   pub cells_good : (sorted : List Ratio) → IsSound (λ c. c.from) (λ c. c.to) s → ((r : Ratio) → IsIn r (cuts_of g s) → IsIn r sorted) → ((r : Ratio) → IsIn r sorted → IsIn r (cuts_of g s)) → AreTileCells g s (cuts_of g s) (split_all sorted (start_cells s.span))
   cells_good sorted sound f b =
@@ -273,7 +270,7 @@ module _ (g : GridOf) (s : Slice PlaneLine) (ok : IsGrid g) where
       record {
         split = split;
         cut = record {
-          each = each_in (λ r. (r ≡ s.span.lower) ⊎ ((r ≡ s.span.upper) ⊎ IsSomeEnd r cells)) (cuts_of g s) (λ r k. let w = in_all Between (cuts_of g s) r (cuts_between sound) k in end_or_cut s.span r cells split (out r k) w.0 w.1);
+          each = each_in (λ r. (r ≡ s.span.lower) ⊎ ((r ≡ s.span.upper) ⊎ IsSomeEnd r cells)) (cuts_of g s) (λ r k. let w = one_in Between (cuts_of g s) r (cuts_between sound) k in end_or_cut s.span r cells split (out r k) w.0 w.1);
           only = only_cuts s.span (cuts_of g s) sorted b;
         };
         tiles = each_cell cells split.are out sound;
@@ -282,4 +279,4 @@ module _ (g : GridOf) (s : Slice PlaneLine) (ok : IsGrid g) where
   -- sorted cuts rise from the lower end
   pub rising_cuts : (sorted : List Ratio) → IsSound (λ c. c.from) (λ c. c.to) s → ((r : Ratio) → IsIn r sorted → IsIn r (cuts_of g s)) → Rises sorted → IsRisingFrom s.span.lower sorted
   rising_cuts [] sound b up = tt
-  rising_cuts (r ∷ sorted) sound b up = ((in_all Between (cuts_of g s) r (cuts_between sound) (b r (inl refl))).0, rising_on r sorted up.0 up.1)
+  rising_cuts (r ∷ sorted) sound b up = ((one_in Between (cuts_of g s) r (cuts_between sound) (b r (inl refl))).0, rising_on r sorted up.0 up.1)

@@ -9,5 +9,4 @@ mod typed;
 
 pub use joins::is_left;
 pub use making::{copy_of, with_args};
-pub use mob_operators::Op;
 pub use typed::{Agg, ConstText, TExpr, Typed, TypedSelect, TypedStatement};
