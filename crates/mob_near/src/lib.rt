@@ -4,7 +4,7 @@
 
 mod foot;
 mod known;
-pub mod laws;
+mod laws;
 mod leg;
 mod nearness;
 mod piece;
