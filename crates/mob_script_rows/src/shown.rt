@@ -1,7 +1,9 @@
 //! Trees as text, for tests: each node with its place behind `@`, and behind it its arguments in
 //! brackets.
 
-use mob_ast::{Expr, FromTable, Item, Key, Node, Quoted, Row, SelectTree, Statement, TypeWord, Word};
+use mob_ast::{
+    Expr, FromTable, Item, Key, Node, Quoted, Row, SelectTree, Statement, TypeWord, Word,
+};
 use std::alloc::{AllocError, Global};
 
 // A mark, a text and its place.
