@@ -1,19 +1,12 @@
 // Spans between whole numbers, and sets of them.
 
+use crate::lines::span;
 use mob_frac::Frac;
 use mob_span::{Span, SpanSet};
 use std::alloc::Global;
 
 // The ends of a span, and whether it includes them.
 type Ends = (i64, i64, bool, bool);
-
-// The span with these ends, of which each is included or not.
-fn span(ends: Ends) -> Option<Span> {
-    match (Frac::new(ends.0, 1), Frac::new(ends.1, 1)) {
-        (Ok(lower), Ok(upper)) => Span::new(lower, upper, ends.2, ends.3),
-        _ => None,
-    }
-}
 
 fn ends_of(span: &Span) -> Ends {
     (

@@ -32,7 +32,8 @@ fn line(row: &Row) -> Option<(Span, Line)> {
     }
 }
 
-fn fraction(parts: Parts) -> Option<Frac> {
+/// The fraction of these parts. None where the second one is 0.
+pub fn fraction(parts: (i64, i64)) -> Option<Frac> {
     if parts.1 == 0 {
         return None;
     }

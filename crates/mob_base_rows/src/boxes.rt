@@ -2,8 +2,8 @@
 ghost use Rattle.std.specs.Prelude.{◌≡◌, true, IfSome};
 ghost use Rattle.mob_stbox.specs.Boxes.{is_whole};
 
+use crate::lines::span;
 use mob_frac::Frac;
-use mob_span::Span;
 use mob_stbox::{Area, StBox};
 
 fn number(n: i64) -> Option<Frac> {
@@ -23,18 +23,12 @@ fn area(x: (i64, i64), y: (i64, i64)) -> Option<Area> {
     })
 }
 
-fn span(t: (i64, i64)) -> Option<Span> {
-    let from = number(t.0)?;
-    let to = number(t.1)?;
-    Span::new(from, to, true, true)
-}
-
 /// The box with these sides and from the one instant to the other.
 #[tactic(auto, unfolding(mob_stbox::specs::Boxes::is_whole))]
 pub fn boxed(x: (i64, i64), y: (i64, i64), t: (i64, i64)) -> Option<StBox>
     ensures whole { IfSome result (λ b. is_whole b ≡ true) }
 {
     let space = area(x, y)?;
-    let time = span(t)?;
+    let time = span((t.0, t.1, true, true))?;
     StBox::new(Some(space), Some(time))
 }

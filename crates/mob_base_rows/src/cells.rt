@@ -3,6 +3,7 @@
 ghost use Rattle.std.specs.Prelude.{◌≡◌, ◌<◌, ◌∷◌, [], length, true, IfOk};
 ghost use Rattle.mob_ratio.specs.Order.{before};
 
+use crate::lines::{fraction, span};
 use mob_cells::{Cells, Ends, root};
 use mob_frac::Frac;
 use mob_slice::OpFault;
@@ -22,13 +23,6 @@ type Limits = (i64, i64, bool, bool);
 // instant, and else none.
 type Signed = (Parts, Parts, i8);
 
-fn fraction(parts: Parts) -> Option<Frac> {
-    if parts.1 == 0 {
-        return None;
-    }
-    Frac::new(parts.0, parts.1).ok()
-}
-
 fn is_fraction(number: &Frac, wanted: Parts) -> bool {
     number.num() == wanted.0 && number.den() == wanted.1
 }
@@ -36,13 +30,6 @@ fn is_fraction(number: &Frac, wanted: Parts) -> bool {
 fn function(ends: &Function) -> Option<Ends> {
     match (fraction(ends.0), fraction(ends.1)) {
         (Some(at_lower), Some(at_upper)) => Some(Ends { at_lower, at_upper }),
-        _ => None,
-    }
-}
-
-fn span(limits: &Limits) -> Option<Span> {
-    match (Frac::new(limits.0, 1), Frac::new(limits.1, 1)) {
-        (Ok(lower), Ok(upper)) => Span::new(lower, upper, limits.2, limits.3),
         _ => None,
     }
 }
@@ -63,7 +50,7 @@ fn is_root(span: &Span, ends: &Ends, wanted: Option<Parts>) -> bool {
 }
 
 fn has_root(limits: &Limits, ends: &Function, wanted: Option<Parts>) -> bool {
-    match (span(limits), function(ends)) {
+    match (span(*limits), function(ends)) {
         (Some(span), Some(ends)) => is_root(&span, &ends, wanted),
         _ => false,
     }
@@ -160,7 +147,7 @@ fn is_cut_by_one(alloc: Global, span: Span, first: Ends, wanted: &[Signed]) -> b
 }
 
 fn is_cut_once(alloc: Global, limits: &Limits, first: &Function, wanted: &[Signed]) -> bool {
-    match (span(limits), function(first)) {
+    match (span(*limits), function(first)) {
         (Some(span), Some(first)) => is_cut_by_one(alloc, span, first, wanted),
         _ => false,
     }
@@ -220,7 +207,7 @@ fn is_cut_by_two(alloc: Global, span: Span, first: Ends, next: Ends, row: &Two) 
 }
 
 fn is_cut_twice(alloc: Global, row: &Two) -> bool {
-    match (span(&row.0), function(&row.1), function(&row.2)) {
+    match (span(row.0), function(&row.1), function(&row.2)) {
         (Some(span), Some(first), Some(next)) => is_cut_by_two(alloc, span, first, next, row),
         _ => false,
     }
