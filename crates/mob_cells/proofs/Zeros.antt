@@ -1,16 +1,13 @@
 -- Roots.
-use Rattle.std.specs.Prelude.{◌≡◌, Bool, true, false, [], ◌∷◌, Result, pos, refl}
-use Rattle.std.proofs.Common.{arith, ap, sym, ◌∙◌, subst, true≢false, inl, inr}
+use Rattle.std.specs.Prelude.{◌≡◌, Bool, true, false, refl}
+use Rattle.std.proofs.Common.{arith, ap, sym, ◌∙◌, true≢false, inl, inr}
 use Rattle.std.specs.declared.cmp.Ordering.TheVariants.{Less, Equal, Greater}
-use Rattle.mob_ratio.specs.Ratio.{Ratio, whole, ◌+ℚ◌, ◌-ℚ◌, ◌*ℚ◌, ◌/ℚ◌, ◌<ℚ◌}
+use Rattle.mob_ratio.specs.Ratio.{Ratio}
 use Rattle.mob_ratio.specs.Order.{before}
 use Rattle.mob_ratio.specs.Line.{line_at}
 use Rattle.mob_ratio.specs.Sign.{nil, opposite, root_at, sign_of, IsRoot}
-use Rattle.mob_ratio.proofs.Order.{before-back, before-trans, before-neither, before-lt, lt-before, false_unless}
-use Rattle.mob_ratio.proofs.Signs.{root_holds, opposite_cases, sign_below, sign_above, sign_nil, ne_by, ne_by'}
-use Rattle.mob_frac.specs.Fits.{Fits, IsExact}
-use Rattle.mob_frac.specs.Formula.{IsFormula, inner_root_parts}
-use Rattle.mob_frac.proofs.PartsOfLines.{last_part}
+use Rattle.mob_ratio.proofs.Order.{before-back, before-neither}
+use Rattle.mob_ratio.proofs.Signs.{root_holds, opposite_cases, sign_below, sign_above, sign_nil}
 use Rattle.mob_span.specs.Span.{SpanOf, has}
 use Rattle.mob_cells.specs.declared.linear.Ends.{Ends}
 use Rattle.mob_cells.specs.Roots.{IsLevel, IsOneRoot}
@@ -52,45 +49,3 @@ one_root s f l o =
     let n = opposite_signs f.at_lower f.at_upper o in
     let r = root_at f.at_lower f.at_upper s.lower s.upper in
     record { after = h.after; until = h.until; zero = h.zero; only = λ t z. only_zero f.at_lower f.at_upper s.lower s.upper r t h n.0 n.1 z (before t r) (before r t) refl refl }
-
-pub opposite_differ : (f0 f1 : Ratio) → opposite f0 f1 ≡ true → f0 -ℚ f1 ≡ nil → ⊥
-opposite_differ f0 f1 h e = elim (opposite_cases f0 f1 h) [ inl k ↦ ne_by f0 f1 (before-trans f0 nil f1 k.0 k.1) e | inr k ↦ ne_by' f0 f1 (before-trans f1 nil f0 k.1 k.0) e ]
-
--- the tests for a sign, as they are looked up
-pub below_by : (x : Ratio) → x <ℚ nil → true ≡ before x nil
-below_by x h = sym (lt-before x nil h)
-
-pub not_below_by : (x : Ratio) → (x <ℚ nil → ⊥) → false ≡ before x nil
-not_below_by x h = sym (false_unless (before x nil) (λ e. h (before-lt x nil e)))
-
-pub above_by : (x : Ratio) → nil <ℚ x → true ≡ before nil x
-above_by x h = sym (lt-before nil x h)
-
-pub not_above_by : (x : Ratio) → (nil <ℚ x → ⊥) → false ≡ before nil x
-not_above_by x h = sym (false_unless (before nil x) (λ e. h (before-lt nil x e)))
-
--- the sign, as it is looked up
-pub less_by : (x : Ratio) → x <ℚ whole (pos 0) → Less ≡ sign_of x
-less_by x h = sym (sign_below x (lt-before x nil h))
-
-pub equal_by : (x : Ratio) → x ≡ whole (pos 0) → Equal ≡ sign_of x
-equal_by x h = sym (ap sign_of h ∙ sign_nil)
-
-pub greater_by : (x : Ratio) → (x <ℚ whole (pos 0) → ⊥) → (x ≡ whole (pos 0) → ⊥) → Greater ≡ sign_of x
-greater_by x h k = sym (sign_above x (above (before nil x) refl))
-  where
-    above : (b : Bool) → before nil x ≡ b → before nil x ≡ true
-    above true e = e
-    above false e = absurd (k (before-neither x nil (false_unless (before x nil) (λ m. h (before-lt x nil m))) e))
-
--- the parts of the root, once they are named
-pub root_last : {E : Type 0} (r : Result Ratio E) (f0 f1 l u d q w s : Ratio) → (d ≡ f0 -ℚ f1) × Fits (f0 -ℚ f1) → (q ≡ f0 /ℚ d) × Fits (f0 /ℚ d) → (w ≡ u -ℚ l) × Fits (u -ℚ l) → (s ≡ w *ℚ q) × Fits (w *ℚ q) → IsExact (l +ℚ s) r → IsFormula (inner_root_parts f0 f1 l u) (root_at f0 f1 l u) r
-unfolding root_at
-root_last r f0 f1 l u d q w s hd hq hw hs h =
-    let q' : q ≡ f0 /ℚ (f0 -ℚ f1) = hq.0 ∙ ap (λ z. f0 /ℚ z) hd.0 in
-    let fq : Fits (f0 /ℚ (f0 -ℚ f1)) = subst Fits (sym hq.0 ∙ q') hq.1 in
-    let s' : s ≡ (u -ℚ l) *ℚ (f0 /ℚ (f0 -ℚ f1)) = hs.0 ∙ ap (λ z. z *ℚ q) hw.0 ∙ ap (λ z. (u -ℚ l) *ℚ z) q' in
-    let fs : Fits ((u -ℚ l) *ℚ (f0 /ℚ (f0 -ℚ f1))) = subst Fits (sym hs.0 ∙ s') hs.1 in
-    last_part ((f0 -ℚ f1) ∷ (f0 /ℚ (f0 -ℚ f1)) ∷ (u -ℚ l) ∷ ((u -ℚ l) *ℚ (f0 /ℚ (f0 -ℚ f1))) ∷ []) (l +ℚ (u -ℚ l) *ℚ (f0 /ℚ (f0 -ℚ f1))) (l +ℚ (u -ℚ l) *ℚ (f0 /ℚ (f0 -ℚ f1))) r refl
-    (hd.1, (fq, (hw.1, (fs, tt))))
-    (subst (λ z. IsExact (l +ℚ z) r) s' h)

@@ -1,4 +1,2 @@
-pub mod Faults
-pub mod Held
 pub mod Moving
 pub mod Ordinary

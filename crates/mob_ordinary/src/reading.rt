@@ -1,12 +1,12 @@
 //! Stored values, read as values of a type.
 ghost use Rattle.std.specs.Prelude.{◌≡◌, option_map};
-ghost use Rattle.mob_ordinary.specs.Held.{held};
+ghost use Rattle.mob_value.specs.Held.{held};
 ghost use Rattle.mob_value.specs.Null.{value_or_null};
 ghost use Rattle.mob_value.specs.Types.{is_of_type, read_as};
 
-use crate::held::Held;
 use mob_ast::SqlType;
 use mob_value::Value;
+use mob_value::held::Held;
 
 // Whether a value is one of a type.
 fn is_of_type(ty: SqlType, value: &Value) -> bool

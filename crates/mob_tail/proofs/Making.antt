@@ -2,9 +2,9 @@
 use Rattle.std.proofs.Common.{◌≡◌, inl, inr, ℕ, ◌+◌, ◌<◌, List, [], ◌∷◌, ◌++◌, Result, Ok, Err, length, map, take, drop, get_or, ◌≤◌, refl, sym, ap, subst, ◌∙◌, arith}
 use Rattle.std.proofs.lemmas.List.{take_more, take_all, take-append-drop}
 use Rattle.mob_meaning.specs.Evaluation.{Fault}
-use Rattle.mob_ordinary.specs.Faults.{OnPassed}
-use Rattle.mob_ordinary.specs.declared.fault.EvalFault.{EvalFault}
-use Rattle.mob_ordinary.specs.declared.fault.EvalFault.TheVariants.{Passed, NoMemory}
+use Rattle.mob_outcome.specs.Faults.{OnPassed}
+use Rattle.mob_outcome.specs.declared.fault.EvalFault.{EvalFault}
+use Rattle.mob_outcome.specs.declared.fault.EvalFault.TheVariants.{Passed, NoMemory}
 use Rattle.mob_tail.specs.IsMadeOfEach.{IsMadeOfEach}
 use Rattle.mob_list.proofs.Entries.{drop_read}
 

@@ -10,9 +10,9 @@ use Rattle.mob_value.specs.declared.value.Value.TheVariants.{Null}
 use Rattle.mob_value.specs.declared.store.Store.{Store}
 use Rattle.mob_meaning.specs.Scene.{Scene, scene}
 use Rattle.mob_meaning.specs.Evaluation.{Fault}
-use Rattle.mob_ordinary.specs.Faults.{OnPassed}
-use Rattle.mob_ordinary.specs.declared.fault.EvalFault.{EvalFault}
-use Rattle.mob_ordinary.specs.declared.fault.EvalFault.TheVariants.{Passed, NoMemory}
+use Rattle.mob_outcome.specs.Faults.{OnPassed}
+use Rattle.mob_outcome.specs.declared.fault.EvalFault.{EvalFault}
+use Rattle.mob_outcome.specs.declared.fault.EvalFault.TheVariants.{Passed, NoMemory}
 use Rattle.mob_list.proofs.Changing.{AreChanged}
 use Rattle.mob_tagg.specs.Rows.{AreValues, IsItem, IsTuple}
 use Rattle.mob_tail.specs.declared.group_cells.GroupCell.{GroupCell}

@@ -3,8 +3,8 @@ ghost use Rattle.std.specs.Prelude.{◌≡◌, Ok, Err, Some, IfOk, IfErr, Match
 ghost use Rattle.std.specs.List.{AllByRecursion, AllZip};
 ghost use Rattle.mob_typed.specs.Trees.{typed_of};
 ghost use Rattle.mob_eval.specs.Views.{scene_of};
-ghost use Rattle.mob_ordinary.specs.Faults.{OnPassed};
-ghost use Rattle.mob_ordinary.specs.Held.{held};
+ghost use Rattle.mob_outcome.specs.Faults.{OnPassed};
+ghost use Rattle.mob_value.specs.Held.{held};
 ghost use Rattle.mob_tail.specs.Aggregated.{leaves_out};
 ghost use Rattle.mob_tail.specs.Groups.{column_on};
 ghost use Rattle.mob_tail.specs.States.{IsStateWith};
@@ -13,7 +13,7 @@ ghost use Rattle.mob_tail.specs.GroupSteps.{column_seen, IsAggregateOn, IsColumn
 use crate::columns::{Column, argument_on, column_on};
 use crate::state::{State, nothing_yet, state_with, value_of};
 use mob_eval::{Held, View, fault_at};
-use mob_ordinary::fault::EvalFault;
+use mob_outcome::fault::EvalFault;
 use mob_slice::OpFault;
 use mob_tuples::Tuple;
 use mob_typed::{Agg, TExpr};

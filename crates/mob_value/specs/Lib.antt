@@ -1,4 +1,5 @@
 pub mod Cuts
+pub mod Held
 pub mod Memory
 pub mod Null
 pub mod Types

@@ -3,11 +3,13 @@
 
 mod boxed;
 mod copies;
+pub mod held;
 pub mod laws;
 mod rows;
 mod store;
 mod value;
 mod value_box;
+pub mod weights;
 
 pub use boxed::Boxed;
 pub use rows::{Rows, RowsLeft};

@@ -9,7 +9,7 @@ pub mod remembered;
 
 use crate::memory::own_box::ToldBox;
 use crate::memory::remembered::{Outcomes, Remembering};
-use mob_ordinary::cells::{Cell, Told};
+use mob_outcome::cells::{Cell, Told};
 use once_cell::race::OnceBox;
 use std::alloc::{AllocError, Global};
 use std::marker::{Model, PhantomData};

@@ -15,7 +15,7 @@ use crate::memory::remembered::Remembering;
 use crate::memory::{Memory, box_cell_of};
 use crate::operators::boxes::{overlap, overlap_of};
 use crate::scene::View;
-use mob_ordinary::cells::{Cell, has_room};
+use mob_outcome::cells::{Cell, has_room};
 use mob_stbox::StBox;
 use mob_typed::TExpr;
 use mob_value::{Value, box_of_value};

@@ -1,7 +1,7 @@
 //! Which operators are remembered, and what the memory tells of them.
 ghost use Rattle.mob_eval.specs.Remembered.{Recollection, nothing};
 
-use mob_ordinary::cells::Telling;
+use mob_outcome::cells::Telling;
 use std::marker::{Brand, PhantomData};
 
 /// Which operators are remembered, by their places in the script, and over which tables.

@@ -1,13 +1,13 @@
 //! Casts.
 ghost use Rattle.std.specs.Prelude.{◌≡◌, IfOk};
 ghost use Rattle.mob_operators.specs.Lookup.{same_type};
-ghost use Rattle.mob_ordinary.specs.Held.{held};
+ghost use Rattle.mob_value.specs.Held.{held};
 ghost use Rattle.mob_eval.specs.SoFar.{operand_types};
 ghost use Rattle.mob_meaning.specs.Types.{IsCastTo, IsCast};
 
 use crate::operators::coordinates::widened;
 use mob_ast::SqlType;
-use mob_ordinary::held::{Held, made};
+use mob_value::held::{Held, made};
 use mob_ordinary::numbers::unchanged;
 use mob_typed::TExpr;
 use mob_value::Value;

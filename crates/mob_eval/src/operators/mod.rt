@@ -4,7 +4,7 @@ ghost use Rattle.mob_eval.specs.Views.{scene_of};
 ghost use Rattle.mob_meaning.specs.Operators.{GivesOfOne, GivesOfTwo, GivesOfThree, OnEntriesOfTwo, entries_of_three};
 ghost use Rattle.mob_eval.specs.SoFar.{operand_types};
 ghost use Rattle.mob_slice.specs.Entries.{IsFirst};
-ghost use Rattle.mob_ordinary.specs.Held.{held};
+ghost use Rattle.mob_value.specs.Held.{held};
 ghost use Rattle.mob_eval.specs.Outcomes.{IsOutcome, wanted};
 
 mod arithmetic;
@@ -45,7 +45,7 @@ use mob_ast::SqlType;
 use mob_meaning::{Calculation, Scope};
 use mob_operators::Op;
 use mob_ordinary::comparison::test;
-use mob_ordinary::held::{Held, made};
+use mob_value::held::{Held, made};
 use mob_ordinary::logic::{
     conjunction, disjunction, is_null, known, negation as contrary, truth_of,
 };

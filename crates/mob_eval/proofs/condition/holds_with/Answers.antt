@@ -2,7 +2,7 @@ use Rattle.std.proofs.Common.{ap, ◌∙◌}
 use Rattle.mob_typed.specs.Trees.{typed_of}
 use Rattle.mob_ordinary.specs.Ordinary.{is_true_value}
 use Rattle.mob_meaning.proofs.Values.{true_by_value, evaluates_to_its_value}
-use Rattle.mob_ordinary.specs.Held.{held}
+use Rattle.mob_value.specs.Held.{held}
 use Rattle.mob_eval.specs.Views.{scene_of}
 use Rattle.mob_eval.proofs.condition.holds_with.Goals as goal
 

@@ -1,5 +1,5 @@
 use Rattle.std.proofs.Common.{sym, ap, ◌∙◌}
-use Rattle.mob_ordinary.specs.Held.{held}
+use Rattle.mob_value.specs.Held.{held}
 use Rattle.mob_eval.specs.Views.{scene_of}
 use Rattle.mob_tail.specs.Groups.{is_bare}
 use Rattle.mob_tail.proofs.ColumnValues.{no_operands, never_fails, some_operands}

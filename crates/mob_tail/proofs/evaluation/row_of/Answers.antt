@@ -4,7 +4,7 @@ use Rattle.std.proofs.lemmas.Result.{IfErr-weaker, IfOk-weaker}
 use Rattle.mob_list.proofs.Each.{each_parts}
 use Rattle.mob_typed.specs.Selects.{select_seen}
 use Rattle.mob_meaning.specs.Scene.{scene}
-use Rattle.mob_ordinary.specs.Faults.{OnPassed}
+use Rattle.mob_outcome.specs.Faults.{OnPassed}
 use Rattle.mob_eval.specs.Remembered.{Fits}
 use Rattle.mob_tail.specs.Answers.{IsRowOf}
 use Rattle.mob_tail.specs.AnswerRows.{answer_row}

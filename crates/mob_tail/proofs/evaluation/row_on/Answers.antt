@@ -2,7 +2,7 @@ use Rattle.std.proofs.Common.{inl, inr, Err, map}
 use Rattle.std.proofs.lemmas.Result.{IfErr-weaker, IfOk-weaker}
 use Rattle.mob_meaning.specs.Evaluation.{TreeEvaluatesTo}
 use Rattle.mob_eval.specs.Views.{scene_of}
-use Rattle.mob_ordinary.specs.Faults.{OnPassed}
+use Rattle.mob_outcome.specs.Faults.{OnPassed}
 use Rattle.mob_eval.specs.Remembered.{root_seen}
 use Rattle.mob_arrange.specs.RowValues.{row_value}
 use Rattle.mob_tail.specs.IsMadeOfEach.{IsMadeOfEach}

@@ -1,7 +1,7 @@
 use Rattle.std.proofs.Common.{rules, ◌≡◌, ◌++◌, ◌∷◌, [], Ok, Err, ℕ, List, map, ap, ◌∙◌, arith, subst}
 use Rattle.mob_typed.specs.Selects.{select_seen}
 use Rattle.mob_meaning.specs.Scene.{scene}
-use Rattle.mob_ordinary.specs.Faults.{OnPassed}
+use Rattle.mob_outcome.specs.Faults.{OnPassed}
 use Rattle.mob_eval.proofs.QueryFaults.{on_tuple}
 use Rattle.mob_tail.specs.IsMadeOfEach.{IsMadeOfEach}
 use Rattle.std.proofs.lemmas.List.{map-append}

@@ -3,7 +3,7 @@ use Rattle.std.proofs.lemmas.Result.{IfErr-weaker, IfOk-weaker}
 use Rattle.mob_slice.specs.declared.formula.OpFault.TheVariants.{Passed}
 use Rattle.mob_typed.specs.Trees.{typed_of}
 use Rattle.mob_eval.specs.Views.{scene_of}
-use Rattle.mob_ordinary.specs.Held.{held}
+use Rattle.mob_value.specs.Held.{held}
 use Rattle.mob_tail.specs.Aggregated.{leaves_out}
 use Rattle.mob_tail.specs.GroupSteps.{IsAggregateOn}
 use Rattle.mob_tail.specs.States.{IsStateWith}

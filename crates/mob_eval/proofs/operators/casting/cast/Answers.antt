@@ -1,5 +1,5 @@
 use Rattle.std.proofs.Common.{arith}
-use Rattle.mob_ordinary.specs.Held.{held}
+use Rattle.mob_value.specs.Held.{held}
 use Rattle.mob_eval.proofs.Counts.{no_cast}
 use Rattle.mob_eval.proofs.operators.casting.cast.Goals as goal
 

@@ -1,11 +1,11 @@
 //! How much memory a value takes.
 
+use crate::value::Value;
 use mob_frac::Frac;
 use mob_list::text::Text;
 use mob_plane::Point;
 use mob_slice::{Line, PlaneLine, Slice, Steady};
 use mob_span::Span;
-use mob_value::Value;
 use std::mem::size_of;
 
 // So many things of so many bytes each.

@@ -1,8 +1,8 @@
 use Rattle.std.proofs.Common.{rules, ◌≡◌, ◌∙◌, sym, ap, pos, FitsSigned, to_z, of_z}
 use Rattle.std.specs.Int.{w8}
 use Rattle.std.proofs.lemmas.Int.{to_z-of_z}
-use Rattle.mob_cells.proofs.Zeros.{above_by, not_above_by}
-use Rattle.mob_cells.proofs.zero.is_above.Goals as goal
+use Rattle.mob_root.proofs.Zeros.{above_by, not_above_by}
+use Rattle.mob_root.proofs.zero.is_above.Goals as goal
 
 pub returns-then-sign-eq1 : goal.returns-then-sign-eq1
 returns-then-sign-eq1 c =

@@ -1,10 +1,10 @@
 -- The cause of a refusal: of one operator, and of an expression.
 use Rattle.std.specs.Prelude.{ℕ, Result, Ok, Err}
 use Rattle.mob_value.specs.declared.value.Value.{Value}
-use Rattle.mob_ordinary.specs.declared.fault.EvalFault.{EvalFault}
-use Rattle.mob_ordinary.specs.declared.fault.EvalFault.TheVariants as eval
-use Rattle.mob_ordinary.specs.declared.held.Held.{Held}
-use Rattle.mob_ordinary.specs.Held.{held}
+use Rattle.mob_outcome.specs.declared.fault.EvalFault.{EvalFault}
+use Rattle.mob_outcome.specs.declared.fault.EvalFault.TheVariants as eval
+use Rattle.mob_value.specs.declared.held.Held.{Held}
+use Rattle.mob_value.specs.Held.{held}
 use Rattle.mob_slice.specs.declared.formula.Formula.{Formula}
 use Rattle.mob_slice.specs.declared.formula.OpFault.{OpFault}
 use Rattle.mob_slice.specs.declared.formula.OpFault.TheVariants.{Passed, NoMemory}

@@ -6,13 +6,13 @@
 ghost use Rattle.std.specs.Prelude.{◌≡◌, ℕ, true, IfSome, Option, Result};
 ghost use Rattle.mob_slice.specs.declared.formula.Formula.{Formula as formula_of};
 ghost use Rattle.mob_value.specs.declared.value.Value.{Value as value_of};
-ghost use Rattle.mob_ordinary.specs.Faults.{Says};
+ghost use Rattle.mob_outcome.specs.Faults.{Says};
 
 use crate::fault::EvalFault;
-use crate::held::Held;
-use crate::weights::weight;
 use mob_slice::Formula;
 use mob_value::Value;
+use mob_value::held::Held;
+use mob_value::weights::weight;
 use once_cell::race::OnceBox;
 use std::alloc::Global;
 use std::marker::{Model, PhantomData};
@@ -42,7 +42,7 @@ pub struct Told<K: Telling> {
 }
 
 impl<K: Telling> Model for Told<K> {
-    ghost use Rattle.mob_ordinary.specs.declared.cells.Answer.{Answer as answer_of};
+    ghost use Rattle.mob_outcome.specs.declared.cells.Answer.{Answer as answer_of};
 
     ghost Value = { answer_of };
 
