@@ -1,4 +1,4 @@
-use Rattle.std.proofs.Common.{◌≡◌, ◌+◌, drop, arith, refl}
+use Rattle.std.proofs.Common.{◌+◌, drop, arith, refl}
 use Rattle.std.proofs.Math.ListN.{drop_of_length-le}
 use Rattle.mob_list.proofs.Entries.{drop_read}
 use Rattle.mob_span.proofs.Leaving.{front_added, no_front, left_on, left_all, left_last}
