@@ -16,11 +16,11 @@ use Rattle.mob_span.specs.Span.{SpanOf, has, has_instant}
 use Rattle.mob_span.specs.Sets.{in_some}
 use Rattle.mob_span.specs.Neighbours.{is_inside}
 use Rattle.mob_cells.specs.Cells.{IsIn}
-use Rattle.mob_slice.proofs.Cuts.{all_both, all_second}
+use Rattle.mob_slice.proofs.Cuts.{all_both, all_first, all_second}
 use Rattle.mob_cells.specs.declared.linear.Ends.{Ends}
 use Rattle.mob_cells.specs.declared.signs.Placed.{Placed}
 use Rattle.mob_cells.specs.Roots.{IsLevel, root_parts, root_of, roots, roots_parts, as_list, function_at}
-use Rattle.mob_cells.specs.Cells.{AreCells, AreCutAt, IsSomeEnd, IsCut, AreSplit, IsPlaced, IsApart, AreSigned, functions_of, cut_at, split_at, start_cells, until, inner, instant_span, beyond, NoneWithin, is_cell, is_cell_of, placed_sign, signs_of}
+use Rattle.mob_cells.specs.Cells.{AreCells, AreCutAt, IsSomeEnd, IsCut, AreSplit, IsPlaced, IsApart, AreSigned, functions_of, cut_at, split_one, split_at, start_cells, until, inner, instant_span, beyond, NoneWithin, is_cell, is_cell_of, placed_sign, signs_of}
 use Rattle.mob_lifted.proofs.Options.{none_some, same_some}
 use Rattle.mob_cells.proofs.Splits.{split_are, split_out, split_self, start_are}
 use Rattle.mob_cells.proofs.Keeps.{kept}
@@ -133,6 +133,15 @@ making_step s fs rest later f r cells cells' placed placed' e er fits ec ep m =
 pub level_next : (s : SpanOf) (fs rest later : List Ends) (f : Ends) (cells : List SpanOf) (placed : List Placed) → rest ≡ f ∷ later → IsMaking s fs rest cells placed → IsLevel s f
 level_next s fs rest later f cells placed e m = (subst (λ z. AllByRecursion (IsLevel s) z) e m.level).0
 
+pub making_fails : (s : SpanOf) (fs rest later : List Ends) (f : Ends) (cells : List SpanOf) (placed : List Placed) → rest ≡ f ∷ later → (¬ AllFit (root_parts s f)) → IsMaking s fs rest cells placed → ¬ AllFit (roots_parts s fs)
+making_fails s fs rest later f cells placed e n m h = n (all_first (root_parts s f) (roots_parts s later) (subst (λ z. AllFit (roots_parts s z)) e (m.fail h)))
+
+pub making_all : (s : SpanOf) (fs rest : List Ends) (cells : List SpanOf) (placed : List Placed) → rest ≡ [] → IsMaking s fs rest cells placed → functions_of placed ≡ fs
+making_all s fs rest cells placed e m = sym (append-nil (functions_of placed)) ∙ (rw e at m.made)
+
+pub making_fits : (s : SpanOf) (fs rest : List Ends) (cells : List SpanOf) (placed : List Placed) → rest ≡ [] → IsMaking s fs rest cells placed → AllFit (roots_parts s fs)
+making_fits s fs rest cells placed e m = m.fit (rw e tt)
+
 -- ---- the sign of a function on a cell
 
 pub get_ends : (ps : List Placed) (i : ℕ) (p : Placed) → slice_get ps i ≡ Some p → slice_get (functions_of ps) i ≡ Some p.ends
@@ -178,6 +187,19 @@ signs_found s placed cells i c os h ei eo c' di t k = signs_kept s placed cells 
 
 pub list_read : {A : Type 0} (xs : List A) (i : ℕ) (x : A) → i < length xs → x ≡ get_or xs i x → drop i xs ≡ x ∷ drop (i + 1) xs
 list_read xs i x h e = rw add-one (rw (drop-cons xs i x) (ap (λ y. y ∷ drop (suc i) xs) (sym e)))
+
+-- ---- loops over lists
+pub mapped_step : {A B : Type 0} (f : A → B) (rest later : List A) (x : A) (y : B) (out out' all : List B) → rest ≡ x ∷ later → y ≡ f x → out' ≡ out ++ y ∷ [] → out ++ map f rest ≡ all → out' ++ map f later ≡ all
+mapped_step f rest later x y out out' all e ey n m = rw (n, append_assoc out (y ∷ []) (map f later)) (ap (λ z. out ++ z ∷ map f later) ey ∙ (rw e at m))
+
+pub mapped_end : {A B : Type 0} (f : A → B) (rest : List A) (out all : List B) → rest ≡ [] → out ++ map f rest ≡ all → out ≡ all
+mapped_end f rest out all e m = sym (append-nil out) ∙ (rw e at m)
+
+pub split_step : (r : Ratio) (rest later : List SpanOf) (c : SpanOf) (out out' all : List SpanOf) → rest ≡ c ∷ later → out' ≡ out ++ split_one r c → out ++ split_at r rest ≡ all → out' ++ split_at r later ≡ all
+split_step r rest later c out out' all e n m = rw (n, append_assoc out (split_one r c) (split_at r later)) (rw e at m)
+
+pub split_end : (r : Ratio) (rest out all : List SpanOf) → rest ≡ [] → out ++ split_at r rest ≡ all → out ≡ all
+split_end r rest out all e m = sym (append-nil out) ∙ (rw e at m)
 
 -- ---- what callers see
 inside_of : (s : SpanOf) (cells : List SpanOf) → AllByRecursion (λ c. is_cell_of s c ≡ true) cells → AllByRecursion (λ c. is_inside s c ≡ true) cells

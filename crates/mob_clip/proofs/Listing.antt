@@ -25,6 +25,20 @@ module _ {A : Type 0} (parts : A → List Ratio) where
   pub checking_fails : (all rest later : List A) (x : A) → rest ≡ x ∷ later → (¬ AllFit (parts x)) → IsChecking parts all rest → ¬ AllFit (flat_map parts all)
   checking_fails all rest later x e n m h = n (all_first (parts x) (flat_map parts later) (subst (λ z. AllFit (flat_map parts z)) e (m.fail h)))
 
+  pub checking_end : (all rest : List A) → rest ≡ [] → IsChecking parts all rest → AllFit (flat_map parts all)
+  checking_end all rest e m = m.fit (rw e tt)
+
+-- a list with nothing behind it
+pub all_made : {A : Type 0} (out rest all : List A) → rest ≡ [] → out ++ rest ≡ all → out ≡ all
+all_made out rest all e h = sym (append-nil out) ∙ ap (λ z. out ++ z) (sym e) ∙ h
+
+-- a list that is made of another part by part, of which f makes a part of the first
+pub walk_step : {A B : Type 0} (f : List A → List B) (rest later : List A) (x : A) (part out out' all : List B) → rest ≡ x ∷ later → f (x ∷ later) ≡ part ++ f later → out' ≡ out ++ part → out ++ f rest ≡ all → out' ++ f later ≡ all
+walk_step f rest later x part out out' all e g n m = rw (n, append_assoc out part (f later)) (ap (λ z. out ++ z) (sym g) ∙ ap (λ z. out ++ f z) (sym e) ∙ m)
+
+pub walk_end : {A B : Type 0} (f : List A → List B) (rest : List A) (out all : List B) → rest ≡ [] → f [] ≡ [] → out ++ f rest ≡ all → out ≡ all
+walk_end f rest out all e g m = all_made out (f rest) all (ap f e ∙ g) m
+
 -- the list so far, with what is made of the rest, is that of all; and all fit where the rest does
 pub record IsMapping {A B : Type 0} (f : A → B) (parts : A → List Ratio) (all rest : List A) (out : List B) : Type 0 where
   pub made : out ++ map f rest ≡ map f all
@@ -37,9 +51,8 @@ module _ {A B : Type 0} (f : A → B) (parts : A → List Ratio) where
     checked = checking_step parts all rest later x e h m.checked;
   }
 
--- a list with nothing behind it
-pub all_made : {A : Type 0} (out rest all : List A) → rest ≡ [] → out ++ rest ≡ all → out ≡ all
-all_made out rest all e h = sym (append-nil out) ∙ ap (λ z. out ++ z) (sym e) ∙ h
+  pub mapping_end : (all rest : List A) (out : List B) → rest ≡ [] → IsMapping f parts all rest out → (out ≡ map f all) × AllFit (flat_map parts all)
+  mapping_end all rest out e m = (all_made out (map f rest) (map f all) (ap (map f) e) m.made, checking_end parts all rest e m.checked)
 
 -- why some parts failed says why all did
 pub fault_of_all : (formula : Formula) (p q : List Ratio) (f : OpFault) → IsPartFault formula p f → ((¬ AllFit p) → ¬ AllFit q) → IsPartFault formula q f

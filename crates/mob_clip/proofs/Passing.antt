@@ -1,5 +1,5 @@
 -- What is left of a slice, from its start to where a walk has come.
-use Rattle.std.specs.Prelude.{◌≡◌, Bool, true, false, cond, not, ◌&&◌, ◌||◌, List, [], ◌∷◌, ◌++◌, Option, Some, None, MatchOption, Result, Ok, Err, MatchResult, refl}
+use Rattle.std.specs.Prelude.{◌≡◌, Bool, true, false, cond, not, ◌&&◌, ◌||◌, List, [], ◌∷◌, ◌++◌, Option, Some, None, IfSome, MatchOption, Result, Ok, Err, MatchResult, refl}
 use Rattle.std.proofs.lemmas.Bool.{and_parts}
 use Rattle.std.specs.List.{AllByRecursion}
 use Rattle.std.proofs.Common.{arith, ap, sym, ◌∙◌, subst, true≢false, append-nil}
@@ -139,6 +139,11 @@ some_has c t = by (has_instant c) refl
     by : (b : Bool) → has_instant c ≡ b → has_piece (cond b (Some c) None) t ≡ has c t
     by true e = refl
     by false e = sym (no_instant c t e)
+
+-- what the code makes of a span m, if that has an instant
+pub some_made : (m r : SpanOf) (o : Option SpanOf) → m ≡ r → IfSome o (λ p. p ≡ m) → MatchOption o (has_instant m ≡ false) (λ p. has_instant p ≡ true) → o ≡ some_span r
+some_made m r None e i h = let k : has_instant r ≡ false = subst (λ z. has_instant z ≡ false) e h in rw k refl
+some_made m r (Some p) e i h = let k : has_instant r ≡ true = subst (λ z. has_instant z ≡ true) (i ∙ e) h in rw k (ap Some (i ∙ e))
 
 module _ (s : Slice PlaneLine) where
   abbrev parts : Ratio → List Ratio

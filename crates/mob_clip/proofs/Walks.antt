@@ -75,6 +75,13 @@ module _ {T : Type 0} (mix : T → T → T) where
   pub both_met : (f g : T) (xs ys : List (Change T)) (i j k n : ℕ) (x y : Change T) (m : Met T) → drop i xs ≡ x ∷ drop k xs → drop j ys ≡ y ∷ drop n ys → before x.at y.at ≡ false → before y.at x.at ≡ false → m ≡ record { change = record { at = x.at; there = mix x.there y.there; behind = mix x.behind y.behind }; left = x.behind; right = y.behind; i = k; j = n } → IsNextChange mix f g (drop i xs) (drop j ys) m.change m.left m.right (drop m.i xs) (drop m.j ys)
   both_met f g xs ys i j k n x y m e d a b q = rw (q, e, d) (met_both f g x (drop k xs) y (drop n ys) (before-neither x.at y.at a b))
 
+  -- the other walk has ended
+  pub left_alone : (f g : T) (xs ys : List (Change T)) (i j k : ℕ) (x : Change T) (m : Met T) → drop i xs ≡ x ∷ drop k xs → drop j ys ≡ [] → m ≡ record { change = record { at = x.at; there = mix x.there g; behind = mix x.behind g }; left = x.behind; right = g; i = k; j = j } → IsNextChange mix f g (drop i xs) (drop j ys) m.change m.left m.right (drop m.i xs) (drop m.j ys)
+  left_alone f g xs ys i j k x m e d q = rw (q, e, d) (met_left f g x (drop k xs) [] tt)
+
+  pub right_alone : (f g : T) (xs ys : List (Change T)) (i j n : ℕ) (y : Change T) (m : Met T) → drop i xs ≡ [] → drop j ys ≡ y ∷ drop n ys → m ≡ record { change = record { at = y.at; there = mix f y.there; behind = mix f y.behind }; left = f; right = y.behind; i = i; j = n } → IsNextChange mix f g (drop i xs) (drop j ys) m.change m.left m.right (drop m.i xs) (drop m.j ys)
+  right_alone f g xs ys i j n y m e d q = rw (q, e, d) (met_right f g [] y (drop n ys) tt)
+
   -- the walk so far, and what is still to come of both
   pub record IsMerging (f0 g0 : T) (all all' : List (Change T)) (f g : T) (xs ys out : List (Change T)) : Type 0 where
     pub whole : (rest : List (Change T)) (t : Ratio) → step_at (mix f g) rest t ≡ mix (step_at f xs t) (step_at g ys t) → step_at (mix f0 g0) (out ++ rest) t ≡ mix (step_at f0 all t) (step_at g0 all' t)

@@ -71,24 +71,25 @@ fn functions(alloc: Global, area: &Area, p: &Point, q: &Point) -> Result<Vec<End
 fn functions_of(alloc: Global, from: &Sides, to: &Sides) -> Result<Vec<Ends>, AllocError>
     ensures functions { IfOk result (λ v. v.items ≡ ends_of_sides from.now to.now) }
 {
-    let mut functions = Vec::new(alloc);
-    functions.push(Ends {
-        at_lower: from.left,
-        at_upper: to.left,
-    })?;
-    functions.push(Ends {
-        at_lower: from.right,
-        at_upper: to.right,
-    })?;
-    functions.push(Ends {
-        at_lower: from.low,
-        at_upper: to.low,
-    })?;
-    functions.push(Ends {
-        at_lower: from.high,
-        at_upper: to.high,
-    })?;
-    Ok(functions)
+    let functions = [
+        Ends {
+            at_lower: from.left,
+            at_upper: to.left,
+        },
+        Ends {
+            at_lower: from.right,
+            at_upper: to.right,
+        },
+        Ends {
+            at_lower: from.low,
+            at_upper: to.low,
+        },
+        Ends {
+            at_lower: from.high,
+            at_upper: to.high,
+        },
+    ];
+    Ok(Vec::from_array(alloc, functions)?)
 }
 
 // Whether a point is in the area, by the signs of its differences to the sides.

@@ -92,11 +92,13 @@ fn around(
         Ok(more) => more,
         Err(fault) => return Err(fault),
     };
-    if append(&mut out, middle).is_err() {
-        return Err(OpFault::NoMemory);
+    match append(&mut out, middle) {
+        Ok(()) => {}
+        Err(_) => return Err(OpFault::NoMemory),
     }
-    if append(&mut out, more).is_err() {
-        return Err(OpFault::NoMemory);
+    match append(&mut out, more) {
+        Ok(()) => {}
+        Err(_) => return Err(OpFault::NoMemory),
     }
     Ok(out)
 }

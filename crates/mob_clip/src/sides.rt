@@ -166,8 +166,9 @@ pub fn besides(
             point: edge.1,
             to: next.to_b,
         });
-        if add(&mut out, next).is_err() {
-            return Err(OpFault::NoMemory);
+        match add(&mut out, next) {
+            Ok(()) => {}
+            Err(_) => return Err(OpFault::NoMemory),
         }
     }
     Ok(out)
@@ -200,8 +201,9 @@ pub fn turned(
             y_a: beside.to_a.y,
             y_b: beside.to_b.y,
         };
-        if add(&mut out, next).is_err() {
-            return Err(OpFault::NoMemory);
+        match add(&mut out, next) {
+            Ok(()) => {}
+            Err(_) => return Err(OpFault::NoMemory),
         }
     }
     Ok(out)

@@ -1,6 +1,6 @@
 -- What spans in order leave of a span.
 use Rattle.std.specs.Prelude.{◌≡◌, Bool, true, false, cond, refl, ◌||◌, ◌&&◌, not, List, [], ◌∷◌, IfSome, MatchOption, Option, Some, None}
-use Rattle.std.proofs.Common.{arith, ap, sym, ◌∙◌, true≢false}
+use Rattle.std.proofs.Common.{◌++◌, arith, ap, sym, subst, ◌∙◌, true≢false, append_assoc, append-nil}
 use Rattle.mob_ratio.specs.Ratio.{Ratio}
 use Rattle.mob_ratio.specs.Order.{before, up_to}
 use Rattle.mob_ratio.proofs.Order.{before-back, before-trans, before-neither, false_unless}
@@ -10,7 +10,7 @@ use Rattle.mob_span.specs.Chained.{OfHead}
 use Rattle.mob_span.specs.Pieces.{PiecesAreClear}
 use Rattle.mob_span.specs.Sets.{in_some, is_apart, IsSpanSet}
 use Rattle.mob_span.specs.Remainders.{precedes, follows, front_of, back_of, remainders_of, AreRemainders}
-use Rattle.mob_span.proofs.SpanLemmas.{some_instant, no_instant}
+use Rattle.mob_span.proofs.SpanLemmas.{some_instant, no_instant, between_ends, IsMadeOf}
 use Rattle.mob_span.proofs.Clearness.{clear_before}
 use Rattle.mob_span.proofs.Shared.{AreAllClear, all_after}
 use Rattle.mob_span.proofs.Touching.{apart_clear}
@@ -145,3 +145,57 @@ remainders_found s w v e h t = ap (λ z. in_some z t) e ∙ remainders_in s w h 
 
 pub remainders_order : (s : SpanOf) (w v : List SpanOf) → v ≡ remainders_of s w → has_instant s ≡ true → PiecesAreClear (λ s. s) w → PiecesAreClear (λ s. s) v
 remainders_order s w v e h k = rw e (remainders_clear s w h k)
+
+-- ---- a step of the walk that finds the remainders
+
+-- what the walk has found once it has come to r: what of s comes before r, if there is something
+abbrev pub front_into : SpanOf → SpanOf → List SpanOf → List SpanOf
+front_into s r old = cond (has_instant (front_of s r)) (old ++ front_of s r ∷ []) old
+
+pub front_added : (s r p : SpanOf) (old new : List SpanOf) → p ≡ front_of s r → has_instant p ≡ true → new ≡ old ++ p ∷ [] → new ≡ front_into s r old
+front_added s r p old new e h n = let k : has_instant (front_of s r) ≡ true = subst (λ z. has_instant z ≡ true) e h in rw k (n ∙ ap (λ z. old ++ z ∷ []) e)
+
+pub no_front : (s r : SpanOf) (old new : List SpanOf) → has_instant (front_of s r) ≡ false → new ≡ old → new ≡ front_into s r old
+no_front s r old new h n = rw h n
+
+added_before : (b : Bool) (p : SpanOf) (old rest : List SpanOf) → cond b (old ++ p ∷ []) old ++ rest ≡ old ++ cond b (p ∷ rest) rest
+added_before true p old rest = append_assoc old (p ∷ []) rest
+added_before false p old rest = refl
+
+-- with something of s behind r, the walk goes on
+pub left_on : (s r q : SpanOf) (v w old new all : List SpanOf) → v ≡ r ∷ w → new ≡ front_into s r old → q ≡ back_of s r → has_instant q ≡ true → old ++ remainders_of s v ≡ all → new ++ remainders_of q w ≡ all
+left_on s r q v w old new all e n b h i =
+    let k : has_instant (back_of s r) ≡ true = subst (λ z. has_instant z ≡ true) b h in
+    rw (n, b) (added_before (has_instant (front_of s r)) (front_of s r) old (remainders_of (back_of s r) w) ∙ (rw (e, k) at i))
+
+-- with nothing behind r, it has found all
+pub left_all : (s r : SpanOf) (v w old new all : List SpanOf) → v ≡ r ∷ w → new ≡ front_into s r old → has_instant (back_of s r) ≡ false → old ++ remainders_of s v ≡ all → new ≡ all
+left_all s r v w old new all e n k i = rw n (sym (append-nil (front_into s r old)) ∙ added_before (has_instant (front_of s r)) (front_of s r) old [] ∙ (rw (e, k) at i))
+
+-- behind the last of the spans, the rest of s is left
+pub left_last : (s : SpanOf) (v old new all : List SpanOf) → v ≡ [] → new ≡ old ++ s ∷ [] → old ++ remainders_of s v ≡ all → new ≡ all
+left_last s v old new all e n i = n ∙ (rw e at i)
+
+-- ---- what the calls answer
+
+-- the end that the code picks
+front_picked : (s r : SpanOf) (u : Ratio × Bool) (b : Bool) → u ≡ cond b (s.upper, s.upper_inc) (r.lower, not r.lower_inc) → between_ends (s.lower, s.lower_inc) u ≡ between_ends (s.lower, s.lower_inc) (cond b s.upper r.lower, cond b s.upper_inc (not r.lower_inc))
+front_picked s r u true e = rw e refl
+front_picked s r u false e = rw e refl
+
+back_picked : (s r : SpanOf) (u : Ratio × Bool) (b : Bool) → u ≡ cond b (s.lower, s.lower_inc) (r.upper, not r.upper_inc) → between_ends u (s.upper, s.upper_inc) ≡ between_ends (cond b s.lower r.upper, cond b s.lower_inc (not r.upper_inc)) (s.upper, s.upper_inc)
+back_picked s r u true e = rw e refl
+back_picked s r u false e = rw e refl
+
+-- all that is promised of what comes before, and of what comes after
+pub front_answers : (s r : SpanOf) (b : Bool) (u : Ratio × Bool) (o : Option SpanOf) → b ≡ is_clear s r → u ≡ cond b (s.upper, s.upper_inc) (r.lower, not r.lower_inc) → IsMadeOf (between_ends (s.lower, s.lower_inc) u) o
+    → MatchOption o ((t : Ratio) → (has s t && precedes t r) ≡ false) (λ p. (t : Ratio) → has p t ≡ (has s t && precedes t r)) × IsMadeOf (front_of s r) o
+front_answers s r b u o eb eu h =
+    let k = subst (λ d. IsMadeOf (between_ends (s.lower, s.lower_inc) (cond d s.upper r.lower, cond d s.upper_inc (not r.lower_inc))) o) eb (subst (λ z. IsMadeOf z o) (front_picked s r u b eu) h) in
+    (front_instants s r o k.0 k.1, k)
+
+pub back_answers : (s r : SpanOf) (b : Bool) (u : Ratio × Bool) (o : Option SpanOf) → b ≡ is_clear r s → u ≡ cond b (s.lower, s.lower_inc) (r.upper, not r.upper_inc) → IsMadeOf (between_ends u (s.upper, s.upper_inc)) o
+    → MatchOption o ((t : Ratio) → (has s t && follows t r) ≡ false) (λ p. (t : Ratio) → has p t ≡ (has s t && follows t r)) × IsMadeOf (back_of s r) o
+back_answers s r b u o eb eu h =
+    let k = subst (λ d. IsMadeOf (between_ends (cond d s.lower r.upper, cond d s.lower_inc (not r.upper_inc)) (s.upper, s.upper_inc)) o) eb (subst (λ z. IsMadeOf z o) (back_picked s r u b eu) h) in
+    (back_instants s r o k.0 k.1, k)

@@ -53,8 +53,9 @@ pub fn differences(
                 });
             }
         };
-        if add(&mut out, next).is_err() {
-            return Err(OpFault::NoMemory);
+        match add(&mut out, next) {
+            Ok(()) => {}
+            Err(_) => return Err(OpFault::NoMemory),
         }
     }
     Ok(out)
@@ -74,8 +75,9 @@ pub fn times(alloc: Global, c: &Frac, low: i64, high: i64) -> Result<Vec<Frac>, 
                 });
             }
         };
-        if add(&mut out, next).is_err() {
-            return Err(OpFault::NoMemory);
+        match add(&mut out, next) {
+            Ok(()) => {}
+            Err(_) => return Err(OpFault::NoMemory),
         }
     }
     Ok(out)

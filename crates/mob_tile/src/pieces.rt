@@ -90,8 +90,9 @@ fn edges_of(
         Ok(times) => times,
         Err(fault) => return Err(fault),
     };
-    if append(&mut functions, more).is_err() {
-        return Err(OpFault::NoMemory);
+    match append(&mut functions, more) {
+        Ok(()) => {}
+        Err(_) => return Err(OpFault::NoMemory),
     }
     Ok(Edges { functions, times })
 }
@@ -270,8 +271,9 @@ pub fn pieces_of(
             Ok(more) => more,
             Err(fault) => return Err(fault),
         };
-        if append(&mut out, more).is_err() {
-            return Err(OpFault::NoMemory);
+        match append(&mut out, more) {
+            Ok(()) => {}
+            Err(_) => return Err(OpFault::NoMemory),
         }
     }
     Ok(out)

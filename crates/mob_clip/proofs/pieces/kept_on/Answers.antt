@@ -38,3 +38,17 @@ returns c =
     let at = c.loop-change in
     let xs = c.as_slice-changes.result.now in
     record { kept = passing_ends c.args.slice.now c.args.want c.args.steps.now (λ v. v.items) c.finish.result at.rest at.now (drop at.change-index xs) c.is_kept.result at.out.items (drop_of_length-le xs c.loop-change-test.false) c.is_kept.ensures.value at.invariant c.finish.ensures.all }
+
+pub push_before-requires-clause-fits : goal.push_before-requires-clause-fits
+push_before-requires-clause-fits c =
+    let at = c.loop-change in
+    let xs = c.as_slice-changes.result.now in
+    let x = c.change-item.result in
+    (subst (ChangesFit (slice_parts plane_parts_of c.args.slice.now)) (list_read xs at.change-index x (omega arith) c.change-item.is) at.invariant.fits).0
+
+pub push_before-requires-in-loop-change-clause-fits : goal.push_before-requires-in-loop-change-clause-fits
+push_before-requires-in-loop-change-clause-fits c =
+    let at = c.loop-change in
+    let xs = c.as_slice-changes.result.now in
+    let x = c.change-item.result in
+    (subst (ChangesFit (slice_parts plane_parts_of c.args.slice.now)) (list_read xs at.change-index x (omega arith) c.change-item.is) at.invariant.fits).0

@@ -1,9 +1,10 @@
-use Rattle.std.proofs.Common.{rules, arith, ap, ◌≡◌, ◌++◌, ◌∷◌, [], ◌+◌, drop}
+use Rattle.std.proofs.Common.{arith, ap, ◌+◌, drop, refl}
+use Rattle.std.proofs.Math.ListN.{drop_of_length-le}
 use Rattle.mob_slice.proofs.Cuts.{all_second}
 use Rattle.mob_cells.proofs.Making.{list_read}
 use Rattle.mob_clip.specs.declared.sides.Beside.{Beside}
 use Rattle.mob_clip.specs.Sides.{beside, beside_parts, point_parts}
-use Rattle.mob_clip.proofs.Listing.{mapping_step}
+use Rattle.mob_clip.proofs.Listing.{checking_fails, mapping_step, mapping_end}
 use Rattle.mob_clip.proofs.sides.besides.Goals as goal
 
 pub loop-edge-preserved : goal.loop-edge-preserved
@@ -14,8 +15,20 @@ loop-edge-preserved c =
     let q = c.args.q.now in
     let x = c.edge-item.result in
     let v = c.in-Ok.ensures.value in
-    let n : c.add.new.out.items ≡ at.out.items ++ c.in-Ok.next ∷ [] = search rules in
     record {
-      listed = mapping_step (beside p q) (beside_parts p q) xs (drop at.edge-index xs) (drop (at.edge-index + 1) xs) at.out.items c.add.new.out.items x c.in-Ok.next (list_read xs at.edge-index x (omega arith) c.edge-item.is) n v.0 v.1 at.invariant.listed;
+      listed = mapping_step (beside p q) (beside_parts p q) xs (drop at.edge-index xs) (drop (at.edge-index + 1) xs) at.out.items c.add.new.out.items x c.in-Ok.next (list_read xs at.edge-index x (omega arith) c.edge-item.is) c.in-Ok-add.ensures.added v.0 v.1 at.invariant.listed;
       known = (ap (λ (b : Beside). b.to_b) v.0, all_second (point_parts p q x.0) (point_parts p q x.1) v.1);
     }
+
+pub returns-in-Err : goal.returns-in-Err
+returns-in-Err c =
+    let at = c.loop-edge in
+    let xs = c.args.edges.now in
+    let x = c.edge-item.result in
+    record { made = (refl, checking_fails (beside_parts c.args.p.now c.args.q.now) xs (drop at.edge-index xs) (drop (at.edge-index + 1) xs) x (list_read xs at.edge-index x (omega arith) c.edge-item.is) c.in-Err.ensures.value at.invariant.listed.checked) }
+
+pub returns : goal.returns
+returns c =
+    let at = c.loop-edge in
+    let xs = c.args.edges.now in
+    record { made = mapping_end (beside c.args.p.now c.args.q.now) (beside_parts c.args.p.now c.args.q.now) xs (drop at.edge-index xs) at.out.items (drop_of_length-le xs c.loop-edge-test.false) at.invariant.listed }
