@@ -1,19 +1,22 @@
 -- Columns, as far as they are listed.
-use Rattle.std.proofs.Common.{◌≡◌, ◌∙◌, ap, ℕ, ◌+◌, List, [], ◌∷◌, drop, sym, ◌++◌, append_assoc, Some, Result, Ok}
+use Rattle.std.proofs.Common.{◌≡◌, ◌∙◌, ◌≤◌, length, append-nil, ap, ℕ, ◌+◌, List, [], ◌∷◌, drop, sym, ◌++◌, append_assoc, Some, Result, Ok}
 use Rattle.std.specs.Prelude.{slice_get}
+use Rattle.std.proofs.lemmas.List.{drop_all}
 use Rattle.mob_operators.specs.declared.operator.Op.TheVariants.{Column}
 use Rattle.mob_ast.specs.declared.types.SqlType.{SqlType}
 use Rattle.mob_typed.specs.Statements.{ColumnList}
 use Rattle.mob_typed.specs.Trees.{typed, none}
 use Rattle.mob_typed.specs.Selects.{Output}
-use Rattle.mob_expression.specs.Answers.{Mistake}
+use Rattle.mob_expression.specs.declared.fault.Fault.{Fault}
+use Rattle.mob_expression.specs.declared.fault.Fault.TheVariants.{Wrong as Refused, NoMemory}
+use Rattle.mob_expression.specs.Answers.{Mistake, StopsTyping}
 use Rattle.mob_expression.proofs.Matches.{drop_at}
 use Rattle.mob_clauses.specs.Outputs.{columns_of_table}
 
-abbrev good : {A : Type 0} → A → Result A Mistake
+abbrev pub good : {A : Type 0} → A → Result A Mistake
 good x = Ok x
 
-ok_same : {A : Type 0} (x y : A) → good x ≡ good y → x ≡ y
+pub ok_same : {A : Type 0} (x y : A) → good x ≡ good y → x ≡ y
 ok_same x y h = cc
 
 pub column_more : (from k : ℕ) (columns : ColumnList) (name : List ℕ) (ty : SqlType) (p : ℕ) → slice_get columns k ≡ Some (name, ty)
@@ -27,6 +30,14 @@ column_pushed from k j columns name ty p before after h number pushed =
     let rest = columns_of_table from (k + 1) (drop (k + 1) columns) p in
     ap (λ ys. before ++ ys) (column_more from k columns name ty p h) ∙ sym (append_assoc before ((typed (Column from k) ty p none, name) ∷ []) rest)
     ∙ ap (λ ys. ys ++ rest) (ap (λ i. before ++ (typed (Column from i) ty p none, name) ∷ []) (ok_same k j number) ∙ ok_same (before ++ (typed (Column from j) ty p none, name) ∷ []) after pushed)
+
+pub columns_done : (from k : ℕ) (columns : ColumnList) (p : ℕ) (before : List Output) → length columns ≤ k → before ++ columns_of_table from k (drop k columns) p ≡ before
+columns_done from k columns p before last = ap (λ cs. before ++ columns_of_table from k cs p) (drop_all k columns last) ∙ append-nil before
+
+-- what stops where there is nothing to refuse is a failed allocation
+pub still_free : {X Y : Type 0} (e : Fault) (x : X) (y : Y) → StopsTyping e (good x) → StopsTyping e (good y)
+still_free (Refused kind place) x y h = absurd (cc)
+still_free NoMemory x y h = tt
 
 -- one item more of a list
 pub list_more : {A : Type 0} (xs : List A) (k : ℕ) (x : A) (before after : List A) → slice_get xs k ≡ Some x → after ≡ before ++ x ∷ [] → before ++ drop k xs ≡ after ++ drop (k + 1) xs

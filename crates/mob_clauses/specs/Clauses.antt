@@ -6,7 +6,7 @@ use Rattle.mob_ast.specs.Trees.{Tree, SelectParts}
 use Rattle.mob_typed.specs.Trees.{TypedTree, typed_of}
 use Rattle.mob_typed.specs.Selects.{TypedSelectParts, key_seen}
 use Rattle.mob_expression.specs.Answers.{◌>>=◌, TypingStep}
-use Rattle.mob_expression.specs.Scopes.{ScopeParts}
+use Rattle.mob_expression.specs.Scopes.{ScopeTableParts, ScopeParts}
 use Rattle.mob_clauses.specs.Conditions.{condition, typed_joins}
 use Rattle.mob_clauses.specs.Outputs.{ColumnNumbers, is_grouped, grouping, OutputLists, with_items, no_outputs}
 use Rattle.mob_clauses.specs.Keys.{with_groups, key_item, typed_keys, limit_of}
@@ -15,8 +15,11 @@ use Rattle.mob_clauses.specs.declared.clauses.Conditions.{Conditions as Conditio
 use Rattle.mob_clauses.specs.declared.clauses.Arrangement.{Arrangement}
 
 -- the tables of FROM, with the names that they go by there
+abbrev pub named_tables : List (List ℕ × ScopeTableParts) → Tables
+named_tables from = record { numbers = map (λ t. t.1.table) from; names = map (λ t. t.0) from }
+
 abbrev pub scope_tables : ScopeParts → Tables
-scope_tables scope = record { numbers = map (λ t. t.1.table) scope.from; names = map (λ t. t.0) scope.from }
+scope_tables scope = named_tables scope.from
 
 -- ON of each table, and WHERE
 pub record ConditionParts : Type 0 where

@@ -1,25 +1,25 @@
 //! The clauses of a SELECT together.
-ghost use Rattle.std.specs.Prelude.{◌≡◌, IfOk, option_map};
+ghost use Rattle.std.specs.Prelude.{◌≡◌, option_map};
 ghost use Rattle.mob_ast.specs.declared.types.Word.{Word};
 ghost use Rattle.mob_ast.specs.Trees.{tree_of, select_of};
 ghost use Rattle.mob_expression.specs.Answers.{TypesTo};
 ghost use Rattle.mob_expression.specs.Scopes.{scope_of};
 ghost use Rattle.mob_typed.specs.Selects.{select_seen};
 ghost use Rattle.mob_clauses.specs.Outputs.{outputs_seen};
-ghost use Rattle.mob_clauses.specs.Clauses.{scope_tables, typed_conditions, conditions_seen, typed_arrangement, arrangement_seen, rows_to_go, select_made, typed_clauses};
+ghost use Rattle.mob_clauses.specs.Clauses.{typed_conditions, conditions_seen, typed_arrangement, arrangement_seen, rows_to_go, select_made, typed_clauses};
 
 use crate::conditions::{condition, typed_joins};
 use crate::groups::{grouping, is_grouped};
 use crate::keys::{key_items, limit_of, typed_groups, typed_keys};
 use crate::outputs::{Outputs, outputs_of};
-use crate::tables::{table_names, table_numbers};
+use crate::tables::scope_tables;
 use mob_ast::{Expr, SelectTree};
 use mob_expression::fault::Fault;
 use mob_expression::scope::Scope;
 use mob_list::items::Items;
 use mob_list::text::Text;
 use mob_typed::{ConstText, TExpr, TypedSelect};
-use std::alloc::{AllocError, Global};
+use std::alloc::Global;
 
 /// The tables of FROM of a SELECT.
 #[derive(Drop)]
@@ -50,15 +50,6 @@ pub struct Arrangement {
     pub key_items: Items<Option<u32>>,
     /// The number of LIMIT.
     pub limit: Option<u64>,
-}
-
-// The tables of FROM, with the names that they go by there.
-fn scope_tables(alloc: Global, scope: &Scope<'_>) -> Result<Tables, AllocError>
-    ensures tables { IfOk result (λ t. t ≡ scope_tables (scope_of scope.now)) }
-{
-    let numbers = table_numbers(alloc, scope.from)?;
-    let names = table_names(alloc, scope.from)?;
-    Ok(Tables { numbers, names })
 }
 
 // ON of each table, and WHERE.
@@ -160,7 +151,7 @@ pub fn typed_clauses(
     let outputs = outputs_of(alloc, scope, &grouping, consts, select.items.as_slice())?;
     let conditions = typed_conditions(alloc, scope, consts, select)?;
     let arrangement = typed_arrangement(alloc, scope, &grouping, consts, &outputs, select)?;
-    let tables = scope_tables(alloc, scope)?;
+    let tables = scope_tables(alloc, scope.from)?;
     Ok(select_made(select, grouped, tables, outputs, conditions, arrangement))
 }
 
@@ -176,7 +167,7 @@ pub fn clauses_to_go(
 {
     let mut joins = Items::new(alloc);
     joins.push(None)?;
-    let Tables { numbers, names } = scope_tables(alloc, scope)?;
+    let Tables { numbers, names } = scope_tables(alloc, scope.from)?;
     let cond = condition(alloc, scope, consts, cond)?;
     Ok(TypedSelect {
         distinct: false,

@@ -1,10 +1,10 @@
 -- The typing of an expression in memory, step by step.
-use Rattle.std.proofs.Common.{◌≡◌, ◌∙◌, refl, sym, ap, ℕ, List, [], ◌∷◌, ◌++◌, Option, Some, None, Result, Ok, Err}
+use Rattle.std.proofs.Common.{◌≡◌, ◌∙◌, refl, sym, ap, subst, ℕ, List, [], ◌∷◌, Option, Some, None, Result, Ok, Err}
 use Rattle.std.specs.Prelude.{option_map}
 use Rattle.mob_ast.specs.declared.expression.Node.{Node}
 use Rattle.mob_ast.specs.declared.expression.Expr.{Expr}
 use Rattle.mob_ast.specs.declared.expression.Expr.TheViews.{out-Expr}
-use Rattle.mob_ast.specs.Trees.{none as no_trees, tree_of, trees_of}
+use Rattle.mob_ast.specs.Trees.{tree_of, trees_of}
 use Rattle.mob_expression.specs.declared.fault.Fault.{Fault}
 use Rattle.mob_typed.specs.declared.typed.ConstText.{ConstText}
 use Rattle.mob_typed.specs.declared.typed.TExpr.{TExpr}
@@ -12,19 +12,8 @@ use Rattle.mob_expression.specs.Answers.{Mistake, ◌>>=◌, one_more, StopsTypi
 use Rattle.mob_expression.specs.Scopes.{ScopeParts}
 use Rattle.mob_typed.specs.Trees.{TypedTree, typed_of}
 use Rattle.mob_expression.specs.Expressions.{typed_before_operands, finished, or_later, typed_expression, typed_operands}
-use Rattle.mob_expression.proofs.Behind.{behind, none_behind, one_behind}
 use Rattle.mob_expression.proofs.TreeFacts.{tree_is}
 use Rattle.mob_expression.proofs.Wrongs.{fails_bind, fails_along}
-
--- one operand more
-pub operand_more : (s : ScopeParts) (x : Expr) (xs : List Expr) (ts : List TypedTree) (cs : List ConstText)
-    → behind ts (typed_operands s (trees_of (x ∷ xs))) cs ≡ (typed_expression s (tree_of x) cs >>= λ r. behind (ts ++ r.0 ∷ []) (typed_operands s (trees_of xs)) r.1)
-unfolding typed_operands
-operand_more s x xs ts cs = one_behind (typed_expression s (tree_of x)) (typed_operands s (trees_of xs)) cs ts
-
-pub operands_done : (s : ScopeParts) (ts : List TypedTree) (cs : List ConstText) → behind ts (typed_operands s no_trees) cs ≡ Ok (ts, cs)
-unfolding typed_operands
-operands_done s ts cs = none_behind ts cs
 
 -- operands by their list
 pub operands_more : (s : ScopeParts) (x : Expr) (xs : List Expr) (cs : List ConstText) → typed_operands s (trees_of (x ∷ xs)) cs ≡ one_more (typed_expression s (tree_of x)) (typed_operands s (trees_of xs)) cs
@@ -62,16 +51,18 @@ module _ (s : ScopeParts) (e : Expr) (cs : List ConstText) (xs : List Expr) (is 
     from_operands : typed_expression s (tree_of e) cs ≡ (typed_operands s (trees_of xs) ds >>= last)
     from_operands = begun ∙ ap (λ a. a >>= later) (h ∙ ap (λ p. Ok (option_map typed_of p, ds)) o_is)
 
-    pub operand_fails : (f : Fault) (x : Expr) (rest : List Expr) (ts : List TypedTree) (es : List ConstText)
-        → typed_operands s (trees_of xs) ds ≡ behind ts (typed_operands s (trees_of (x ∷ rest))) es → StopsTyping f (typed_expression s (tree_of x) es) → StopsTyping f (typed_expression s (tree_of e) cs)
-    operand_fails f x rest ts es so_far wrong =
-        let on : List TypedTree × List ConstText → Result (TypedTree × List ConstText) Mistake = last in
-        fails_along f _ (typed_expression s (tree_of e) cs) (from_operands ∙ ap (λ a. a >>= on) (so_far ∙ operand_more s x rest ts es))
-        (fails_bind f (typed_expression s (tree_of x) es >>= λ r. behind (ts ++ r.0 ∷ []) (typed_operands s (trees_of rest)) r.1) on (fails_bind f (typed_expression s (tree_of x) es) (λ r. behind (ts ++ r.0 ∷ []) (typed_operands s (trees_of rest)) r.1) wrong))
+    module _ (ys : List Expr) (ys_is : ys ≡ (out-Expr e).args.items) where
+      pub operands_fail : (f : Fault) → StopsTyping f (typed_operands s (trees_of ys) ds) → StopsTyping f (typed_expression s (tree_of e) cs)
+      operands_fail f wrong = fails_along f (typed_operands s (trees_of xs) ds >>= last) (typed_expression s (tree_of e) cs) from_operands
+          (fails_bind f (typed_operands s (trees_of xs) ds) last (subst (λ zs. StopsTyping f (typed_operands s (trees_of zs) ds)) (ys_is ∙ sym is) wrong))
 
-    pub all_typed : (r : Result TExpr Fault) (ts : List TypedTree) (es : List ConstText)
-        → typed_operands s (trees_of xs) ds ≡ behind ts (typed_operands s no_trees) es → AnswersAs typed_of r (finished node place (trees_of xs) ts) → TypesTo typed_of r es (typed_expression s (tree_of e) cs)
-    all_typed (Ok t) ts es so_far h = from_operands ∙ ap (λ a. a >>= last) (so_far ∙ operands_done s ts es) ∙ ap (λ a. a >>= λ t. Ok (t, es)) h
-    all_typed (Err f) ts es so_far h =
-        fails_along f (finished node place (trees_of xs) ts >>= λ t. Ok (t, es)) (typed_expression s (tree_of e) cs) (from_operands ∙ ap (λ a. a >>= last) (so_far ∙ operands_done s ts es))
-        (fails_bind f (finished node place (trees_of xs) ts) (λ t. Ok (t, es)) h)
+      pub all_typed : (r : Result TExpr Fault) (ts : List TypedTree) (es : List ConstText) (zs : List Expr) → zs ≡ (out-Expr e).args.items
+          → typed_operands s (trees_of ys) ds ≡ Ok (ts, es) → AnswersAs typed_of r (finished node place (trees_of zs) ts) → TypesTo typed_of r es (typed_expression s (tree_of e) cs)
+      all_typed r ts es zs zs_is made h = answered r (subst (λ us. AnswersAs typed_of r (finished node place (trees_of us) ts)) (zs_is ∙ sym is) h)
+        where
+          whole : typed_expression s (tree_of e) cs ≡ (finished node place (trees_of xs) ts >>= λ t. Ok (t, es))
+          whole = from_operands ∙ ap (λ us. typed_operands s (trees_of us) ds >>= last) (is ∙ sym ys_is) ∙ ap (λ a. a >>= last) made
+
+          answered : (r : Result TExpr Fault) → AnswersAs typed_of r (finished node place (trees_of xs) ts) → TypesTo typed_of r es (typed_expression s (tree_of e) cs)
+          answered (Ok t) h = whole ∙ ap (λ a. a >>= λ t. Ok (t, es)) h
+          answered (Err f) h = fails_along f (finished node place (trees_of xs) ts >>= λ t. Ok (t, es)) (typed_expression s (tree_of e) cs) whole (fails_bind f (finished node place (trees_of xs) ts) (λ t. Ok (t, es)) h)

@@ -1,10 +1,10 @@
 -- Trees and typed trees as they stand in memory, one level at a time.
-use Rattle.std.proofs.Common.{◌≡◌, ◌<◌, ◌≤◌, length, get_or, arith, ◌∙◌, refl, sym, ap, ℕ, List, [], ◌∷◌, Option, None, Bool, true, false, cond}
+use Rattle.std.proofs.Common.{◌≡◌, ◌<◌, ◌≤◌, length, get_or, arith, ◌∙◌, refl, sym, ap, ℕ, List, [], ◌∷◌, Option, Some, None, Bool, true, false, cond}
 use Rattle.mob_ast.specs.declared.expression.Expr.{Expr}
 use Rattle.mob_ast.specs.declared.expression.Expr.TheViews.{out-Expr}
 use Rattle.mob_ast.specs.declared.expression.Expr.TheFolds.{fold_out-Expr}
 use Rattle.mob_ast.specs.Trees.{Tree, tree, tree_step, tree_of, trees_of}
-use Rattle.mob_expression.specs.Expressions.{is_signed, digits_of, digits_in, signed_digits}
+use Rattle.mob_expression.specs.Expressions.{is_signed, digits_of, digits_in, signed_digits, only, divisor_of}
 use Rattle.mob_ast.specs.declared.expression.Node.TheVariants.{Sign}
 
 pub tree_is : (e : Expr) → tree_of e ≡ tree (out-Expr e).node (out-Expr e).place (trees_of (out-Expr e).args.items)
@@ -30,6 +30,38 @@ unfolding digits_in
 digits_of_more [] many = refl
 digits_of_more (y ∷ []) many = absurd (omega arith)
 digits_of_more (y ∷ z ∷ es) many = refl
+
+-- a list of operands by its length
+pub only_one : (es : List Expr) (x : Expr) → length es < 2 → x ≡ get_or es 0 x → 1 ≤ length es → Some (tree_of x) ≡ only (trees_of es)
+only_one [] x few at some = absurd (omega arith)
+only_one (y ∷ []) x few at some = ap (λ e. Some (tree_of e)) at
+only_one (y ∷ z ∷ es) x few at some = absurd (omega arith)
+
+pub only_none : (es : List Expr) → length es < 1 → None ≡ only (trees_of es)
+only_none [] few = refl
+only_none (y ∷ es) few = absurd (omega arith)
+
+pub only_more : (es : List Expr) → 2 ≤ length es → None ≡ only (trees_of es)
+only_more [] many = absurd (omega arith)
+only_more (y ∷ []) many = absurd (omega arith)
+only_more (y ∷ z ∷ es) many = refl
+
+pub divisor_second : (es : List Expr) (x : Expr) → length es < 3 → x ≡ get_or es 1 x → 2 ≤ length es → digits_of (tree_of x) ≡ divisor_of (trees_of es)
+divisor_second [] x few at some = absurd (omega arith)
+divisor_second (y ∷ []) x few at some = absurd (omega arith)
+divisor_second (y ∷ z ∷ []) x few at some = ap (λ e. digits_of (tree_of e)) at
+divisor_second (y ∷ z ∷ w ∷ es) x few at some = absurd (omega arith)
+
+pub divisor_few : (es : List Expr) → length es < 2 → None ≡ divisor_of (trees_of es)
+divisor_few [] few = refl
+divisor_few (y ∷ []) few = refl
+divisor_few (y ∷ z ∷ es) few = absurd (omega arith)
+
+pub divisor_many : (es : List Expr) → 3 ≤ length es → None ≡ divisor_of (trees_of es)
+divisor_many [] many = absurd (omega arith)
+divisor_many (y ∷ []) many = absurd (omega arith)
+divisor_many (y ∷ z ∷ []) many = absurd (omega arith)
+divisor_many (y ∷ z ∷ w ∷ es) many = refl
 
 abbrev nothing : Option (List ℕ)
 nothing = None

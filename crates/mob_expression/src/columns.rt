@@ -9,6 +9,15 @@ use crate::fault::Fault;
 use crate::scope::{Found, Scope, ScopeTable, number};
 use mob_ast::{Kind, SqlType, Word};
 
+// A column by the numbers of its table and of itself, from 0.
+fn found_at(from: usize, column: usize, ty: SqlType) -> Result<Found, Fault>
+    ensures numbered { AnswersAs (λ f. f) result (Ok (record { from = from; column = column; ty = ty })) }
+{
+    let from = number(from)?;
+    let column = number(column)?;
+    Ok(Found { from, column, ty })
+}
+
 // The one column of this name in all tables of FROM.
 fn bare_column(from: &[ScopeTable<'_>], name: &Word) -> Result<Found, Fault>
     ensures only_one { AnswersAs (λ f. f) result (the_one name.now.place (matches 0 (sources_of from.now) name.now.text)) }
@@ -22,11 +31,7 @@ fn bare_column(from: &[ScopeTable<'_>], name: &Word) -> Result<Found, Fault>
                     place: name.place,
                 });
             }
-            one = Some(Found {
-                from: number(index)?,
-                column: number(column)?,
-                ty,
-            });
+            one = Some(found_at(index, column, ty)?);
         }
     }
     one.ok_or(Fault::Wrong {
@@ -74,11 +79,7 @@ fn column_among(
             place: column.place,
         });
     };
-    Ok(Found {
-        from: number(from)?,
-        column: number(index)?,
-        ty,
-    })
+    found_at(from, index, ty)
 }
 
 // A column by the number of its table in FROM. A sum past 32 bits is answered as out of memory.

@@ -58,29 +58,14 @@ pub fn next_constant(
     Ok(index)
 }
 
-// The typed expression of a constant of this type and text, which takes the next number.
-fn constant(
-    alloc: Global,
-    scope: &Scope<'_>,
-    consts: &mut Items<ConstText>,
-    ty: SqlType,
-    text: &str,
-    place: u32,
-) -> Result<TExpr, Fault>
-    ensures next { TypesTo typed_of result consts.new (constant (scope_of scope.now) ty text.now place consts.old) }
-{
-    let index = next_constant(alloc, scope.statement, consts, ty, text, place)?;
-    Ok(leaf(alloc, Op::Const(index), ty, place))
-}
-
 /// The only one of these expressions, where there is one alone.
+#[tactic(auto, using(crate::proofs::TreeFacts::only_one, crate::proofs::TreeFacts::only_none, crate::proofs::TreeFacts::only_more))]
 pub fn only(args: &[Expr]) -> Option<&Expr>
     ensures alone { option_map (λ e. tree_of e.now) result ≡ only (trees_of args.now) }
 {
-    let (first, others) = args.split_first()?;
-    match others.split_first() {
-        None => Some(first),
-        Some(_) => None,
+    match args {
+        [one] => Some(one),
+        _ => None,
     }
 }
 
@@ -115,13 +100,13 @@ fn cast_of_string(
             place: word.name.place,
         });
     };
-    let string = constant(alloc, scope, consts, ty, text, text_place)?;
+    let index = next_constant(alloc, scope.statement, consts, ty, text, text_place)?;
     let mut args = Vec::new(alloc);
-    args.push(string)?;
+    args.push(leaf(alloc, Op::Const(index), ty, text_place))?;
     Ok(Some(with_args(Op::Cast, ty, place, args)))
 }
 
-// A constant that is settled at once.
+// The typed expression of a constant of this type and text, which takes the next number.
 fn settled_constant(
     alloc: Global,
     scope: &Scope<'_>,
@@ -132,7 +117,8 @@ fn settled_constant(
 ) -> Result<Option<TExpr>, Fault>
     ensures at_once { TypesTo (option_map typed_of) result consts.new (settled (constant (scope_of scope.now) ty text.now place) consts.old) }
 {
-    Ok(Some(constant(alloc, scope, consts, ty, text, place)?))
+    let index = next_constant(alloc, scope.statement, consts, ty, text, place)?;
+    Ok(Some(leaf(alloc, Op::Const(index), ty, place)))
 }
 
 // A typed string, which is settled at once.

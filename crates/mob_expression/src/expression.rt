@@ -17,6 +17,7 @@ use std::alloc::Global;
 
 /// The typed tree of an expression, whose constants come behind those so far, or what is wrong
 /// first.
+#[cycle(expression)]
 pub fn type_expr(
     alloc: Global,
     scope: &Scope<'_>,
@@ -28,15 +29,12 @@ pub fn type_expr(
     if let Some(done) = typed_before_operands(alloc, scope, consts, &e.node, e.place, &e.args)? {
         return Ok(done);
     }
-    let mut args = Vec::new(alloc);
-    for operand in &e.args {
-        let typed = type_expr(alloc, scope, consts, operand)?;
-        args.push(typed)?;
-    }
+    let args = type_operands(alloc, scope, consts, &e.args)?;
     finished(alloc, &e.node, e.place, &e.args, args)
 }
 
 /// The typed trees of operands from left to right, or what is wrong first.
+#[cycle(expression)]
 pub fn type_operands(
     alloc: Global,
     scope: &Scope<'_>,

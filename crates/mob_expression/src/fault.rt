@@ -5,7 +5,7 @@ use mob_ast::Kind;
 use std::alloc::{AllocError, AllocFailed};
 
 /// Why typing stops.
-#[derive(Clone, Copy, Debug, PartialEq, Eq)]
+#[derive(Clone, Copy)]
 pub enum Fault {
     /// Something is wrong at this place of the script.
     Wrong {

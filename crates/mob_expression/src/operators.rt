@@ -1,15 +1,14 @@
 //! Operators on typed operands.
-ghost use Rattle.std.specs.Prelude.{◌≡◌, ◌||◌, option_map, map, IfOk};
+ghost use Rattle.std.specs.Prelude.{◌≡◌, ◌||◌, List, option_map, map, IfOk};
 ghost use Rattle.mob_operators.specs.Aggregates.{is_aggregate};
 ghost use Rattle.mob_operators.specs.Lookup.{has_function};
 ghost use Rattle.mob_operators.specs.Table.{table};
 ghost use Rattle.mob_ast.specs.Trees.{tree_of, trees_of};
 ghost use Rattle.mob_expression.specs.Answers.{AnswersAs};
-ghost use Rattle.mob_typed.specs.Trees.{typed_of, type_of, types_of};
+ghost use Rattle.mob_typed.specs.Trees.{TypedTree, typed, typed_of, typed_trees, type_of, types_of};
 ghost use Rattle.mob_expression.specs.Words.{is_zero};
 ghost use Rattle.mob_expression.specs.Expressions.{is_signed, digits_of, divisor_of, missing, missing_sign, are_linear, divides_by_zero, operated, can_cast, can_cast_all, cast, finished};
 
-use crate::constants::only;
 use crate::fault::Fault;
 use crate::words::{is_zero, type_named};
 use mob_ast::{Expr, Kind, Node, SqlType, TypeWord};
@@ -65,11 +64,14 @@ fn literal_of(e: &Expr) -> Option<bool>
 }
 
 // Whether the second of two operands is a number literal that is 0; None where it is none.
+#[tactic(auto, using(crate::proofs::TreeFacts::divisor_second, crate::proofs::TreeFacts::divisor_few, crate::proofs::TreeFacts::divisor_many))]
 fn divisor_of(args: &[Expr]) -> Option<bool>
     ensures zero { result ≡ option_map is_zero (divisor_of (trees_of args.now)) }
 {
-    let (_, others) = args.split_first()?;
-    literal_of(only(others)?)
+    match args {
+        [_, second] => literal_of(second),
+        _ => None,
+    }
 }
 
 // Whether a function or an aggregate has this name.
@@ -126,21 +128,20 @@ fn divides_by_zero(op: Op, divisor: Option<bool>) -> bool
     }
 }
 
-// An operator on typed operands; the second is a number literal that is 0 or not, or none.
+// The operator on operands of these types, and the type of its result; the second operand is a
+// number literal that is 0 or not, or none.
 fn operated(
-    alloc: Global,
     form: Form,
     name: &str,
     place: u32,
     divisor: Option<bool>,
-    args: Vec<TExpr>,
-) -> Result<TExpr, Fault>
-    ensures typed { AnswersAs typed_of result (operated form name.now place divisor (map typed_of args.items)) }
+    types: &[SqlType],
+) -> Result<(Op, SqlType), Fault>
+    ensures typed { (ts : List TypedTree) → types.now ≡ types_of ts → AnswersAs (λ r. typed r.0 r.1 place (typed_trees ts)) result (operated form name.now place divisor ts) }
 {
-    let types = types_of(alloc, &args)?;
-    let Some((op, ty)) = operator_for(form, name, &types, divisor.is_some()) else {
+    let Some((op, ty)) = operator_for(form, name, types, divisor.is_some()) else {
         return Err(Fault::Wrong {
-            kind: missing(form, name, &types),
+            kind: missing(form, name, types),
             place,
         });
     };
@@ -150,7 +151,7 @@ fn operated(
             place,
         });
     }
-    Ok(with_args(op, ty, place, args))
+    Ok((op, ty))
 }
 
 fn can_cast(from: SqlType, to: SqlType) -> bool
@@ -163,9 +164,9 @@ fn can_cast(from: SqlType, to: SqlType) -> bool
     }
 }
 
-// A cast of a typed operand.
-fn cast(alloc: Global, word: &TypeWord, place: u32, args: Vec<TExpr>) -> Result<TExpr, Fault>
-    ensures typed { AnswersAs typed_of result (cast word.now place (map typed_of args.items)) }
+// A cast of operands of these types, and the type of its result.
+fn cast(word: &TypeWord, place: u32, types: &[SqlType]) -> Result<(Op, SqlType), Fault>
+    ensures typed { (ts : List TypedTree) → types.now ≡ types_of ts → AnswersAs (λ r. typed r.0 r.1 place (typed_trees ts)) result (cast word.now place ts) }
 {
     let Some(ty) = type_named(word) else {
         return Err(Fault::Wrong {
@@ -173,14 +174,13 @@ fn cast(alloc: Global, word: &TypeWord, place: u32, args: Vec<TExpr>) -> Result<
             place: word.name.place,
         });
     };
-    let types = types_of(alloc, &args)?;
-    if !can_cast_all(&types, ty) {
+    if !can_cast_all(types, ty) {
         return Err(Fault::Wrong {
             kind: Kind::NoSuchOperator,
             place,
         });
     }
-    Ok(with_args(Op::Cast, ty, place, args))
+    Ok((Op::Cast, ty))
 }
 
 fn can_cast_all(types: &[SqlType], to: SqlType) -> bool
@@ -192,8 +192,33 @@ fn can_cast_all(types: &[SqlType], to: SqlType) -> bool
     }
 }
 
-/// The operator on its typed operands.
+// The operator of a node on operands of these types, and the type of its result.
 #[tactic(auto, unfolding(crate::specs::Expressions::finished))]
+fn operator_of(
+    node: &Node,
+    place: u32,
+    args: &[Expr],
+    types: &[SqlType],
+) -> Result<(Op, SqlType), Fault>
+    ensures typed { (ts : List TypedTree) → types.now ≡ types_of ts → AnswersAs (λ r. typed r.0 r.1 place (typed_trees ts)) result (finished node.now place (trees_of args.now) ts) }
+{
+    match node {
+        Node::Call(name) => operated(Form::Call, name.as_str(), place, None, types),
+        Node::Sign(sign) => operated(Form::Sign, sign.as_str(), place, divisor_of(args), types),
+        Node::Cast(word) => cast(word, place, types),
+        Node::Not => operated(Form::Word, "not", place, None, types),
+        Node::And => operated(Form::Word, "and", place, None, types),
+        Node::Or => operated(Form::Word, "or", place, None, types),
+        Node::IsNull => operated(Form::Word, "is null", place, None, types),
+        Node::IsNotNull => operated(Form::Word, "is not null", place, None, types),
+        _ => Err(Fault::Wrong {
+            kind: Kind::NoSuchOperator,
+            place,
+        }),
+    }
+}
+
+/// The operator on its typed operands.
 pub(crate) fn finished(
     alloc: Global,
     node: &Node,
@@ -203,25 +228,7 @@ pub(crate) fn finished(
 ) -> Result<TExpr, Fault>
     ensures typed { AnswersAs typed_of result (finished node.now place (trees_of args.now) (map typed_of typed_args.items)) }
 {
-    match node {
-        Node::Call(name) => operated(alloc, Form::Call, name.as_str(), place, None, typed_args),
-        Node::Sign(sign) => operated(
-            alloc,
-            Form::Sign,
-            sign.as_str(),
-            place,
-            divisor_of(args),
-            typed_args,
-        ),
-        Node::Cast(word) => cast(alloc, word, place, typed_args),
-        Node::Not => operated(alloc, Form::Word, "not", place, None, typed_args),
-        Node::And => operated(alloc, Form::Word, "and", place, None, typed_args),
-        Node::Or => operated(alloc, Form::Word, "or", place, None, typed_args),
-        Node::IsNull => operated(alloc, Form::Word, "is null", place, None, typed_args),
-        Node::IsNotNull => operated(alloc, Form::Word, "is not null", place, None, typed_args),
-        _ => Err(Fault::Wrong {
-            kind: Kind::NoSuchOperator,
-            place,
-        }),
-    }
+    let types = types_of(alloc, &typed_args)?;
+    let (op, ty) = operator_of(node, place, args, &types)?;
+    Ok(with_args(op, ty, place, typed_args))
 }

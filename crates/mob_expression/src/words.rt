@@ -1,9 +1,9 @@
 //! Words and numbers of a script: which type they name, and what a number is worth.
-ghost use Rattle.std.specs.Prelude.{◌≡◌, map};
+ghost use Rattle.std.specs.Prelude.{◌≡◌, ◌==◌, ◌||◌, map};
 ghost use Rattle.std.specs.List.{list_all};
 ghost use Rattle.std.specs.Char.{is_ascii_digit};
-ghost use Rattle.mob_language.specs.Language.{is_blank};
-ghost use Rattle.mob_language.specs.NonZero.{has_figure};
+ghost use Rattle.mob_language.specs.Language.{is_blank, is_exponent_letter};
+ghost use Rattle.mob_language.specs.NonZero.{has_figure, is_figure};
 ghost use Rattle.mob_expression.specs.Words.{type_among, type_words, geometry_words, type_named, number_type, is_zero, skip_blanks, begins_with_word, skip_digits, after_srid, after_digits, is_polygon, geometry_type, literal_type};
 
 use mob_ast::{SqlType, TypeWord};
@@ -97,13 +97,36 @@ pub(crate) fn is_zero(text: &str) -> bool
     !has_figure(text.as_bytes())
 }
 
+// Whether a byte ends the digits of which one other than 0 is looked for.
+fn ends_figures(b: u8) -> bool
+    ensures end { result ≡ (is_exponent_letter b || b == 47) }
+{
+    b == b'e' || b == b'E' || b == b'/'
+}
+
 // Whether a digit other than 0 stands before any letter of an exponent and any slash.
+#[tactic(auto, using(crate::proofs::Figures::no_figure, crate::proofs::Figures::figure_first, crate::proofs::Figures::figure_later, crate::proofs::Figures::figures_end))]
 fn has_figure(text: &[u8]) -> bool
     ensures figure { result ≡ has_figure text.now }
 {
-    text.iter()
-        .take_while(|b| !(**b == b'e' || **b == b'E' || **b == b'/'))
-        .any(|b| b'1' <= *b && *b <= b'9')
+    let mut rest = text;
+    'figures: while let Some((first, behind)) = rest.split_first() {
+        if ends_figures(*first) {
+            return false;
+        }
+        if is_figure(*first) {
+            return true;
+        }
+        rest = behind;
+    }
+    false
+}
+
+// Whether a byte is a digit other than 0.
+fn is_figure(b: u8) -> bool
+    ensures figure { result ≡ is_figure b }
+{
+    b'1' <= b && b <= b'9'
 }
 
 fn is_blank(b: u8) -> bool

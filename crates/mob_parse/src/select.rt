@@ -2,9 +2,9 @@
 ghost use Rattle.std.specs.Prelude.{◌≡◌, Ok, true, false, map, IfOk, MatchOption, option_map};
 ghost use Rattle.mob_ast.specs.Trees.{tree_of, Tree, FromParts, from_of, ItemParts, item_of, KeyParts, key_of, select_of, StatementParts, statement_of};
 ghost use Rattle.mob_grammar.specs.Symbols.{begins, is_name, counts_all, first, rest};
-ghost use Rattle.mob_grammar.specs.Reading.{some_name_at, second_name_at, from_entry_at, on_at, joined_entry_at, joins_at, source_at, sources_at, group_column_at, group_at, delete_at, alias_at, count_tail_at, one_item_at, item_at, direction_at, key_at, distinct_at, from_at, condition_at, order_at, limit_at, select_at, explain_at, statement_at, script_at};
+ghost use Rattle.mob_grammar.specs.Reading.{some_name_at, second_name_at, from_entry_at, on_at, joined_entry_at, joins_at, source_at, sources_at, group_column_at, delete_at, alias_at, count_tail_at, one_item_at, item_at, direction_at, key_at, distinct_at, from_at, condition_at, limit_at, select_at, explain_at, statement_at, script_at};
 ghost use Rattle.mob_parse.specs.Cursors.{left, FollowsReading};
-ghost use Rattle.mob_parse.specs.Orderings.{ordering_at, put_behind};
+ghost use Rattle.mob_parse.specs.Orderings.{by_at, ordering_at, put_behind};
 ghost use Rattle.mob_parse.specs.Shrinks.{from_entry_shrinks, joined_entry_shrinks, group_column_shrinks, item_shrinks, key_shrinks, statement_shrinks};
 
 use crate::cursor::{Cursor, Fault};
@@ -194,13 +194,14 @@ impl<'a> Cursor<'a> {
         }
     }
 
-    #[tactic(auto, unfolding(mob_grammar::specs::Reading::order_at, mob_grammar::specs::Reading::behind_mark, mob_grammar::specs::Reading::if_mark))]
-    fn order_part(&mut self) -> Result<Items<Key>, Fault>
-        ensures reads { FollowsReading (map key_of) result (left self.new) (order_at (left self.old)) }
+    // Entries with commas between, behind this mark and BY, if the mark is there.
+    #[tactic(auto, unfolding(mob_grammar::specs::Reading::behind_mark, mob_grammar::specs::Reading::if_mark))]
+    fn by_part<T: Entry>(&mut self, mark: Mark) -> Result<Items<T::Made>, Fault>
+        ensures reads { FollowsReading (map T.parts_of) result (left self.new) (by_at mark T.reader (left self.old)) }
     {
-        if self.skip(Mark::Order) {
+        if self.skip(mark) {
             self.expect(Mark::By)?;
-            self.list::<Key>(Mark::Comma)
+            self.list::<T>(Mark::Comma)
         } else {
             Ok(Items::new(self.alloc))
         }
@@ -217,21 +218,8 @@ impl<'a> Cursor<'a> {
         }
     }
 
-    // The columns of GROUP BY, if it is there.
-    #[tactic(auto, unfolding(mob_grammar::specs::Reading::group_at, mob_grammar::specs::Reading::behind_mark, mob_grammar::specs::Reading::if_mark))]
-    fn group_part(&mut self) -> Result<Items<Expr>, Fault>
-        ensures reads { FollowsReading (map tree_of) result (left self.new) (group_at (left self.old)) }
-    {
-        if self.skip(Mark::Group) {
-            self.expect(Mark::By)?;
-            self.list::<GroupColumn>(Mark::Comma)
-        } else {
-            Ok(Items::new(self.alloc))
-        }
-    }
-
     // What stands in front, the columns of GROUP BY, the keys and the number.
-    #[tactic(auto, unfolding(crate::specs::Orderings::ordering_at))]
+    #[tactic(auto, unfolding(crate::specs::Orderings::ordering_at, mob_grammar::specs::Reading::group_at, mob_grammar::specs::Reading::order_at))]
     fn ordered<T: Drop>(
         &mut self,
         front: T,
@@ -239,8 +227,8 @@ impl<'a> Cursor<'a> {
         ensures reads { FollowsReading (λ r. (map tree_of r.1, map key_of r.2, r.3)) result (left self.new) (ordering_at (left self.old)) }
         ensures same { IfOk result (λ r. r.0 ≡ front) }
     {
-        let groups = self.group_part()?;
-        let keys = self.order_part()?;
+        let groups = self.by_part::<GroupColumn>(Mark::Group)?;
+        let keys = self.by_part::<Key>(Mark::Order)?;
         let limit = self.limit_part()?;
         Ok((front, groups, keys, limit))
     }

@@ -1,5 +1,6 @@
 pub mod Apart
 mod Examples
+pub mod Folded
 pub mod OperatorRows
 pub mod RowSteps
 pub mod ScriptSteps

@@ -1,6 +1,0 @@
-use Rattle.std.proofs.Common.{◌≡◌, ◌++◌, drop, map}
-use Rattle.mob_expression.specs.Scopes.{sources_of}
-use Rattle.mob_clauses.proofs.tables.table_numbers.Given as goal
-
-abbrev pub invariant-loop-source : goal.invariant-loop-source
-invariant-loop-source l = map (λ t. t.1.table) (sources_of l.sources) ≡ l.numbers ++ map (λ t. t.1.table) (sources_of (drop l.source-index l.sources))
