@@ -1,5 +1,5 @@
 -- Aggregates of values with one more.
-use Rattle.std.specs.Prelude.{◌≡◌, Bool, true, false, cond, not, ℕ, ◌+◌, pos, refl, List, [], ◌∷◌, ◌++◌, length, Option, Some, None, option_map, Result, Ok, Err, IfOk, IfErr, MatchOption, MatchResult}
+use Rattle.std.specs.Prelude.{◌≡◌, Bool, true, false, cond, not, ℕ, ◌+◌, pos, refl, List, [], ◌∷◌, ◌++◌, length, Option, Some, None, option_map, Result, Ok, Err, IfOk, IfErr, MatchOption}
 use Rattle.std.proofs.Common.{ap, sym, ◌∙◌, subst, inl, arith, append-nil}
 use Rattle.mob_ratio.specs.Ratio.{Ratio, whole, ◌+ℚ◌}
 use Rattle.mob_ratio.specs.Order.{same}
@@ -222,11 +222,6 @@ no_parts (value.MovingPoint b) = refl
 
 nothing_passed : (r : Value) → IsFirst (arithmetic_entries Added sql.Numeric r Null) None
 nothing_passed r = inl (subst AllFit (sym (no_parts r)) tt, refl)
-
--- what holds of a value and where memory is refused holds of a copy of the value
-pub of_copy : (P : Result Value OpFault → Type 0) (v : Value) (r : Result Value OpFault) → MatchResult r (λ x. x ≡ v) (λ e. e ≡ NoMemory) → P (Ok v) → P (Err NoMemory) → P r
-of_copy P v (Ok x) is h k = subst (λ z. P (Ok z)) (sym is) h
-of_copy P v (Err e) is h k = subst (λ z. P (Err z)) (sym is) k
 
 -- a value that is no number
 pub no_number_more : (ty : SqlType) (before v : Value) → number_in v ≡ None → IsAggregateWith false Sum ty before v (Ok before)

@@ -1,5 +1,5 @@
 -- Aggregates as groups hold them, with one more value.
-use Rattle.std.specs.Prelude.{◌≡◌, ◌↔◌, Bool, true, false, cond, IsTrue, refl, List, [], ◌∷◌, ◌++◌, Option, Some, None, MatchOption, Result, Ok, Err}
+use Rattle.std.specs.Prelude.{◌≡◌, ◌↔◌, Bool, true, false, cond, IsTrue, refl, List, [], ◌∷◌, ◌++◌, Option, Some, None, MatchOption, Result, Ok, Err, OnOk, IfErr}
 use Rattle.std.proofs.Common.{ap, sym, ◌∙◌, subst}
 use Rattle.mob_ratio.specs.Ratio.{Ratio}
 use Rattle.mob_ratio.specs.Order.{same}
@@ -29,7 +29,8 @@ use Rattle.mob_tagg.proofs.Joining.{count_joins, all_joins, some_joins}
 use Rattle.mob_tail.specs.declared.state.State.{State}
 use Rattle.mob_tail.specs.declared.state.State.TheVariants.{Whole, Counts, All, Any}
 use Rattle.mob_tail.specs.Aggregated.{IsOverTime, IsAggregated, IsUnion, IsAggregateWith, leaves_out, one_there, truth_there, slices_there, steps_of, truths_of}
-use Rattle.mob_tail.specs.States.{AreTogether, is_in_parts, IsHeld, IsStartState, IsStateWith}
+use Rattle.mob_tail.specs.Made.{made_in}
+use Rattle.mob_tail.specs.States.{AreTogether, AreTruthsWith, IsOneMore, is_in_parts, IsHeld, IsStartState, IsStateWith}
 use Rattle.mob_tail.proofs.Aggregating.{over_more, seen_steps, seen_truths, all_alone, some_alone, left_out_with}
 use Rattle.mob_tail.proofs.CountsFit.{count_fits}
 
@@ -121,17 +122,22 @@ whole_is kind v r h = (held_whole kind v r h).1
 pub start_whole : (kind : AggKind) (v : Value) → is_in_parts kind ≡ false → ((ty : SqlType) → IsAggregated kind ty [] v) → IsStartState kind (Whole v)
 start_whole kind v p h = λ ty. (v, whole_held kind v p, h ty)
 
-pub whole_ok : (left_out : Bool) (kind : AggKind) (ty : SqlType) (before v w : Value) → (is_in_parts kind ≡ false → IsAggregateWith left_out kind ty before v (Ok w)) → IsStateWith left_out kind ty (Whole before) v (Ok (Whole w))
+whole_ok : (left_out : Bool) (kind : AggKind) (ty : SqlType) (before v w : Value) → (is_in_parts kind ≡ false → IsAggregateWith left_out kind ty before v (Ok w)) → IsStateWith left_out kind ty (Whole before) v (Ok (Whole w))
 whole_ok left_out kind ty before v w f = λ r held vs h few.
     let is = held_whole kind before r held in
     let both = f is.0 vs (subst (λ z. IsAggregated kind ty vs z) (sym is.1) h) in
     (w, whole_held kind w is.0, both.0, both.1)
 
-pub whole_err : (left_out : Bool) (kind : AggKind) (ty : SqlType) (before v : Value) (e : OpFault) → (is_in_parts kind ≡ false → IsAggregateWith left_out kind ty before v (Err e)) → IsStateWith left_out kind ty (Whole before) v (Err e)
+whole_err : (left_out : Bool) (kind : AggKind) (ty : SqlType) (before v : Value) (e : OpFault) → (is_in_parts kind ≡ false → IsAggregateWith left_out kind ty before v (Err e)) → IsStateWith left_out kind ty (Whole before) v (Err e)
 whole_err left_out kind ty before v (Passed g) f = λ r held vs h.
     let is = held_whole kind before r held in
     f is.0 vs (subst (λ z. IsAggregated kind ty vs z) (sym is.1) h)
 whole_err left_out kind ty before v NoMemory f = tt
+
+-- one value more of what is held as it is
+pub whole_in : (left_out : Bool) (kind : AggKind) (ty : SqlType) (before new v : Value) (r : Result (Unit {0}) OpFault) → (is_in_parts kind ≡ false → IsAggregateWith left_out kind ty before v (made_in r new)) → IsStateWith left_out kind ty (Whole before) v (made_in r (Whole new))
+whole_in left_out kind ty before new v (Ok u) f = whole_ok left_out kind ty before v new f
+whole_in left_out kind ty before new v (Err e) f = whole_err left_out kind ty before v e f
 
 -- a value that is left out
 pub left_out_state : (kind : AggKind) (ty : SqlType) (s : State) (v : Value) → true ≡ leaves_out kind v → IsStateWith (leaves_out kind v) kind ty s v (Ok s)
@@ -150,7 +156,7 @@ CountParts = List (Part (Steady Ratio) Ratio)
 abbrev TruthParts : Type 0
 TruthParts = List (Part (Steady Bool) Bool)
 
-pub counts_held : (kind : AggKind) (parts : CountParts) (r : Value) → IsHeld kind (Counts parts) r → AreTogether same MovingInt steps_of sum_of parts r
+counts_held : (kind : AggKind) (parts : CountParts) (r : Value) → IsHeld kind (Counts parts) r → AreTogether same MovingInt steps_of sum_of parts r
 counts_held TCount parts r h = h
 counts_held CountAll parts r h = absurd h
 counts_held Count parts r h = absurd h
@@ -159,7 +165,7 @@ counts_held TSum parts r h = absurd h
 counts_held TAnd parts r h = absurd h
 counts_held TOr parts r h = absurd h
 
-pub all_held : (kind : AggKind) (parts : TruthParts) (r : Value) → IsHeld kind (All parts) r → AreTogether same_bool MovingBool truths_of both_hold parts r
+all_held : (kind : AggKind) (parts : TruthParts) (r : Value) → IsHeld kind (All parts) r → AreTogether same_bool MovingBool truths_of both_hold parts r
 all_held TAnd parts r h = h
 all_held CountAll parts r h = absurd h
 all_held Count parts r h = absurd h
@@ -168,7 +174,7 @@ all_held TSum parts r h = absurd h
 all_held TCount parts r h = absurd h
 all_held TOr parts r h = absurd h
 
-pub any_held : (kind : AggKind) (parts : TruthParts) (r : Value) → IsHeld kind (Any parts) r → AreTogether same_bool MovingBool truths_of one_holds parts r
+any_held : (kind : AggKind) (parts : TruthParts) (r : Value) → IsHeld kind (Any parts) r → AreTogether same_bool MovingBool truths_of one_holds parts r
 any_held TOr parts r h = h
 any_held CountAll parts r h = absurd h
 any_held Count parts r h = absurd h
@@ -187,7 +193,7 @@ counts_at TSum ty parts v r e h = not_held (leaves_out TSum v) TSum ty (Counts p
 counts_at TAnd ty parts v r e h = not_held (leaves_out TAnd v) TAnd ty (Counts parts) v r (λ x k. k)
 counts_at TOr ty parts v r e h = not_held (leaves_out TOr v) TOr ty (Counts parts) v r (λ x k. k)
 
-pub all_at : (kind : AggKind) (ty : SqlType) (parts : TruthParts) (v : Value) (r : Result State OpFault) → false ≡ leaves_out kind v → IsStateWith false TAnd ty (All parts) v r → IsStateWith (leaves_out kind v) kind ty (All parts) v r
+all_at : (kind : AggKind) (ty : SqlType) (parts : TruthParts) (v : Value) (r : Result State OpFault) → false ≡ leaves_out kind v → IsStateWith false TAnd ty (All parts) v r → IsStateWith (leaves_out kind v) kind ty (All parts) v r
 all_at TAnd ty parts v r e h = subst (λ b. IsStateWith b TAnd ty (All parts) v r) e h
 all_at CountAll ty parts v r e h = not_held (leaves_out CountAll v) CountAll ty (All parts) v r (λ x k. k)
 all_at Count ty parts v r e h = not_held (leaves_out Count v) Count ty (All parts) v r (λ x k. k)
@@ -196,7 +202,7 @@ all_at TSum ty parts v r e h = not_held (leaves_out TSum v) TSum ty (All parts) 
 all_at TCount ty parts v r e h = not_held (leaves_out TCount v) TCount ty (All parts) v r (λ x k. k)
 all_at TOr ty parts v r e h = not_held (leaves_out TOr v) TOr ty (All parts) v r (λ x k. k)
 
-pub any_at : (kind : AggKind) (ty : SqlType) (parts : TruthParts) (v : Value) (r : Result State OpFault) → false ≡ leaves_out kind v → IsStateWith false TOr ty (Any parts) v r → IsStateWith (leaves_out kind v) kind ty (Any parts) v r
+any_at : (kind : AggKind) (ty : SqlType) (parts : TruthParts) (v : Value) (r : Result State OpFault) → false ≡ leaves_out kind v → IsStateWith false TOr ty (Any parts) v r → IsStateWith (leaves_out kind v) kind ty (Any parts) v r
 any_at TOr ty parts v r e h = subst (λ b. IsStateWith b TOr ty (Any parts) v r) e h
 any_at CountAll ty parts v r e h = not_held (leaves_out CountAll v) CountAll ty (Any parts) v r (λ x k. k)
 any_at Count ty parts v r e h = not_held (leaves_out Count v) Count ty (Any parts) v r (λ x k. k)
@@ -207,15 +213,11 @@ any_at TAnd ty parts v r e h = not_held (leaves_out TAnd v) TAnd ty (Any parts) 
 
 -- ---- one value more
 
--- the parts new have at each instant what the others have and the value w
-abbrev IsOneMore : {B : Type 0} → (B → B → B) → List (Part (Steady B) B) → List (Part (Steady B) B) → StepSlices B → Type 0
-IsOneMore op parts new w = (t : Ratio) → united_all op (parts_at steady_value new t) ≡ united_by op (united_all op (parts_at steady_value parts t)) (value_at steady_value w t)
-
 -- what is counted of one value
 counted_as : (ty : SqlType) (v : Value) (o : Option (StepSlices Ratio)) → IsAggregated TCount ty (v ∷ []) (or_nothing MovingInt o) → IsAggregate one_there steady_value steady_limit steady_limit (steady_course same).continues count (v ∷ []) o
 counted_as ty v o a = subst (λ z. IsAggregate one_there steady_value steady_limit steady_limit (steady_course same).continues count (v ∷ []) z) (sym (sym (seen_steps o) ∙ ap steps_of a.2 ∙ seen_steps a.0)) a.1
 
-pub counts_more : (ty : SqlType) (parts new : CountParts) (v : Value) (w : StepSlices Ratio) → IsAggregated TCount ty (v ∷ []) (MovingInt w) → IsOneMore sum_of parts new w → IsStateWith false TCount ty (Counts parts) v (Ok (Counts new))
+counts_more : (ty : SqlType) (parts new : CountParts) (v : Value) (w : StepSlices Ratio) → IsAggregated TCount ty (v ∷ []) (MovingInt w) → IsOneMore sum_of parts new w → IsStateWith false TCount ty (Counts parts) v (Ok (Counts new))
 counts_more ty parts new v w a e = λ r held vs h few.
     let more = more_together same same_exact MovingInt steps_of seen_steps sum_of count count_joins one_there parts new vs r v w held h (counted_as ty v (Some w) a) e in
     (more.0, more.1, more.2, (r, h, (MovingInt w, a, count_fits TCount ty vs v r (MovingInt w) refl few h a)))
@@ -224,27 +226,48 @@ pub counts_same : (ty : SqlType) (parts : CountParts) (v : Value) → IsAggregat
 counts_same ty parts v a = λ r held vs h few.
     (r, held, same_together same same_exact MovingInt steps_of seen_steps sum_of count count_joins one_there vs r v h (counted_as ty v None a), (r, h, (Null, a, count_fits TCount ty vs v r Null refl few h a)))
 
-pub all_more : (ty : SqlType) (parts new : TruthParts) (v : Value) (w : StepSlices Bool) → truths_of v ≡ Some w → AreNormalBy (steady_course same_bool) w → IsOneMore both_hold parts new w → IsStateWith false TAnd ty (All parts) v (Ok (All new))
+all_more : (ty : SqlType) (parts new : TruthParts) (v : Value) (w : StepSlices Bool) → truths_of v ≡ Some w → AreNormalBy (steady_course same_bool) w → IsOneMore both_hold parts new w → IsStateWith false TAnd ty (All parts) v (Ok (All new))
 all_more ty parts new v w is n e = λ r held vs h few.
     let one = all_alone v (subst (λ z. MatchOption z (Unit {0}) (AreNormalBy (steady_course same_bool))) (sym is) n) in
     let more = more_together same_bool same_bool_exact MovingBool truths_of seen_truths both_hold all_hold all_joins truth_there parts new vs r v w held h (subst (λ z. IsAggregate truth_there steady_value steady_limit steady_limit (steady_course same_bool).continues all_hold (v ∷ []) z) is one) e in
     (more.0, more.1, more.2, (r, h, (or_nothing MovingBool (truths_of v), (truths_of v, one, refl), refl)))
 
-pub all_same : (ty : SqlType) (parts : TruthParts) (v : Value) → truths_of v ≡ None → IsStateWith false TAnd ty (All parts) v (Ok (All parts))
+all_same : (ty : SqlType) (parts : TruthParts) (v : Value) → truths_of v ≡ None → IsStateWith false TAnd ty (All parts) v (Ok (All parts))
 all_same ty parts v is = λ r held vs h few.
     let one = all_alone v (subst (λ z. MatchOption z (Unit {0}) (AreNormalBy (steady_course same_bool))) (sym is) tt) in
     (r, held, same_together same_bool same_bool_exact MovingBool truths_of seen_truths both_hold all_hold all_joins truth_there vs r v h (subst (λ z. IsAggregate truth_there steady_value steady_limit steady_limit (steady_course same_bool).continues all_hold (v ∷ []) z) is one), (r, h, (or_nothing MovingBool (truths_of v), (truths_of v, one, refl), refl)))
 
-pub any_more : (ty : SqlType) (parts new : TruthParts) (v : Value) (w : StepSlices Bool) → truths_of v ≡ Some w → AreNormalBy (steady_course same_bool) w → IsOneMore one_holds parts new w → IsStateWith false TOr ty (Any parts) v (Ok (Any new))
+any_more : (ty : SqlType) (parts new : TruthParts) (v : Value) (w : StepSlices Bool) → truths_of v ≡ Some w → AreNormalBy (steady_course same_bool) w → IsOneMore one_holds parts new w → IsStateWith false TOr ty (Any parts) v (Ok (Any new))
 any_more ty parts new v w is n e = λ r held vs h few.
     let one = some_alone v (subst (λ z. MatchOption z (Unit {0}) (AreNormalBy (steady_course same_bool))) (sym is) n) in
     let more = more_together same_bool same_bool_exact MovingBool truths_of seen_truths one_holds some_holds some_joins truth_there parts new vs r v w held h (subst (λ z. IsAggregate truth_there steady_value steady_limit steady_limit (steady_course same_bool).continues some_holds (v ∷ []) z) is one) e in
     (more.0, more.1, more.2, (r, h, (or_nothing MovingBool (truths_of v), (truths_of v, one, refl), refl)))
 
-pub any_same : (ty : SqlType) (parts : TruthParts) (v : Value) → truths_of v ≡ None → IsStateWith false TOr ty (Any parts) v (Ok (Any parts))
+any_same : (ty : SqlType) (parts : TruthParts) (v : Value) → truths_of v ≡ None → IsStateWith false TOr ty (Any parts) v (Ok (Any parts))
 any_same ty parts v is = λ r held vs h few.
     let one = some_alone v (subst (λ z. MatchOption z (Unit {0}) (AreNormalBy (steady_course same_bool))) (sym is) tt) in
     (r, held, same_together same_bool same_bool_exact MovingBool truths_of seen_truths one_holds some_holds some_joins truth_there vs r v h (subst (λ z. IsAggregate truth_there steady_value steady_limit steady_limit (steady_course same_bool).continues some_holds (v ∷ []) z) is one), (r, h, (or_nothing MovingBool (truths_of v), (truths_of v, one, refl), refl)))
+
+-- what a step of each of these makes of the parts
+pub counts_step : (ty : SqlType) (parts new : CountParts) (v : Value) (w : StepSlices Ratio) (r : Result (Unit {0}) OpFault) → IsAggregated TCount ty (v ∷ []) (MovingInt w) → OnOk r (IsOneMore sum_of parts new w) → IfErr r (λ e. e ≡ NoMemory) → IsStateWith false TCount ty (Counts parts) v (made_in r (Counts new))
+counts_step ty parts new v w (Ok u) a h m = counts_more ty parts new v w a h
+counts_step ty parts new v w (Err e) a h m = subst (λ z. IsStateWith false TCount ty (Counts parts) v (Err z)) (sym m) tt
+
+pub all_step : (kind : AggKind) (ty : SqlType) (parts new : TruthParts) (v : Value) (r : Result (Unit {0}) OpFault) → false ≡ leaves_out kind v → OnOk r (AreTruthsWith both_hold parts (truths_of v) new) → IfErr r (λ e. e ≡ NoMemory) → IsStateWith (leaves_out kind v) kind ty (All parts) v (made_in r (All new))
+all_step kind ty parts new v r e h m = all_at kind ty parts v (made_in r (All new)) e (by r (truths_of v) refl h m)
+  where
+    by : (r : Result (Unit {0}) OpFault) (o : Option (StepSlices Bool)) → truths_of v ≡ o → OnOk r (AreTruthsWith both_hold parts o new) → IfErr r (λ e. e ≡ NoMemory) → IsStateWith false TAnd ty (All parts) v (made_in r (All new))
+    by (Ok u) None is h m = subst (λ z. IsStateWith false TAnd ty (All parts) v (Ok (All z))) (sym h) (all_same ty parts v is)
+    by (Ok u) (Some w) is h m = all_more ty parts new v w is h.0 h.1
+    by (Err e) o is h m = subst (λ z. IsStateWith false TAnd ty (All parts) v (Err z)) (sym m) tt
+
+pub any_step : (kind : AggKind) (ty : SqlType) (parts new : TruthParts) (v : Value) (r : Result (Unit {0}) OpFault) → false ≡ leaves_out kind v → OnOk r (AreTruthsWith one_holds parts (truths_of v) new) → IfErr r (λ e. e ≡ NoMemory) → IsStateWith (leaves_out kind v) kind ty (Any parts) v (made_in r (Any new))
+any_step kind ty parts new v r e h m = any_at kind ty parts v (made_in r (Any new)) e (by r (truths_of v) refl h m)
+  where
+    by : (r : Result (Unit {0}) OpFault) (o : Option (StepSlices Bool)) → truths_of v ≡ o → OnOk r (AreTruthsWith one_holds parts o new) → IfErr r (λ e. e ≡ NoMemory) → IsStateWith false TOr ty (Any parts) v (made_in r (Any new))
+    by (Ok u) None is h m = subst (λ z. IsStateWith false TOr ty (Any parts) v (Ok (Any z))) (sym h) (any_same ty parts v is)
+    by (Ok u) (Some w) is h m = any_more ty parts new v w is h.0 h.1
+    by (Err e) o is h m = subst (λ z. IsStateWith false TOr ty (Any parts) v (Err z)) (sym m) tt
 
 -- ---- no value
 

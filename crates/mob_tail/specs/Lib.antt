@@ -5,6 +5,7 @@ pub mod GroupSteps
 pub mod GroupedAnswers
 pub mod Groups
 pub mod IsMadeOfEach
+pub mod Made
 pub mod AnswerRows
 pub mod AnswerTexts
 pub mod Evaluated

@@ -6,6 +6,7 @@ use Rattle.mob_span.specs.Flags.{same_bool}
 use Rattle.mob_arith.specs.Operations.{sum_of, both_hold, one_holds}
 use Rattle.mob_slice.specs.CourseOf.{steady_course}
 use Rattle.mob_slice.specs.Operands.{steady_value}
+use Rattle.mob_slice.specs.Slices.{value_at}
 use Rattle.mob_slice.specs.declared.formula.OpFault.{OpFault}
 use Rattle.mob_slice.specs.declared.formula.OpFault.TheVariants.{Passed, NoMemory}
 use Rattle.mob_slice.specs.declared.steady.Steady.{Steady}
@@ -16,6 +17,7 @@ use Rattle.mob_value.specs.declared.value.Value.{Value}
 use Rattle.mob_value.specs.declared.value.Value.TheVariants.{MovingBool, MovingInt}
 use Rattle.mob_ordinary.specs.Moving.{AreNormalBy, StepSlices, or_nothing}
 use Rattle.mob_tagg.specs.Gathered.{united_all, parts_at}
+use Rattle.mob_tagg.specs.United.{united_by}
 use Rattle.mob_tagg.specs.declared.parts.Part.{Part}
 use Rattle.mob_tail.specs.declared.state.State.{State}
 use Rattle.mob_tail.specs.declared.state.State.TheVariants.{Whole, Counts, All, Any}
@@ -27,6 +29,15 @@ pub record AreTogether {B : Type 0} (is_same : B → B → Bool) (make : StepSli
   pub seen : r ≡ or_nothing make (see r)
   pub normal : MatchOption (see r) (Unit {0}) (AreNormalBy (steady_course is_same))
   pub at_each : (t : Ratio) → united_all op (parts_at steady_value parts t) ≡ slices_there steady_value (see r) t
+
+-- the parts new have at each instant what the others have and the value w
+abbrev pub IsOneMore : {B : Type 0} → (B → B → B) → List (Part (Steady B) B) → List (Part (Steady B) B) → StepSlices B → Type 0
+IsOneMore op parts new w = (t : Ratio) → united_all op (parts_at steady_value new t) ≡ united_by op (united_all op (parts_at steady_value parts t)) (value_at steady_value w t)
+
+-- parts of truth values with one more, or as they were where there is none
+abbrev pub AreTruthsWith : (Bool → Bool → Bool) → List (Part (Steady Bool) Bool) → Option (StepSlices Bool) → List (Part (Steady Bool) Bool) → Type 0
+AreTruthsWith op parts None new = new ≡ parts
+AreTruthsWith op parts (Some w) new = AreNormalBy (steady_course same_bool) w × IsOneMore op parts new w
 
 -- the aggregates that are held in parts: those over time for which the order of adding is free
 abbrev pub is_in_parts : AggKind → Bool

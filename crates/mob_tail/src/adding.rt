@@ -10,6 +10,7 @@ ghost use Rattle.mob_meaning.specs.Arithmetic.{arithmetic_entries};
 ghost use Rattle.mob_ordinary.specs.Moving.{AreNormalBy, IsFunction, or_nothing};
 ghost use Rattle.mob_ordinary.specs.Ordinary.{is_null};
 ghost use Rattle.mob_tail.specs.Aggregated.{number_in, one_where, leaves_out, IsAggregated, IsAggregateWith, IsUnion, steps_of, lines_of};
+ghost use Rattle.mob_tail.specs.Made.{made_in};
 ghost use Rattle.mob_tail.specs.States.{is_in_parts};
 
 use mob_ast::SqlType;
@@ -21,6 +22,13 @@ use mob_tagg::{add_in, one, ones_of};
 use mob_typed::Agg;
 use mob_value::Value;
 use std::alloc::{AllocError, Global};
+
+/// Replaces what is held. At a type parameter the drop of the old value is one call.
+pub fn put<T: Drop>(place: &mut T, value: T)
+    ensures put { place.new ≡ value }
+{
+    *place = value;
+}
 
 /// Whether an aggregate leaves a value out: all but count(*) leave out NULL.
 pub fn leaves_out(kind: AggKind, value: &Value) -> bool
@@ -34,11 +42,11 @@ pub fn leaves_out(kind: AggKind, value: &Value) -> bool
 }
 
 // The plain number that a value is.
-fn number_in(value: &Value) -> Option<&Frac>
-    ensures number { option_map (λ a. a.now) result ≡ number_in value.now }
+fn number_in(value: &Value) -> Option<Frac>
+    ensures number { result ≡ number_in value.now }
 {
     match value {
-        Value::Number(number) => Some(number),
+        Value::Number(number) => Some(*number),
         _ => None,
     }
 }
@@ -62,52 +70,61 @@ fn lines_of(value: &Value) -> Option<&Moving<Line>>
     }
 }
 
-// The sum of two numbers.
-fn sum_with(a: &Frac, b: &Frac) -> Result<Value, OpFault>
-    ensures value { IfOk result (λ r. r ≡ Number (sum_of a.now b.now)) }
-    ensures fits { IfOk result (λ _. IsFirst (arithmetic_entries Calculation.Sum SqlType.Numeric (Number a.now) (Number b.now)) None) }
-    ensures fault { IfErr result (OnFormula (λ f. IsFirst (arithmetic_entries Calculation.Sum SqlType.Numeric (Number a.now) (Number b.now)) (Some f))) }
+// Puts the sum of two numbers in the place of what is held.
+fn sum_in(before: &mut Value, a: &Frac, b: &Frac) -> Result<(), OpFault>
+    ensures value { IfOk (made_in result before.new) (λ r. r ≡ Number (sum_of a.now b.now)) }
+    ensures fits { IfOk (made_in result before.new) (λ _. IsFirst (arithmetic_entries Calculation.Sum SqlType.Numeric (Number a.now) (Number b.now)) None) }
+    ensures fault { IfErr (made_in result before.new) (OnFormula (λ f. IsFirst (arithmetic_entries Calculation.Sum SqlType.Numeric (Number a.now) (Number b.now)) (Some f))) }
 {
     match a.add(b) {
-        Ok(sum) => Ok(Value::Number(sum)),
+        Ok(sum) => {
+            put(before, Value::Number(sum));
+            Ok(())
+        }
         Err(_) => Err(OpFault::Passed {
             formula: Formula::F2,
         }),
     }
 }
 
-// A value in memory of its own.
-fn copied(alloc: Global, value: &Value) -> Result<Value, OpFault>
-    ensures copy { MatchResult result (λ r. r ≡ value.now) (λ e. e ≡ OpFault.NoMemory) }
+// Puts a copy of a value in the place of what is held.
+fn copy_in(alloc: Global, before: &mut Value, value: &Value) -> Result<(), OpFault>
+    ensures copy { MatchResult (made_in result before.new) (λ r. r ≡ value.now) (λ e. e ≡ OpFault.NoMemory) }
 {
     match value.copy(alloc) {
-        Ok(copy) => Ok(copy),
+        Ok(copy) => {
+            put(before, copy);
+            Ok(())
+        }
         Err(_) => Err(OpFault::NoMemory),
     }
 }
 
-// A count with one more.
-fn one_more(before: &Value) -> Result<Value, OpFault>
-    ensures with { (ty : _) (v : _) → IsAggregateWith false AggKind.CountAll ty before.now v result }
-    ensures known { (ty : _) (v : _) → is_null v ≡ false → IsAggregateWith false AggKind.Count ty before.now v result }
+// Counts one more.
+fn one_more(before: &mut Value) -> Result<(), OpFault>
+    ensures with { (ty : _) (v : _) → IsAggregateWith false AggKind.CountAll ty before.old v (made_in result before.new) }
+    ensures known { (ty : _) (v : _) → is_null v ≡ false → IsAggregateWith false AggKind.Count ty before.old v (made_in result before.new) }
 {
     match number_in(before) {
         // A count is a number.
-        None => Ok(Value::Null),
-        Some(number) => sum_with(number, &one()),
+        None => Ok(()),
+        Some(number) => sum_in(before, &number, &one()),
     }
 }
 
-// The sum of numbers, or NULL where there is none, with one more.
-fn number_more(alloc: Global, before: &Value, value: &Value) -> Result<Value, OpFault>
-    ensures with { (ty : _) → IsAggregateWith false AggKind.Sum ty before.now value.now result }
+// Brings one more into the sum of numbers, or NULL where there is none.
+fn number_more(before: &mut Value, value: &Value) -> Result<(), OpFault>
+    ensures with { (ty : _) → IsAggregateWith false AggKind.Sum ty before.old value.now (made_in result before.new) }
 {
     let Some(number) = number_in(value) else {
-        return copied(alloc, before);
+        return Ok(());
     };
     match number_in(before) {
-        None => Ok(Value::Number(*number)),
-        Some(sum) => sum_with(sum, number),
+        None => {
+            put(before, Value::Number(number));
+            Ok(())
+        }
+        Some(sum) => sum_in(before, &sum, &number),
     }
 }
 
@@ -131,45 +148,51 @@ fn frac_value(moving: Moving<Line>) -> Value
     Value::MovingFrac(moving)
 }
 
-// A sum of tints, or NULL where there is none, with one more.
-fn steps_more(alloc: Global, before: &Value, value: &Value) -> Result<Value, OpFault>
-    ensures union { IfOk result (λ r. IsUnion (steady_course same) MovingInt sum_of (steps_of before.now) (steps_of value.now) before.now r) }
+// Brings one more into a sum of tints, or NULL where there is none.
+fn steps_more(alloc: Global, before: &mut Value, value: &Value) -> Result<(), OpFault>
+    ensures union { IfOk (made_in result before.new) (λ r. IsUnion (steady_course same) MovingInt sum_of (steps_of before.old) (steps_of value.now) before.old r) }
     ensures normal { MatchOption (steps_of value.now) (Unit {0}) (AreNormalBy (steady_course same)) }
-    ensures fits { IfOk result (λ _. IsFirst (arithmetic_entries Calculation.Sum SqlType.TInt (or_nothing MovingInt (steps_of before.now)) (or_nothing MovingInt (steps_of value.now))) None) }
-    ensures fault { IfErr result (OnFormula (λ f. IsFirst (arithmetic_entries Calculation.Sum SqlType.TInt (or_nothing MovingInt (steps_of before.now)) (or_nothing MovingInt (steps_of value.now))) (Some f))) }
+    ensures fits { IfOk (made_in result before.new) (λ _. IsFirst (arithmetic_entries Calculation.Sum SqlType.TInt (or_nothing MovingInt (steps_of before.old)) (or_nothing MovingInt (steps_of value.now))) None) }
+    ensures fault { IfErr (made_in result before.new) (OnFormula (λ f. IsFirst (arithmetic_entries Calculation.Sum SqlType.TInt (or_nothing MovingInt (steps_of before.old)) (or_nothing MovingInt (steps_of value.now))) (Some f))) }
 {
     let Some(moving) = steps_of(value) else {
-        return copied(alloc, before);
+        return Ok(());
     };
     // The clause of `slices` says that they are normal.
     let _ = moving.slices();
     match steps_of(before) {
         Some(sum) => match add_in(alloc, sum, moving) {
-            Ok(sum) => Ok(int_value(sum)),
+            Ok(sum) => {
+                put(before, int_value(sum));
+                Ok(())
+            }
             Err(fault) => Err(fault),
         },
-        None => copied(alloc, value),
+        None => copy_in(alloc, before, value),
     }
 }
 
-// A sum of tfracs, or NULL where there is none, with one more.
-fn lines_more(alloc: Global, before: &Value, value: &Value) -> Result<Value, OpFault>
-    ensures union { IfOk result (λ r. IsUnion line_course MovingFrac sum_of (lines_of before.now) (lines_of value.now) before.now r) }
+// Brings one more into a sum of tfracs, or NULL where there is none.
+fn lines_more(alloc: Global, before: &mut Value, value: &Value) -> Result<(), OpFault>
+    ensures union { IfOk (made_in result before.new) (λ r. IsUnion line_course MovingFrac sum_of (lines_of before.old) (lines_of value.now) before.old r) }
     ensures normal { MatchOption (lines_of value.now) (Unit {0}) (AreNormalBy line_course) }
-    ensures fits { IfOk result (λ _. IsFirst (arithmetic_entries Calculation.Sum SqlType.TFrac (or_nothing MovingFrac (lines_of before.now)) (or_nothing MovingFrac (lines_of value.now))) None) }
-    ensures fault { IfErr result (OnFormula (λ f. IsFirst (arithmetic_entries Calculation.Sum SqlType.TFrac (or_nothing MovingFrac (lines_of before.now)) (or_nothing MovingFrac (lines_of value.now))) (Some f))) }
+    ensures fits { IfOk (made_in result before.new) (λ _. IsFirst (arithmetic_entries Calculation.Sum SqlType.TFrac (or_nothing MovingFrac (lines_of before.old)) (or_nothing MovingFrac (lines_of value.now))) None) }
+    ensures fault { IfErr (made_in result before.new) (OnFormula (λ f. IsFirst (arithmetic_entries Calculation.Sum SqlType.TFrac (or_nothing MovingFrac (lines_of before.old)) (or_nothing MovingFrac (lines_of value.now))) (Some f))) }
 {
     let Some(moving) = lines_of(value) else {
-        return copied(alloc, before);
+        return Ok(());
     };
     // The clause of `slices` says that they are normal.
     let _ = moving.slices();
     match lines_of(before) {
         Some(sum) => match add_in(alloc, sum, moving) {
-            Ok(sum) => Ok(frac_value(sum)),
+            Ok(sum) => {
+                put(before, frac_value(sum));
+                Ok(())
+            }
             Err(fault) => Err(fault),
         },
-        None => copied(alloc, value),
+        None => copy_in(alloc, before, value),
     }
 }
 
@@ -201,34 +224,34 @@ pub fn ones_on(alloc: Global, value: &Value) -> Result<Option<Moving<Steady<Frac
     }
 }
 
-// A sum over time of this type with one more value.
-fn sum_more(alloc: Global, ty: SqlType, before: &Value, value: &Value) -> Result<Value, OpFault>
-    ensures with { IsAggregateWith false AggKind.TSum ty before.now value.now result }
+// Brings one more value into a sum over time of this type.
+fn sum_more(alloc: Global, ty: SqlType, before: &mut Value, value: &Value) -> Result<(), OpFault>
+    ensures with { IsAggregateWith false AggKind.TSum ty before.old value.now (made_in result before.new) }
 {
     match ty {
         SqlType::TInt => steps_more(alloc, before, value),
         SqlType::TFrac => lines_more(alloc, before, value),
-        _ => copied(alloc, before),
+        _ => Ok(()),
     }
 }
 
-/// An aggregate that is held as it is with one more value, where `before` is that of the values
-/// without it. NULL of what is held in parts.
-pub fn aggregate_with(
+/// Brings one more value into an aggregate that is held as it is, where `before` is that of the
+/// values without it. What is held in parts stays as it is.
+pub fn aggregate_in(
     alloc: Global,
     agg: Agg,
-    before: &Value,
+    before: &mut Value,
     value: &Value,
-) -> Result<Value, OpFault>
-    ensures with { is_in_parts agg.kind ≡ false → false ≡ leaves_out agg.kind value.now → IsAggregateWith (leaves_out agg.kind value.now) agg.kind agg.ty before.now value.now result }
+) -> Result<(), OpFault>
+    ensures with { is_in_parts agg.kind ≡ false → false ≡ leaves_out agg.kind value.now → IsAggregateWith (leaves_out agg.kind value.now) agg.kind agg.ty before.old value.now (made_in result before.new) }
 {
     match agg.kind {
         AggKind::CountAll => one_more(before),
         AggKind::Count => one_more(before),
-        AggKind::Sum => number_more(alloc, before, value),
+        AggKind::Sum => number_more(before, value),
         AggKind::TSum => sum_more(alloc, agg.ty, before, value),
-        AggKind::TCount => Ok(Value::Null),
-        AggKind::TAnd => Ok(Value::Null),
-        AggKind::TOr => Ok(Value::Null),
+        AggKind::TCount => Ok(()),
+        AggKind::TAnd => Ok(()),
+        AggKind::TOr => Ok(()),
     }
 }

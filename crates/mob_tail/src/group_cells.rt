@@ -10,8 +10,9 @@ ghost use Rattle.mob_tail.specs.Groups.{column_on};
 ghost use Rattle.mob_tail.specs.States.{IsStateWith};
 ghost use Rattle.mob_tail.specs.GroupSteps.{column_seen, IsAggregateOn, IsColumnWith, IsCellWith, FailsInCells, first_of, IsStart, IsStartCell, IsStartGroup, IsCellHeld};
 
+use crate::adding::put;
 use crate::columns::{Column, argument_on, column_on};
-use crate::state::{State, nothing_yet, state_with, value_of};
+use crate::state::{State, nothing_yet, state_in, value_of};
 use mob_eval::{Held, View, fault_at};
 use mob_outcome::fault::EvalFault;
 use mob_slice::OpFault;
@@ -19,7 +20,6 @@ use mob_tuples::Tuple;
 use mob_typed::{Agg, TExpr};
 use mob_value::Value;
 use std::alloc::{AllocError, Global};
-use std::mem;
 use std::mem::drop;
 
 /// A column of the answer with what is held of its value for one group.
@@ -37,13 +37,6 @@ pub struct Group<'a> {
     pub cells: Vec<GroupCell<'a>>,
 }
 
-// Replaces what is held. At a type parameter the drop of the old value is one call.
-fn put<T: Drop>(place: &mut T, value: T)
-    ensures put { place.new ≡ value }
-{
-    *place = value;
-}
-
 // Brings the argument of an aggregate on one more tuple into it.
 fn argument_in(
     alloc: Global,
@@ -54,14 +47,10 @@ fn argument_in(
     ensures value { IfOk result (λ _. IsStateWith (leaves_out agg.kind (held argument.entry)) agg.kind agg.ty state.old (held argument.entry) (Ok state.new)) }
     ensures fault { IfErr result (OnPassed (λ f. (f.0 ≡ agg.place) × IsStateWith (leaves_out agg.kind (held argument.entry)) agg.kind agg.ty state.old (held argument.entry) (Err (OpFault.Passed f.1)))) }
 {
-    let before = mem::replace(state, State::Whole(Value::Null));
-    let more = state_with(alloc, agg, before, argument.get());
+    let more = state_in(alloc, agg, state, argument.get());
     drop(argument);
     match more {
-        Ok(more) => {
-            put(state, more);
-            Ok(())
-        }
+        Ok(()) => Ok(()),
         Err(fault) => Err(fault_at(agg.place, fault)),
     }
 }
@@ -83,57 +72,24 @@ fn aggregate_on(
     }
 }
 
-// The value of a column on a tuple, in memory of its own.
-fn value_on(alloc: Global, e: &TExpr, view: &View<'_>) -> Result<Value, EvalFault>
-    ensures value { MatchResult result (λ v. v ≡ column_on (scene_of view.now) (typed_of e.now)) (λ e. e ≡ EvalFault.NoMemory) }
+// Puts the value of a column on a tuple in the place of what is held of it.
+fn plain_on(alloc: Global, e: &TExpr, view: &View<'_>, state: &mut State) -> Result<(), EvalFault>
+    ensures value { IfOk result (λ _. state.new ≡ State.Whole (column_on (scene_of view.now) (typed_of e.now))) }
+    ensures memory { IfErr result (λ e. e ≡ EvalFault.NoMemory) }
 {
     match column_on(alloc, e, view) {
         Ok(held) => match held.own(alloc) {
-            Ok(value) => Ok(value),
+            Ok(value) => {
+                put(state, State::Whole(value));
+                Ok(())
+            }
             Err(_) => Err(EvalFault::NoMemory),
         },
         Err(_) => Err(EvalFault::NoMemory),
     }
 }
 
-// Puts the value of a column on a tuple in the place of what is held of it.
-fn plain_on(alloc: Global, e: &TExpr, view: &View<'_>, state: &mut State) -> Result<(), EvalFault>
-    ensures value { IfOk result (λ _. state.new ≡ State.Whole (column_on (scene_of view.now) (typed_of e.now))) }
-    ensures memory { IfErr result (λ e. e ≡ EvalFault.NoMemory) }
-{
-    match value_on(alloc, e, view) {
-        Ok(value) => {
-            put(state, State::Whole(value));
-            Ok(())
-        }
-        Err(fault) => Err(fault),
-    }
-}
-
-// Brings one more tuple, which is the first of its group or not, into a column of the answer.
-fn column_with(
-    alloc: Global,
-    column: &Column<'_>,
-    view: &View<'_>,
-    is_first: bool,
-    state: &mut State,
-) -> Result<(), EvalFault>
-    ensures value { IfOk result (λ _. IsColumnWith (scene_of view.now) (column_seen column.now) state.old is_first (Ok state.new)) }
-    ensures fault { IfErr result (OnPassed (λ f. IsColumnWith (scene_of view.now) (column_seen column.now) state.old is_first (Err f))) }
-{
-    match column.agg {
-        Some(agg) => aggregate_on(alloc, agg, column.expression, view, state),
-        None => {
-            if is_first {
-                plain_on(alloc, column.expression, view, state)
-            } else {
-                Ok(())
-            }
-        }
-    }
-}
-
-// Brings one more tuple into a cell.
+// Brings one more tuple, which is the first of its group or not, into a cell.
 fn cell_with(
     alloc: Global,
     cell: &mut GroupCell<'_>,
@@ -143,7 +99,17 @@ fn cell_with(
     ensures with { IfOk result (λ _. IsCellWith (scene_of view.now) is_first cell.old cell.new) }
     ensures fault { IfErr result (OnPassed (λ f. IsColumnWith (scene_of view.now) (column_seen cell.old.column) cell.old.state is_first (Err f))) }
 {
-    column_with(alloc, &cell.column, view, is_first, &mut cell.state)
+    let column = cell.column;
+    match column.agg {
+        Some(agg) => aggregate_on(alloc, agg, column.expression, view, &mut cell.state),
+        None => {
+            if is_first {
+                plain_on(alloc, column.expression, view, &mut cell.state)
+            } else {
+                Ok(())
+            }
+        }
+    }
 }
 
 // Brings one more tuple into each cell, or tells the first fault.
@@ -215,13 +181,6 @@ fn no_cells<'a>(alloc: Global, columns: &[Column<'a>]) -> Result<Vec<GroupCell<'
     Ok(cells)
 }
 
-fn no_group<'a>(alloc: Global, columns: &[Column<'a>]) -> Result<Group<'a>, AllocError>
-    ensures start { IfOk result (λ g. IsStartGroup columns.now g) }
-{
-    let cells = no_cells(alloc, columns)?;
-    Ok(Group { first: None, cells })
-}
-
 /// So many groups of no tuple.
 pub fn no_groups<'a>(
     alloc: Global,
@@ -233,7 +192,8 @@ pub fn no_groups<'a>(
 {
     let mut groups = Vec::with_capacity(alloc, count)?;
     for _ in 0..count {
-        groups.push(no_group(alloc, columns)?)?;
+        let cells = no_cells(alloc, columns)?;
+        groups.push(Group { first: None, cells })?;
     }
     Ok(groups)
 }

@@ -1,22 +1,28 @@
 //! An aggregate of the values so far, as a group holds it.
-ghost use Rattle.std.specs.Prelude.{◌≡◌, IfOk, MatchOption, false};
+ghost use Rattle.std.specs.Prelude.{◌≡◌, OnOk, IfOk, IfErr, MatchOption, false};
+ghost use Rattle.mob_ratio.specs.Ratio.{Ratio};
 ghost use Rattle.mob_ratio.specs.Order.{same};
 ghost use Rattle.mob_span.specs.Flags.{same_bool};
 ghost use Rattle.mob_slice.specs.CourseOf.{steady_course};
+ghost use Rattle.mob_slice.specs.Slices.{value_at};
+ghost use Rattle.mob_tagg.specs.Gathered.{united_parts};
+ghost use Rattle.mob_tagg.specs.United.{united_by};
 ghost use Rattle.mob_value.specs.declared.value.Value.TheVariants.{MovingBool, MovingInt};
 ghost use Rattle.mob_ordinary.specs.Moving.{AreNormalBy, or_nothing};
 ghost use Rattle.mob_tail.specs.Aggregated.{leaves_out, truths_of};
-ghost use Rattle.mob_tail.specs.States.{IsHeld, IsStartState, IsStateWith};
+ghost use Rattle.mob_tail.specs.Made.{made_in};
+ghost use Rattle.mob_tail.specs.States.{AreTruthsWith, IsHeld, IsStartState, IsStateWith};
 
-use crate::adding::{aggregate_with, leaves_out, ones_on};
+use crate::adding::{aggregate_in, leaves_out, ones_on, put};
 use mob_frac::Frac;
 use mob_list::items::Items;
 use mob_operators::AggKind;
-use mob_slice::{Moving, OpFault, Steady};
-use mob_tagg::{Conjunctions, Counts, Disjunctions, Part, gathered, with_value};
+use mob_slice::{Course, Moving, OpFault, Steady};
+use mob_tagg::{Conjunctions, Counts, Disjunctions, Part, Uniting, gathered, with_value};
 use mob_typed::Agg;
 use mob_value::Value;
 use std::alloc::{AllocError, Global};
+use std::mem;
 use std::mem::drop;
 
 /// An aggregate of the values so far.
@@ -50,37 +56,36 @@ pub fn nothing_yet(alloc: Global, kind: AggKind) -> State
     }
 }
 
-// An aggregate that is held as it is, with one more value.
-fn whole_with(alloc: Global, agg: Agg, before: Value, value: &Value) -> Result<State, OpFault>
-    ensures with { false ≡ leaves_out agg.kind value.now → IsStateWith (leaves_out agg.kind value.now) agg.kind agg.ty (State.Whole before) value.now result }
+// Brings one more value into parts that are held.
+fn part_in<C: Course + Drop, U: Uniting<C>>(
+    alloc: Global,
+    parts: &mut Items<Part<C>>,
+    value: Moving<C>,
+) -> Result<(), OpFault>
+    ensures more { OnOk result ((t : Ratio) → united_parts U.op C.value_of parts.new t ≡ united_by U.op (united_parts U.op C.value_of parts.old t) (value_at C.value_of value t)) }
+    ensures memory { IfErr result (λ e. e ≡ OpFault.NoMemory) }
 {
-    let more = aggregate_with(alloc, agg, &before, value);
-    drop(before);
-    match more {
-        Ok(whole) => Ok(State::Whole(whole)),
-        Err(fault) => Err(fault),
+    let before = mem::replace(parts, Items::new(alloc));
+    match with_value::<C, U>(alloc, before.into_vec(), 1, value) {
+        Ok(more) => {
+            put(parts, Items::from_vec(more));
+            Ok(())
+        }
+        Err(_) => Err(OpFault::NoMemory),
     }
 }
 
-// A count over time with one more value.
-fn counts_with(
+// Brings one more value into a count over time.
+fn counts_in(
     alloc: Global,
-    parts: Items<Part<Steady<Frac>>>,
+    parts: &mut Items<Part<Steady<Frac>>>,
     value: &Value,
-) -> Result<State, OpFault>
-    ensures with { (ty : _) → IsStateWith false AggKind.TCount ty (State.Counts parts) value.now result }
+) -> Result<(), OpFault>
+    ensures with { (ty : _) → IsStateWith false AggKind.TCount ty (State.Counts parts.old) value.now (made_in result (State.Counts parts.new)) }
 {
     match ones_on(alloc, value) {
-        Ok(Some(ones)) => match with_value::<Steady<Frac>, Counts>(
-            alloc,
-            parts.into_vec(),
-            1,
-            ones,
-        ) {
-            Ok(more) => Ok(State::Counts(Items::from_vec(more))),
-            Err(_) => Err(OpFault::NoMemory),
-        },
-        Ok(None) => Ok(State::Counts(parts)),
+        Ok(Some(ones)) => part_in::<Steady<Frac>, Counts>(alloc, parts, ones),
+        Ok(None) => Ok(()),
         Err(_) => Err(OpFault::NoMemory),
     }
 }
@@ -91,74 +96,48 @@ fn truths_copy(alloc: Global, value: &Value) -> Result<Option<Moving<Steady<bool
 {
     match value.copy(alloc)? {
         Value::MovingBool(moving) => Ok(Some(moving)),
-        _ => Ok(None),
+        other => {
+            drop(other);
+            Ok(None)
+        }
     }
 }
 
-// Says that the slices of a tbool are normal, by the clause of `slices`.
-fn is_normal(moving: &Moving<Steady<bool>>)
-    ensures normal { AreNormalBy (steady_course same_bool) moving.now }
-{
-    let _ = moving.slices();
-}
-
-// A conjunction over time with one more value.
-fn all_with(
+// Brings one more value into a conjunction or a disjunction over time.
+fn truths_in<U: Uniting<Steady<bool>>>(
     alloc: Global,
-    parts: Items<Part<Steady<bool>>>,
+    parts: &mut Items<Part<Steady<bool>>>,
     value: &Value,
-) -> Result<State, OpFault>
-    ensures with { (ty : _) → IsStateWith false AggKind.TAnd ty (State.All parts) value.now result }
+) -> Result<(), OpFault>
+    ensures more { OnOk result (AreTruthsWith U.op parts.old (truths_of value.now) parts.new) }
+    ensures memory { IfErr result (λ e. e ≡ OpFault.NoMemory) }
 {
     match truths_copy(alloc, value) {
         Ok(Some(moving)) => {
-            is_normal(&moving);
-            match with_value::<Steady<bool>, Conjunctions>(alloc, parts.into_vec(), 1, moving) {
-                Ok(more) => Ok(State::All(Items::from_vec(more))),
-                Err(_) => Err(OpFault::NoMemory),
-            }
+            // The clause of `slices` says that they are normal.
+            let _ = moving.slices();
+            part_in::<Steady<bool>, U>(alloc, parts, moving)
         }
-        Ok(None) => Ok(State::All(parts)),
+        Ok(None) => Ok(()),
         Err(_) => Err(OpFault::NoMemory),
     }
 }
 
-// A disjunction over time with one more value.
-fn any_with(
-    alloc: Global,
-    parts: Items<Part<Steady<bool>>>,
-    value: &Value,
-) -> Result<State, OpFault>
-    ensures with { (ty : _) → IsStateWith false AggKind.TOr ty (State.Any parts) value.now result }
-{
-    match truths_copy(alloc, value) {
-        Ok(Some(moving)) => {
-            is_normal(&moving);
-            match with_value::<Steady<bool>, Disjunctions>(alloc, parts.into_vec(), 1, moving) {
-                Ok(more) => Ok(State::Any(Items::from_vec(more))),
-                Err(_) => Err(OpFault::NoMemory),
-            }
-        }
-        Ok(None) => Ok(State::Any(parts)),
-        Err(_) => Err(OpFault::NoMemory),
-    }
-}
-
-/// An aggregate with one more value, where `before` is that of the values without it.
+/// Brings one more value into an aggregate, where `state` is that of the values without it.
 ///
 /// `Passed` names the formula that adding the value passes: F2 of `+` for a count or a sum, and for
 /// a sum over time the first formula of `+` at each instant. NULL is left out but by `count(*)`.
-pub fn state_with(alloc: Global, agg: Agg, before: State, value: &Value) -> Result<State, OpFault>
-    ensures with { IsStateWith (leaves_out agg.kind value.now) agg.kind agg.ty before value.now result }
+pub fn state_in(alloc: Global, agg: Agg, state: &mut State, value: &Value) -> Result<(), OpFault>
+    ensures with { IsStateWith (leaves_out agg.kind value.now) agg.kind agg.ty state.old value.now (made_in result state.new) }
 {
     if leaves_out(agg.kind, value) {
-        return Ok(before);
+        return Ok(());
     }
-    match before {
-        State::Whole(before) => whole_with(alloc, agg, before, value),
-        State::Counts(parts) => counts_with(alloc, parts, value),
-        State::All(parts) => all_with(alloc, parts, value),
-        State::Any(parts) => any_with(alloc, parts, value),
+    match state {
+        State::Whole(before) => aggregate_in(alloc, agg, before, value),
+        State::Counts(parts) => counts_in(alloc, parts, value),
+        State::All(parts) => truths_in::<Conjunctions>(alloc, parts, value),
+        State::Any(parts) => truths_in::<Disjunctions>(alloc, parts, value),
     }
 }
 

@@ -1,6 +1,20 @@
-use Rattle.std.proofs.Common.{refl}
-use Rattle.std.proofs.lemmas.Result.{IfOk-weaker}
+use Rattle.std.proofs.Common.{Ok, Err, None, refl, sym, subst}
+use Rattle.std.proofs.lemmas.Result.{IfErr-weaker, IfOk-weaker}
+use Rattle.mob_typed.specs.Trees.{typed_of}
+use Rattle.mob_eval.specs.Views.{scene_of}
+use Rattle.mob_ordinary.specs.Faults.{OnPassed}
+use Rattle.mob_tail.specs.GroupSteps.{IsAggregateOn, IsColumnWith}
+use Rattle.mob_tail.proofs.Making.{on_passed}
 use Rattle.mob_tail.proofs.group_cells.cell_with.Goals as goal
 
-pub returns : goal.returns
-returns c = record { with = IfOk-weaker c.column_with.result _ _ (λ u h. record { column = refl; state = h }) c.column_with.ensures.value; fault = c.column_with.ensures.fault }
+pub returns-in-Some : goal.returns-in-Some
+returns-in-Some c =
+    let s = scene_of c.args.view.now in
+    let old = c.args.cell.now in
+    let e = typed_of old.column.expression.now in
+    let agg = c.in-Some.agg in
+    let first = c.args.is_first in
+    record {
+      with = IfOk-weaker c.aggregate_on.result _ _ (λ u h. record { column = refl; state = subst (λ a. IsColumnWith s (e, a) old.state first (Ok c.aggregate_on.new.state)) (sym c.in-Some.is) h }) c.aggregate_on.ensures.value;
+      fault = IfErr-weaker c.aggregate_on.result _ _ (λ x h. on_passed (λ f. IsAggregateOn s e agg old.state (Err f)) (λ f. IsColumnWith s (e, old.column.agg) old.state first (Err f)) (λ f k. subst (λ a. IsColumnWith s (e, a) old.state first (Err f)) (sym c.in-Some.is) k) x h) c.aggregate_on.ensures.fault;
+    }

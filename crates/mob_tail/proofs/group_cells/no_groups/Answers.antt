@@ -1,5 +1,6 @@
-use Rattle.std.proofs.Common.{sym, ap, subst, arith, length}
+use Rattle.std.proofs.Common.{None, refl, sym, ap, subst, arith, length}
 use Rattle.std.specs.List.{AllByRecursion}
+use Rattle.mob_tail.specs.declared.group_cells.Group.{Group}
 use Rattle.mob_tail.specs.GroupSteps.{IsStartGroup}
 use Rattle.mob_list.proofs.Each.{each_more}
 use Rattle.mob_tail.proofs.TupleSteps.{length_more}
@@ -9,8 +10,10 @@ pub loop-preserved : goal.loop-preserved
 loop-preserved c =
     let P = IsStartGroup c.args.columns.now in
     let pushed = ap length c.in_ok-push.ensures.items in
-    let more = length_more c.loop.groups.items c.in_ok-no_group.field-0 in
+    let group : Group = record { first = None; cells = c.in_ok-cells.cells } in
+    let start : IsStartGroup c.args.columns.now group = record { first = refl; cells = c.in_ok-cells.ensures.start } in
+    let more = length_more c.loop.groups.items group in
     record {
-      start = subst (AllByRecursion P) (sym c.in_ok-push.ensures.items) (each_more P c.loop.groups.items c.in_ok-no_group.field-0 c.loop.invariant.start c.in_ok-no_group.ensures.start);
+      start = subst (AllByRecursion P) (sym c.in_ok-push.ensures.items) (each_more P c.loop.groups.items group c.loop.invariant.start start);
       count = omega (arith, pushed, more, c.loop.invariant.count);
     }
