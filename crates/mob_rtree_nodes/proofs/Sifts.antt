@@ -11,7 +11,8 @@ use Rattle.std.proofs.lemmas.Option.{get_or_from_slice_get, slice_get_read, slic
 use Rattle.mob_stbox.specs.Boxes.{is_whole}
 use Rattle.mob_rtree_nodes.specs.Tree.{Kid, EntryOf, entry_of, target, if_live, is_fit, is_kind, Ref, IsTree, IsSoundNode, nodes_sum, kids_sum, refs_sum, entries_sum, entries_list, height_at}
 use Rattle.mob_rtree_nodes.specs.Builds.{leaf_sum}
-use Rattle.mob_rtree_nodes.specs.Ids.{is_among, without_ids}
+use Rattle.mob_live.specs.Rows.{is_among}
+use Rattle.mob_rtree_nodes.specs.Ids.{without_ids}
 use Rattle.mob_rtree_nodes.specs.Sifts.{left_entry, left_node, left_kid, IsSiftedNode, IsSifted, IsSiftedAt, IsSiftedUpTo, IsTreeLeft}
 use Rattle.mob_rtree_nodes.specs.declared.node.TreeNode.{TreeNode}
 use Rattle.mob_rtree_nodes.proofs.Sums.{same_sums, height_of, node_at, live_is}

@@ -3,7 +3,8 @@ use Rattle.std.specs.Prelude.{◌≡◌, ◌⊎◌, ℕ, ◌<◌, ◌≤◌, ◌
 use Rattle.std.specs.List.{filter_map}
 use Rattle.mob_stbox.specs.Boxes.{BoxOf}
 use Rattle.mob_rtree_nodes.specs.Tree.{Kid, target, Ref, IsTree, IsSoundNode, AreSame, entries_list}
-use Rattle.mob_rtree_nodes.specs.Ids.{is_among, without_ids}
+use Rattle.mob_live.specs.Rows.{is_among}
+use Rattle.mob_rtree_nodes.specs.Ids.{without_ids}
 use Rattle.mob_rtree_nodes.specs.declared.node.TreeNode.{TreeNode}
 
 -- an entry, unless its id is one of these

@@ -6,7 +6,6 @@
 #![tactic(auto)]
 
 mod build;
-pub mod ids;
 mod insert;
 mod lengths;
 pub mod node;

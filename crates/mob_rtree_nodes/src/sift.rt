@@ -7,10 +7,10 @@ ghost use Rattle.arrayvec.specs.ArrayVec.{array_vec_len};
 ghost use Rattle.mob_rtree_nodes.specs.Tree.{IsTree, IsSoundNode, IsFree, Ref, if_dropped, is_fit, kids_at};
 ghost use Rattle.mob_rtree_nodes.specs.Sifts.{IsSifted, IsSiftedAt, IsSiftedUpTo, left_entry, left_kid, left_node};
 
-use crate::ids::is_among;
 use crate::insert::cover_all;
 use crate::node::{Child, TreeNode};
 use arrayvec::ArrayVec;
+use mob_live::rows::is_among;
 use mob_stbox::StBox;
 
 /// What is left of an entry.

@@ -5,7 +5,7 @@ use Rattle.std.specs.Ordering.{nat_cmp}
 use Rattle.std.specs.List.Sorted.{IsBinarySearchResult, IsNonDecreasing}
 use Rattle.std.proofs.lemmas.List.Sorted.{searched}
 use Rattle.std.proofs.lemmas.Bool.{eq-eqb, ltb-true, ltb-false, ne_eqb}
-use Rattle.mob_rtree_nodes.specs.Ids.{is_among}
+use Rattle.mob_live.specs.Rows.{is_among}
 
 pub at_among : (xs : List ℕ) (x i : ℕ) → i < length xs → get_or xs i 0 ≡ x → is_among x xs ≡ true
 at_among [] x i lt e = absurd (omega (arith, lt))

@@ -1,8 +1,8 @@
 use Rattle.std.proofs.Common.{◌∙◌, Ok, Err, List, ℕ, subst}
 use Rattle.std.specs.List.Sorted.{IsBinarySearchResult}
 use Rattle.std.specs.Ordering.{nat_cmp}
-use Rattle.mob_catalog.proofs.Deleting.{found_left, missed_left}
-use Rattle.mob_catalog.proofs.catalog.leave_one_out.Goals as goal
+use Rattle.mob_live.proofs.Left.{found_left, missed_left}
+use Rattle.mob_live.proofs.rows.leave_one_out.Goals as goal
 
 pub returns-in-Ok : goal.returns-in-Ok
 returns-in-Ok c =

@@ -1,5 +1,5 @@
-use Rattle.mob_catalog.proofs.Deleting.{not_falling}
-use Rattle.mob_catalog.proofs.catalog.leave.Goals as goal
+use Rattle.mob_live.proofs.Rising.{not_falling}
+use Rattle.mob_live.proofs.rows.leave.Goals as goal
 
 pub leave_out-requires : goal.leave_out-requires
 leave_out-requires c = record { rising = not_falling c.args.gone.now c.requires.rising }
