@@ -98,3 +98,15 @@ copies_both e f (x ∷ xs) ys same h k = (h.0, each_both (λ z. z ≡ e) xs ys h
 pub same_node : (e f : TExpr) → (out-TExpr e).op ≡ (out-TExpr f).op → (out-TExpr e).ty ≡ (out-TExpr f).ty → (out-TExpr e).place ≡ (out-TExpr f).place
     → map typed_of (out-TExpr e).args.items ≡ map typed_of (out-TExpr f).args.items → typed_of e ≡ typed_of f
 same_node e f o ty p args = typed_is e ∙ (λ i. typed (o i) (ty i) (p i) (typed_trees (args i))) ∙ sym (typed_is f)
+
+-- ---- the loops
+
+-- two lists of nodes are the same trees where their first nodes and their rests are
+pub same_front : (xs ys us vs : List TExpr) (x y : TExpr) → xs ≡ x ∷ us → ys ≡ y ∷ vs → typed_of x ≡ typed_of y → map typed_of us ≡ map typed_of vs → map typed_of xs ≡ map typed_of ys
+same_front xs ys us vs x y ex ey h hs = ap (map typed_of) ex ∙ (λ i. h i ∷ hs i) ∙ sym (ap (map typed_of) ey)
+
+pub names_begin : (place : Option ℕ) (e : TExpr) (xs : List TExpr) → reads_only place (out-TExpr e).op ≡ true → xs ≡ (out-TExpr e).args.items → names_only place (typed_of e) ≡ all_name_only place (trees xs)
+names_begin place e xs h ex = ap (names_only place) (typed_is e) ∙ ap (λ b. b && all_name_only place (trees (out-TExpr e).args.items)) h ∙ ap (λ ys. all_name_only place (trees ys)) (sym ex)
+
+pub names_next : (place : Option ℕ) (b : Bool) (xs us : List TExpr) (x : TExpr) → b ≡ all_name_only place (trees xs) → xs ≡ x ∷ us → names_only place (typed_of x) ≡ true → b ≡ all_name_only place (trees us)
+names_next place b xs us x h ex n = h ∙ ap (λ ys. all_name_only place (trees ys)) ex ∙ ap (λ t. t && all_name_only place (trees us)) n

@@ -3,8 +3,8 @@ ghost use Rattle.std.specs.Prelude.{◌≡◌, ◌==◌, ◌++◌, true, List, m
 ghost use Rattle.mob_typed.specs.Trees.{TypedTree, typed_of, typed_trees};
 ghost use Rattle.mob_eval.specs.Remembered.{AreCopies, AreNodes, all_nodes_at, names_only, nodes_at, nodes_here, place_of, reads_only, root_seen};
 
-use crate::memory::Memory;
 use crate::memory::remembered::Remembering;
+use crate::memory::{Memory, remember};
 use mob_ast::SqlType;
 use mob_operators::Op;
 use mob_typed::TExpr;
@@ -330,8 +330,10 @@ fn remember_one<K: Remembering>(
                 return Ok(());
             }
             match chosen.what {
-                What::Outcome => memory.remember(alloc, chosen.at, chosen.place, rows),
-                What::Box => memory.remember_boxes(alloc, chosen.at, chosen.place, rows),
+                What::Outcome => {
+                    remember(alloc, chosen.at, chosen.place, rows, &mut memory.slots)
+                }
+                What::Box => remember(alloc, chosen.at, chosen.place, rows, &mut memory.boxes),
             }
         }
         _ => Ok(()),

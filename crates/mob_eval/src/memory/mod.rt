@@ -1,7 +1,7 @@
 //! Where the outcomes of remembered operators, and the boxes of remembered operands, are kept.
-ghost use Rattle.std.specs.Prelude.{◌≡◌, IfSome};
+ghost use Rattle.std.specs.Prelude.{IfSome};
 ghost use Rattle.mob_remembered.specs.Depends.{HasRow};
-ghost use Rattle.mob_eval.specs.Remembered.{IsOfPlace};
+ghost use Rattle.mob_eval.specs.Remembered.{IsCellOf, IsOfPlace};
 
 pub mod chosen;
 pub mod own_box;
@@ -53,12 +53,13 @@ pub struct Memory<K: Remembering> {
     taken: AtomicU64,
 }
 
-fn empty_chunk<T: Drop>(alloc: Global) -> Result<Chunk<T>, AllocError> {
-    let mut cells = Vec::with_capacity(alloc, CELLS)?;
-    for _cell in 0..CELLS {
+// So many cells, with nothing in them.
+fn empty_cells<T: Drop>(alloc: Global, many: usize) -> Result<Vec<OnceBox<T>>, AllocError> {
+    let mut cells = Vec::with_capacity(alloc, many)?;
+    for _cell in 0..many {
         cells.push(OnceBox::new(alloc))?;
     }
-    Ok(Chunk { cells })
+    Ok(cells)
 }
 
 // The chunk that is kept there. It is made if none is; if memory is refused there is none.
@@ -66,10 +67,10 @@ fn chunk_in<T: Drop>(alloc: Global, kept: &OnceBox<Chunk<T>>) -> Option<&Chunk<T
     if let Some(chunk) = kept.get() {
         return Some(chunk);
     }
-    let Ok(chunk) = empty_chunk(alloc) else {
+    let Ok(cells) = empty_cells(alloc, CELLS) else {
         return None;
     };
-    let Ok(boxed) = Box::new(alloc, chunk) else {
+    let Ok(boxed) = Box::new(alloc, Chunk { cells }) else {
         return None;
     };
     // Another worker may have put its chunk there first; then that one is used.
@@ -77,13 +78,16 @@ fn chunk_in<T: Drop>(alloc: Global, kept: &OnceBox<Chunk<T>>) -> Option<&Chunk<T
     kept.get()
 }
 
-// No chunks yet, for so many rows.
-fn no_chunks<T: Drop>(alloc: Global, rows: usize) -> Result<Vec<OnceBox<Chunk<T>>>, AllocError> {
-    let mut chunks = Vec::new(alloc);
-    for _chunk in 0..rows.div_ceil(CELLS) {
-        chunks.push(OnceBox::new(alloc))?;
-    }
-    Ok(chunks)
+// The cell of a row.
+fn kept_at<T: Drop>(alloc: Global, chunks: &[OnceBox<Chunk<T>>], row: u32) -> Option<&OnceBox<T>> {
+    let number = row as usize;
+    let Some(kept) = chunks.get(number / CELLS) else {
+        return None;
+    };
+    let Some(chunk) = chunk_in(alloc, kept) else {
+        return None;
+    };
+    chunk.cells.get(number % CELLS)
 }
 
 // The row of a tuple at a place.
@@ -97,37 +101,20 @@ fn row_at(place: Option<u32>, tuple: &[u32]) -> Option<u32>
 }
 
 impl<K: Remembering, T: Drop> Slot<K, T> {
-    // No cells yet, for so many rows.
-    fn new(
-        alloc: Global,
-        at: u32,
-        place: Option<u32>,
-        rows: usize,
-    ) -> Result<Slot<K, T>, AllocError>
-        requires fits { IsOfPlace K.recollection at place }
-    {
-        let chunks = no_chunks(alloc, rows)?;
-        Ok(Slot {
-            at,
-            place,
-            chunks,
-            by: PhantomData,
-        })
-    }
-
     // The cell of the row of a tuple. There is none where the table has no row in the tuple.
     fn cell<'a>(&'a self, alloc: Global, tuple: &[u32], taken: &'a AtomicU64) -> Option<Cell<'a, T>>
-        ensures at { IfSome result (λ c. c.at ≡ self.now.0) }
-        ensures row { IfSome result (λ c. HasRow c.place c.row tuple.now) }
-        ensures place { IfSome result (λ c. IsOfPlace K.recollection c.at c.place) }
+        ensures cell { IfSome result (λ c. IsCellOf K.recollection self.now.0 tuple.now c.at c.place c.row) }
     {
-        let row = row_at(self.place, tuple)?;
-        let number = row as usize;
-        let chunk = chunk_in(alloc, self.chunks.get(number / CELLS)?)?;
-        let kept = chunk.cells.get(number % CELLS)?;
+        let place = self.place;
+        let Some(row) = row_at(place, tuple) else {
+            return None;
+        };
+        let Some(kept) = kept_at(alloc, self.chunks.as_slice(), row) else {
+            return None;
+        };
         Some(Cell {
             at: self.at,
-            place: self.place,
+            place,
             row,
             kept,
             taken,
@@ -139,7 +126,7 @@ impl<K: Remembering> Memory<K> {
     /// The memory, if something is remembered, and none if nothing is: then no operator looks for a
     /// slot.
     pub fn in_use(&self) -> Option<&Memory<K>> {
-        if self.is_empty() {
+        if self.slots.is_empty() && self.boxes.is_empty() {
             return None;
         }
         Some(self)
@@ -153,45 +140,27 @@ impl<K: Remembering> Memory<K> {
             taken: AtomicU64::new(0),
         }
     }
+}
 
-    /// Whether nothing is remembered.
-    pub(crate) fn is_empty(&self) -> bool {
-        if !self.slots.is_empty() {
-            return false;
-        }
-        self.boxes.is_empty()
-    }
-
-    /// Remembers one more operator, by its place in the script. It names one place of FROM alone,
-    /// whose table has so many rows, or it names none.
-    pub(crate) fn remember(
-        &mut self,
-        alloc: Global,
-        at: u32,
-        place: Option<u32>,
-        rows: usize,
-    ) -> Result<(), AllocError>
-        requires fits { IsOfPlace K.recollection at place }
-    {
-        let slot = Slot::new(alloc, at, place, rows)?;
-        self.slots.push(slot)?;
-        Ok(())
-    }
-
-    /// Remembers the boxes of one more operand, in the same way.
-    pub(crate) fn remember_boxes(
-        &mut self,
-        alloc: Global,
-        at: u32,
-        place: Option<u32>,
-        rows: usize,
-    ) -> Result<(), AllocError>
-        requires fits { IsOfPlace K.recollection at place }
-    {
-        let slot = Slot::new(alloc, at, place, rows)?;
-        self.boxes.push(slot)?;
-        Ok(())
-    }
+// Remembers one more operator or operand, by its place in the script. It names one place of FROM
+// alone, whose table has so many rows, or it names none.
+fn remember<K: Remembering, T: Drop>(
+    alloc: Global,
+    at: u32,
+    place: Option<u32>,
+    rows: usize,
+    slots: &mut Vec<Slot<K, T>>,
+) -> Result<(), AllocError>
+    requires fits { IsOfPlace K.recollection at place }
+{
+    let chunks = empty_cells(alloc, rows.div_ceil(CELLS))?;
+    slots.push(Slot {
+        at,
+        place,
+        chunks,
+        by: PhantomData,
+    })?;
+    Ok(())
 }
 
 // The cell of what stands at a place of the script, on a tuple, if it has a slot.
@@ -202,9 +171,7 @@ fn cell_in<'a, K: Remembering, T: Drop>(
     at: u32,
     tuple: &[u32],
 ) -> Option<Cell<'a, T>>
-    ensures at { IfSome result (λ c. c.at ≡ at) }
-    ensures row { IfSome result (λ c. HasRow c.place c.row tuple.now) }
-    ensures place { IfSome result (λ c. IsOfPlace K.recollection c.at c.place) }
+    ensures cell { IfSome result (λ c. IsCellOf K.recollection at tuple.now c.at c.place c.row) }
 {
     for slot in slots {
         if slot.at == at {
@@ -221,9 +188,7 @@ pub fn cell_of<'a, K: Remembering>(
     at: u32,
     tuple: &[u32],
 ) -> Option<Cell<'a, Told<Outcomes<K>>>>
-    ensures at { IfSome result (λ c. c.at ≡ at) }
-    ensures row { IfSome result (λ c. HasRow c.place c.row tuple.now) }
-    ensures place { IfSome result (λ c. IsOfPlace K.recollection c.at c.place) }
+    ensures cell { IfSome result (λ c. IsCellOf K.recollection at tuple.now c.at c.place c.row) }
 {
     match memory {
         Some(memory) => cell_in(alloc, &memory.slots, &memory.taken, at, tuple),
@@ -238,9 +203,7 @@ pub fn box_cell_of<'a, K: Remembering>(
     at: u32,
     tuple: &[u32],
 ) -> Option<Cell<'a, ToldBox<K>>>
-    ensures at { IfSome result (λ c. c.at ≡ at) }
-    ensures row { IfSome result (λ c. HasRow c.place c.row tuple.now) }
-    ensures place { IfSome result (λ c. IsOfPlace K.recollection c.at c.place) }
+    ensures cell { IfSome result (λ c. IsCellOf K.recollection at tuple.now c.at c.place c.row) }
 {
     match memory {
         Some(memory) => cell_in(alloc, &memory.boxes, &memory.taken, at, tuple),

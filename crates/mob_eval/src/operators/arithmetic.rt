@@ -3,7 +3,6 @@ ghost use Rattle.std.specs.Prelude.{◌≡◌, ◌||◌, true, IfOk};
 ghost use Rattle.std.specs.List.{flat_map};
 ghost use Rattle.mob_frac.specs.Fits.{IsExact};
 ghost use Rattle.mob_arith.specs.Termwise.{entries_at_ends};
-ghost use Rattle.mob_value.specs.declared.value.Value.TheVariants.{Number};
 ghost use Rattle.mob_slice.specs.Entries.{IsFirst, IsJudged};
 ghost use Rattle.mob_slice.specs.Operands.{steady_value, steady_parts, IsPointwise};
 ghost use Rattle.mob_slice.specs.Sides.{operand_of, has_slices, given_at, pieces};
@@ -99,27 +98,24 @@ pub fn calculate(
     }
 }
 
-fn number_division(left: &Frac, right: &Frac) -> Result<Value, OpFault>
-    ensures outcome { IsOutcome (λ v. v ≡ quotient (Number left.now) (Number right.now)) (IsFirst (plain_entries (divided_parts left.now right.now))) result }
-{
-    if is_nil(right) {
-        return Ok(Value::Null);
-    }
-    match left.div(right) {
-        Ok(number) => Ok(Value::Number(number)),
-        Err(_) => Err(OpFault::Passed {
-            formula: Formula::F2,
-        }),
-    }
-}
-
 // `/` between two values. NULL where the divisor is 0.
 fn plain_division(left: &Value, right: &Value) -> Result<Value, OpFault>
     ensures outcome { IsOutcome (λ v. v ≡ quotient left.now right.now) (IsFirst (plain_entries (parts_on divided_parts left.now right.now))) result }
 {
-    match (left, right) {
-        (Value::Number(a), Value::Number(b)) => number_division(a, b),
-        _ => Ok(Value::Null),
+    let Value::Number(a) = left else {
+        return Ok(Value::Null);
+    };
+    let Value::Number(b) = right else {
+        return Ok(Value::Null);
+    };
+    if is_nil(b) {
+        return Ok(Value::Null);
+    }
+    match a.div(b) {
+        Ok(number) => Ok(Value::Number(number)),
+        Err(_) => Err(OpFault::Passed {
+            formula: Formula::F2,
+        }),
     }
 }
 

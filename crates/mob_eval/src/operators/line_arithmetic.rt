@@ -1,50 +1,47 @@
 //! Arithmetic at each instant on numbers that change evenly.
-
-ghost use Rattle.mob_frac.specs.Formula.{sum_parts, difference_parts, product_parts};
-ghost use Rattle.mob_arith.specs.Operations.{sum_of, difference_of, product_of};
+ghost use Rattle.std.specs.Prelude.{◌≢◌};
+ghost use Rattle.mob_frac.specs.Formula.{product_parts};
+ghost use Rattle.mob_arith.specs.Operations.{product_of};
 ghost use Rattle.mob_arith.specs.Termwise.{entries_at_ends};
 ghost use Rattle.mob_slice.specs.Entries.{IsFirst};
 ghost use Rattle.mob_slice.specs.Lines.{line_value_of, line_parts_of};
 ghost use Rattle.mob_slice.specs.Operands.{steady_value, steady_parts};
-ghost use Rattle.mob_meaning.specs.Arithmetic.{IsLineArithmetic, IsQuotientOf, IsLineQuotient, line_entries, quotient_entries, line_quotient_entries};
+ghost use Rattle.mob_meaning.specs.Arithmetic.{IsLineArithmetic, IsLineQuotient, line_entries, line_quotient_entries};
+ghost use Rattle.mob_meaning.specs.declared.choices.Calculation.TheVariants.{Product};
+ghost use Rattle.mob_meaning.specs.Calculations.{result_by, parts_by};
 ghost use Rattle.mob_meaning.specs.Lifted.{OnOperands, entries_on};
 ghost use Rattle.mob_meaning.specs.Lines.{as_line, frac_pair, line_pair, factors, product_pair, IsMovingFrac};
-ghost use Rattle.mob_ordinary.specs.Ordinary.{is_nil};
 ghost use Rattle.mob_eval.specs.Outcomes.{IsOutcome};
 
 use crate::operators::lines::{as_line, as_lines};
 use crate::operators::pair::{factors, frac_pair};
 use mob_arith::{minus, over_const, plus, times};
-use mob_frac::Frac;
 use mob_meaning::Calculation;
 use mob_ordinary::kinds::frac_or_null;
 use mob_ordinary::numbers::is_nil;
-use mob_slice::{Line, Moving, OpFault};
+use mob_slice::OpFault;
 use mob_value::Value;
 use std::alloc::Global;
 use std::mem::drop;
 
-fn frac_sum(alloc: Global, left: &Value, right: &Value) -> Result<Value, OpFault>
-    ensures outcome { IsOutcome (OnOperands line_value_of line_value_of (frac_pair left.now right.now) (IsMovingFrac sum_of)) (IsFirst (entries_on (entries_at_ends line_value_of line_parts_of line_value_of line_parts_of sum_parts) (frac_pair left.now right.now))) result }
+// The sum or the difference of numbers that change evenly.
+fn frac_terms(alloc: Global, by: Calculation, left: &Value, right: &Value) -> Result<Value, OpFault>
+    requires term { by ≢ Product }
+    ensures outcome { IsOutcome (OnOperands line_value_of line_value_of (frac_pair left.now right.now) (IsMovingFrac (result_by by))) (IsFirst (entries_on (entries_at_ends line_value_of line_parts_of line_value_of line_parts_of (parts_by by)) (frac_pair left.now right.now))) result }
 {
-    match frac_pair(left, right) {
-        Some((left, right)) => match plus(alloc, left, right) {
+    let Some((left, right)) = frac_pair(left, right) else {
+        return Ok(Value::Null);
+    };
+    match by {
+        Calculation::Sum => match plus(alloc, left, right) {
             Ok(value) => Ok(frac_or_null(value)),
             Err(fault) => Err(fault),
         },
-        None => Ok(Value::Null),
-    }
-}
-
-fn frac_difference(alloc: Global, left: &Value, right: &Value) -> Result<Value, OpFault>
-    ensures outcome { IsOutcome (OnOperands line_value_of line_value_of (frac_pair left.now right.now) (IsMovingFrac difference_of)) (IsFirst (entries_on (entries_at_ends line_value_of line_parts_of line_value_of line_parts_of difference_parts) (frac_pair left.now right.now))) result }
-{
-    match frac_pair(left, right) {
-        Some((left, right)) => match minus(alloc, left, right) {
+        Calculation::Difference => match minus(alloc, left, right) {
             Ok(value) => Ok(frac_or_null(value)),
             Err(fault) => Err(fault),
         },
-        None => Ok(Value::Null),
+        Calculation::Product => unreachable!(),
     }
 }
 
@@ -60,27 +57,16 @@ fn frac_product(alloc: Global, left: &Value, right: &Value) -> Result<Value, OpF
     }
 }
 
-fn line_sum(alloc: Global, left: &Value, right: &Value) -> Result<Value, OpFault>
-    ensures outcome { IsOutcome (OnOperands line_value_of line_value_of (line_pair left.now right.now) (IsMovingFrac sum_of)) (IsFirst (entries_on (entries_at_ends line_value_of line_parts_of line_value_of line_parts_of sum_parts) (line_pair left.now right.now))) result }
+// The sum or the difference, a tint among them.
+fn line_terms(alloc: Global, by: Calculation, left: &Value, right: &Value) -> Result<Value, OpFault>
+    requires term { by ≢ Product }
+    ensures outcome { IsOutcome (OnOperands line_value_of line_value_of (line_pair left.now right.now) (IsMovingFrac (result_by by))) (IsFirst (entries_on (entries_at_ends line_value_of line_parts_of line_value_of line_parts_of (parts_by by)) (line_pair left.now right.now))) result }
 {
     match as_lines(alloc, left, right) {
         Ok((left, right)) => {
-            let sum = frac_sum(alloc, left.get(), right.get());
+            let value = frac_terms(alloc, by, left.get(), right.get());
             drop((left, right));
-            sum
-        }
-        Err(_) => Err(OpFault::NoMemory),
-    }
-}
-
-fn line_difference(alloc: Global, left: &Value, right: &Value) -> Result<Value, OpFault>
-    ensures outcome { IsOutcome (OnOperands line_value_of line_value_of (line_pair left.now right.now) (IsMovingFrac difference_of)) (IsFirst (entries_on (entries_at_ends line_value_of line_parts_of line_value_of line_parts_of difference_parts) (line_pair left.now right.now))) result }
-{
-    match as_lines(alloc, left, right) {
-        Ok((left, right)) => {
-            let difference = frac_difference(alloc, left.get(), right.get());
-            drop((left, right));
-            difference
+            value
         }
         Err(_) => Err(OpFault::NoMemory),
     }
@@ -120,30 +106,27 @@ pub fn line_calculated(
     ensures outcome { IsOutcome (IsLineArithmetic by left.now right.now) (IsFirst (line_entries by left.now right.now)) result }
 {
     match by {
-        Calculation::Sum => line_sum(alloc, left, right),
-        Calculation::Difference => line_difference(alloc, left, right),
+        Calculation::Sum => line_terms(alloc, by, left, right),
+        Calculation::Difference => line_terms(alloc, by, left, right),
         Calculation::Product => line_product(alloc, left, right),
-    }
-}
-
-fn quotient_of(alloc: Global, a: &Moving<Line>, k: &Frac) -> Result<Value, OpFault>
-    ensures outcome { IsOutcome (IsQuotientOf (is_nil k.now) a.now k.now) (IsFirst (quotient_entries (is_nil k.now) a.now k.now)) result }
-{
-    if is_nil(k) {
-        return Ok(Value::Null);
-    }
-    match over_const(alloc, a, k) {
-        Ok(value) => Ok(frac_or_null(Some(value))),
-        Err(fault) => Err(fault),
     }
 }
 
 fn frac_quotient(alloc: Global, left: &Value, right: &Value) -> Result<Value, OpFault>
     ensures outcome { IsOutcome (IsLineQuotient left.now right.now) (IsFirst (line_quotient_entries left.now right.now)) result }
 {
-    match (left, right) {
-        (Value::MovingFrac(a), Value::Number(k)) => quotient_of(alloc, a, k),
-        _ => Ok(Value::Null),
+    let Value::MovingFrac(a) = left else {
+        return Ok(Value::Null);
+    };
+    let Value::Number(k) = right else {
+        return Ok(Value::Null);
+    };
+    if is_nil(k) {
+        return Ok(Value::Null);
+    }
+    match over_const(alloc, a, k) {
+        Ok(value) => Ok(frac_or_null(Some(value))),
+        Err(fault) => Err(fault),
     }
 }
 

@@ -1,5 +1,5 @@
 //! Each operator, on the values of its operands.
-ghost use Rattle.std.specs.Prelude.{◌≡◌, IfOk, None};
+ghost use Rattle.std.specs.Prelude.{◌≡◌, IfOk};
 ghost use Rattle.mob_eval.specs.Views.{scene_of};
 ghost use Rattle.mob_meaning.specs.Operators.{GivesOfOne, GivesOfTwo, GivesOfThree, OnEntriesOfTwo, entries_of_three};
 ghost use Rattle.mob_eval.specs.SoFar.{operand_types};

@@ -1,6 +1,6 @@
 //! The signs that compare two values over time: `#` at each instant, `?` at some instant, `%` at
 //! every instant.
-ghost use Rattle.std.specs.Prelude.{◌≡◌, ◌||◌, true, false, [], Some, IfErr, IfSome, option_map};
+ghost use Rattle.std.specs.Prelude.{◌≡◌, ◌||◌, true, false, [], IfErr, IfSome, option_map};
 ghost use Rattle.mob_slice.specs.Comparison.{MayAsk};
 ghost use Rattle.mob_slice.specs.Entries.{IsFirst};
 ghost use Rattle.mob_slice.specs.LineComparison.{number_gaps, number_relates};
@@ -8,7 +8,7 @@ ghost use Rattle.mob_slice.specs.Lines.{line_value_of, line_parts_of};
 ghost use Rattle.mob_slice.specs.Ranks.{holds};
 ghost use Rattle.mob_slice.specs.Sides.{operand_of, has_slices};
 ghost use Rattle.mob_meaning.specs.Lifted.{OnPair, OnOperands, entries_on, operands_of};
-ghost use Rattle.mob_meaning.specs.Lines.{frac_pair, line_pair};
+ghost use Rattle.mob_meaning.specs.Lines.{line_pair};
 ghost use Rattle.mob_meaning.specs.Signs.{IsAsked, IsOrderTest, IsAnyTest, IsSignTest, entries_asked, order_entries, any_entries, sign_entries};
 ghost use Rattle.mob_eval.specs.Outcomes.{IsOutcome};
 
@@ -72,19 +72,6 @@ fn steps_asked<B: Ranked + Drop>(
     }
 }
 
-// What the sign gives of two values of which one is a tfrac, and none a tint.
-fn fracs_asked(
-    alloc: Global,
-    scope: Scope,
-    rel: Rel,
-    left: &Value,
-    right: &Value,
-) -> Result<Value, OpFault>
-    ensures outcome { IsOutcome (OnOperands line_value_of line_value_of (frac_pair left.now right.now) (IsAsked scope (number_relates rel))) (IsFirst (entries_on (entries_asked scope line_value_of line_parts_of number_gaps) (frac_pair left.now right.now))) result }
-{
-    asked(alloc, scope, rel, frac_pair(left, right))
-}
-
 // What the sign gives of numbers that change evenly, a tint among them.
 fn lines_asked(
     alloc: Global,
@@ -97,7 +84,7 @@ fn lines_asked(
 {
     match as_lines(alloc, left, right) {
         Ok((left, right)) => {
-            let answer = fracs_asked(alloc, scope, rel, left.get(), right.get());
+            let answer = asked(alloc, scope, rel, frac_pair(left.get(), right.get()));
             drop((left, right));
             answer
         }

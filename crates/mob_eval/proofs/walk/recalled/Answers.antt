@@ -1,0 +1,8 @@
+use Rattle.mob_eval.specs.Views.{scene_of}
+use Rattle.mob_eval.proofs.Recalled.{recalled_says}
+use Rattle.mob_eval.proofs.walk.recalled.Goals as goal
+
+pub returns-in-Some : goal.returns-in-Some
+returns-in-Some g c =
+    let cell = c.in-Some.cell in
+    record { says = recalled_says g.K.Remembering.recollection (scene_of c.args.view.now) c.args.e.now cell.at cell.place cell.row c.requires.fits (rw c.in-Some.is at c.requires.cell) c.told.result c.told.ensures.told }
