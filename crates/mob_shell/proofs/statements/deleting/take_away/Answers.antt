@@ -2,7 +2,8 @@ use Rattle.std.proofs.Common.{◌≡◌, ◌∙◌, ◌<◌, ap, sym, subst, get
 use Rattle.std.specs.List.{AllByRecursion}
 use Rattle.mob_typed.specs.Selects.{select_seen}
 use Rattle.mob_typed.specs.Written.{Rises}
-use Rattle.mob_catalog.specs.Catalogue.{is_among, live_rows}
+use Rattle.mob_live.specs.Rows.{is_among}
+use Rattle.mob_catalog.specs.Catalogue.{live_rows}
 use Rattle.mob_join.specs.Deleted.{first_rows}
 use Rattle.mob_shell.specs.Deletes.{table_of}
 use Rattle.mob_shell.proofs.DeletedRows.{kept_can_go}
