@@ -53,9 +53,8 @@ pub fn differences(
                 });
             }
         };
-        match add(&mut out, next) {
-            Ok(()) => {}
-            Err(_) => return Err(OpFault::NoMemory),
+        if add(&mut out, next).is_err() {
+            return Err(OpFault::NoMemory);
         }
     }
     Ok(out)
@@ -75,9 +74,8 @@ pub fn times(alloc: Global, c: &Frac, low: i64, high: i64) -> Result<Vec<Frac>, 
                 });
             }
         };
-        match add(&mut out, next) {
-            Ok(()) => {}
-            Err(_) => return Err(OpFault::NoMemory),
+        if add(&mut out, next).is_err() {
+            return Err(OpFault::NoMemory);
         }
     }
     Ok(out)
