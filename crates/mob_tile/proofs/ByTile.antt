@@ -20,9 +20,9 @@ use Rattle.mob_slice.specs.declared.slice.Slice.{Slice}
 use Rattle.mob_slice.specs.declared.line.PlaneLine.{PlaneLine}
 use Rattle.mob_slice.proofs.Orders.{ordered-clear}
 use Rattle.mob_cells.specs.Restricted.{where_wanted, kept_value}
-use Rattle.mob_tile.specs.Tiles.{GridOf, IsGrid, InTile, in_tile, tile_of, compare_tiles}
-use Rattle.mob_tile.specs.declared.tile.Tile.{Tile}
-use Rattle.mob_tile.proofs.Ranges.{tile_has, tile_is, in_tile_exact}
+use Rattle.mob_grid.specs.Tiles.{GridOf, IsGrid, InTile, in_tile, tile_of, compare_tiles}
+use Rattle.mob_grid.specs.declared.tile.Tile.{Tile}
+use Rattle.mob_grid.proofs.Ranges.{tile_has, tile_is, in_tile_exact}
 use Rattle.mob_tile.specs.declared.pieces.Piece.{Piece}
 use Rattle.mob_tile.specs.Pieces.{slices_of, IsInItsTile, ArePieces}
 use Rattle.mob_tile.specs.Groups.{piece_before, same_tile, IsByTile, group_with, tile_groups, IsTileGroup, IsPartOfGroup, IsPartPushed, AreParts, IsGrouping}

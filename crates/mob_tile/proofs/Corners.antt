@@ -20,8 +20,8 @@ use Rattle.mob_slice.specs.Lines.{plane_value_of}
 use Rattle.mob_slice.specs.declared.slice.Slice.{Slice}
 use Rattle.mob_slice.specs.declared.line.PlaneLine.{PlaneLine}
 use Rattle.mob_cells.proofs.Keeps.{upto_of}
-use Rattle.mob_tile.specs.Tiles.{GridOf, InRange, tile_of}
-use Rattle.mob_tile.specs.declared.tile.TileRange.{TileRange}
+use Rattle.mob_grid.specs.Tiles.{GridOf, InRange, tile_of}
+use Rattle.mob_grid.specs.declared.tile.TileRange.{TileRange}
 use Rattle.mob_tile.specs.Pieces.{Reaches, least_of, greatest_of}
 use Rattle.mob_tile.proofs.Cutting.{greater_left, greater_right, ends_rise}
 use Rattle.mob_tile.proofs.Walking.{up_trans}

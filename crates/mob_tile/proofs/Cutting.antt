@@ -34,9 +34,9 @@ use Rattle.mob_cells.specs.Roots.{IsLevel, root_of, roots, as_list}
 use Rattle.mob_cells.specs.Cells.{IsIn, AreSplit, IsSomeEnd, NoneWithin, is_cell_of, start_cells}
 use Rattle.mob_cells.proofs.Splits.{start_are}
 use Rattle.mob_cells.proofs.Standing.{each_in, one_in}
-use Rattle.mob_tile.specs.Bands.{band_of}
-use Rattle.mob_tile.specs.Tiles.{GridOf, IsGrid}
-use Rattle.mob_tile.proofs.BandNumbers.{band_has, bands_rise, edges_lt}
+use Rattle.mob_grid.specs.Bands.{band_of}
+use Rattle.mob_grid.specs.Tiles.{GridOf, IsGrid}
+use Rattle.mob_grid.proofs.BandNumbers.{band_has, bands_rise, edges_lt}
 use Rattle.mob_tile.specs.Edges.{count_up, natural, numbers_between, edge_of, edge_ends, edges_between, x_edges, y_edges, t_edges, differences, cuts_of}
 use Rattle.mob_tile.specs.Pieces.{split_all, IsRisingFrom, HasOneTile, AreTileCells}
 use Rattle.mob_cells.proofs.Making.{in_front, in_back}

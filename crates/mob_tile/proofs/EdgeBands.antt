@@ -17,8 +17,8 @@ use Rattle.mob_plane.specs.Corners.{smaller}
 use Rattle.mob_plane.proofs.Widening.{smaller_left, smaller_right}
 use Rattle.mob_cells.specs.Cells.{NoneWithin, is_cell, is_cell_of}
 use Rattle.mob_cells.proofs.Keeps.{kept, upto_of}
-use Rattle.mob_tile.specs.Bands.{InBand, band_of}
-use Rattle.mob_tile.proofs.BandNumbers.{band_has}
+use Rattle.mob_grid.specs.Bands.{InBand, band_of}
+use Rattle.mob_grid.proofs.BandNumbers.{band_has}
 use Rattle.mob_tile.specs.Edges.{edge_of}
 
 -- ---- the ends of a cell

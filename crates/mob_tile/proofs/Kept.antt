@@ -24,9 +24,9 @@ use Rattle.mob_lifted.proofs.OnOnePiece.{one_kept}
 use Rattle.mob_cells.proofs.Making.{are_cells}
 use Rattle.mob_cells.proofs.Restricting.{IsMade, made_step, made_end, kept_fault}
 use Rattle.mob_cells.proofs.BySlices.{IsLeft, left_step, left_end, IsFitting, fitting_start, fitting_step, fitting_fails, fitting_end}
-use Rattle.mob_tile.specs.Tiles.{GridOf, InTile, tile_of}
-use Rattle.mob_tile.specs.declared.tile.Tile.{Tile}
-use Rattle.mob_tile.specs.declared.tile.TileRange.{TileRange}
+use Rattle.mob_grid.specs.Tiles.{GridOf, InTile, tile_of}
+use Rattle.mob_grid.specs.declared.tile.Tile.{Tile}
+use Rattle.mob_grid.specs.declared.tile.TileRange.{TileRange}
 use Rattle.mob_tile.specs.declared.pieces.Piece.{Piece}
 use Rattle.mob_tile.specs.Edges.{cuts_of, entry_of_values, entries_of_slice}
 use Rattle.mob_tile.specs.Pieces.{slices_of, IsInItsTile, HasOneTile, tile_on, least_of, AreTileCells, ArePiecesOf, ArePieces, IsPushed, Reaches}

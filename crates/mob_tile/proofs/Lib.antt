@@ -1,16 +1,13 @@
-pub mod BandNumbers
 pub mod ByTile
 pub mod Corners
 pub mod Cutting
 pub mod EdgeBands
 pub mod Kept
 pub mod Limits
-pub mod Machine
 pub mod Numbers
 pub mod OneAnswer
 pub mod OneSplit
 pub mod Parts
-pub mod Ranges
 pub mod Roots
 pub mod SharedTiles
 pub mod TileOrder

@@ -8,8 +8,8 @@ use Rattle.mob_slice.specs.declared.formula.Formula.{Formula}
 use Rattle.mob_slice.proofs.Firsts.{one_first}
 use Rattle.mob_tile.specs.Edges.{entries_of_slice}
 use Rattle.mob_tile.specs.Split.{OnRange, SplitAnswer}
-use Rattle.mob_tile.specs.Tiles.{GridOf, range_of, range_parts}
-use Rattle.mob_tile.specs.declared.tile.TileRange.{TileRange}
+use Rattle.mob_grid.specs.Tiles.{GridOf, range_of, range_parts}
+use Rattle.mob_grid.specs.declared.tile.TileRange.{TileRange}
 use Rattle.mob_tile.specs.declared.splitting.SplitFault.{SplitFault}
 use Rattle.mob_tile.specs.declared.splitting.SplitFault.TheVariants.{Passed, Limit, NoMemory}
 use Rattle.mob_tile.proofs.Limits.{one_area, one_time}

@@ -13,8 +13,8 @@ use Rattle.mob_slice.specs.declared.slice.Slice.{Slice}
 use Rattle.mob_slice.specs.declared.line.PlaneLine.{PlaneLine}
 use Rattle.mob_normal.proofs.Unique.{unique}
 use Rattle.mob_cells.specs.Restricted.{where_wanted}
-use Rattle.mob_tile.specs.Tiles.{GridOf, IsGrid, in_tile, tile_of, compare_tiles}
-use Rattle.mob_tile.specs.declared.tile.Tile.{Tile}
+use Rattle.mob_grid.specs.Tiles.{GridOf, IsGrid, in_tile, tile_of, compare_tiles}
+use Rattle.mob_grid.specs.declared.tile.Tile.{Tile}
 use Rattle.mob_tile.specs.Split.{IsTilePart, IsSplit, HasTile}
 use Rattle.mob_tile.proofs.TileOrder.{tiles_total, tile_itself}
 use Rattle.mob_tile.proofs.Parts.{only}

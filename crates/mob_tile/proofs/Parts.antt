@@ -8,9 +8,9 @@ use Rattle.mob_slice.specs.Lines.{plane_value_of}
 use Rattle.mob_slice.specs.declared.slice.Slice.{Slice}
 use Rattle.mob_slice.specs.declared.line.PlaneLine.{PlaneLine}
 use Rattle.mob_cells.specs.Restricted.{where_wanted, kept_value}
-use Rattle.mob_tile.specs.Tiles.{GridOf, IsGrid, InTile, in_tile, tile_of}
-use Rattle.mob_tile.specs.declared.tile.Tile.{Tile}
-use Rattle.mob_tile.proofs.Ranges.{tile_has, tile_is, in_tile_exact}
+use Rattle.mob_grid.specs.Tiles.{GridOf, IsGrid, InTile, in_tile, tile_of}
+use Rattle.mob_grid.specs.declared.tile.Tile.{Tile}
+use Rattle.mob_grid.proofs.Ranges.{tile_has, tile_is, in_tile_exact}
 use Rattle.mob_tile.specs.Split.{IsTilePart, IsSplit, HasTile, HasPartAt}
 
 module _ (g : GridOf) (a : List (Slice PlaneLine)) (t : Ratio) (p : Point) (ok : IsGrid g) where

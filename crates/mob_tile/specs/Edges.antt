@@ -11,8 +11,8 @@ use Rattle.mob_slice.specs.declared.line.PlaneLine.{PlaneLine}
 use Rattle.mob_slice.specs.declared.formula.Formula.TheVariants.{F1, F2, F3}
 use Rattle.mob_cells.specs.declared.linear.Ends.{Ends}
 use Rattle.mob_cells.specs.Roots.{roots, roots_parts}
-use Rattle.mob_tile.specs.Bands.{band_of}
-use Rattle.mob_tile.specs.Tiles.{GridOf}
+use Rattle.mob_grid.specs.Bands.{band_of}
+use Rattle.mob_grid.specs.Tiles.{GridOf}
 
 -- k whole numbers from n on
 abbrev pub count_up : ℤ → ℕ → List ℤ

@@ -7,8 +7,8 @@ use Rattle.mob_slice.specs.Slices.{value_at, IsNormal, IsOrdered}
 use Rattle.mob_slice.specs.Lines.{plane_value_of, plane_continued}
 use Rattle.mob_slice.specs.declared.slice.Slice.{Slice}
 use Rattle.mob_slice.specs.declared.line.PlaneLine.{PlaneLine}
-use Rattle.mob_tile.specs.Tiles.{compare_tiles}
-use Rattle.mob_tile.specs.declared.tile.Tile.{Tile}
+use Rattle.mob_grid.specs.Tiles.{compare_tiles}
+use Rattle.mob_grid.specs.declared.tile.Tile.{Tile}
 use Rattle.mob_tile.specs.declared.pieces.Piece.{Piece}
 
 -- the tile of one comes before that of the other

@@ -15,9 +15,9 @@ use Rattle.mob_slice.specs.declared.line.PlaneLine.{PlaneLine}
 use Rattle.mob_cells.specs.Cells.{AreSplit, IsCut, IsSomeEnd, split_one, split_at}
 use Rattle.mob_lifted.specs.OnPiece.{AreKeptOn}
 use Rattle.mob_cells.specs.Restricted.{AreRestricted}
-use Rattle.mob_tile.specs.Tiles.{GridOf, InTile, InRange, tile_of}
-use Rattle.mob_tile.specs.declared.tile.Tile.{Tile}
-use Rattle.mob_tile.specs.declared.tile.TileRange.{TileRange}
+use Rattle.mob_grid.specs.Tiles.{GridOf, InTile, InRange, tile_of}
+use Rattle.mob_grid.specs.declared.tile.Tile.{Tile}
+use Rattle.mob_grid.specs.declared.tile.TileRange.{TileRange}
 use Rattle.mob_tile.specs.declared.pieces.Piece.{Piece}
 
 -- the cells cut at each of the instants

@@ -16,9 +16,9 @@ use Rattle.mob_slice.specs.declared.formula.Formula.TheVariants.{F2}
 use Rattle.mob_cells.specs.Restricted.{where_wanted}
 use Rattle.mob_stbox.specs.declared.area.Area.{Area}
 use Rattle.mob_value.specs.ValueBoxes.{IsBoxOf}
-use Rattle.mob_tile.specs.Tiles.{GridOf, in_tile, tile_of, compare_tiles, range_of, range_parts, HasMany}
-use Rattle.mob_tile.specs.declared.tile.Tile.{Tile}
-use Rattle.mob_tile.specs.declared.tile.TileRange.{TileRange}
+use Rattle.mob_grid.specs.Tiles.{GridOf, in_tile, tile_of, compare_tiles, range_of, range_parts, HasMany}
+use Rattle.mob_grid.specs.declared.tile.Tile.{Tile}
+use Rattle.mob_grid.specs.declared.tile.TileRange.{TileRange}
 use Rattle.mob_tile.specs.declared.splitting.SplitFault.{SplitFault}
 use Rattle.mob_tile.specs.declared.splitting.SplitFault.TheVariants.{Passed, Limit, NoMemory}
 use Rattle.mob_tile.specs.Edges.{entries_of_slice}

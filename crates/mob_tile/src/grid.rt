@@ -1,20 +1,17 @@
 //! A grid, and the tiles that a box reaches.
-ghost use Rattle.std.specs.Prelude.{◌≡◌, ◌↔◌, [], ◌∷◌, ◌⊎◌, pos, true, IsNone, IfSome, IfOk, ◌<ℤ◌, ◌≤ℤ◌, ◌*ℤ◌};
-ghost use Rattle.std.specs.Int.{int_div_euclid};
-ghost use Rattle.mob_ratio.specs.Ratio.{◌<ℚ◌, ◌≤ℚ◌, whole, ◌*ℚ◌, ◌/ℚ◌};
+ghost use Rattle.std.specs.Prelude.{◌≡◌, ◌↔◌, ◌⊎◌, true, IsNone, IfSome, IfOk};
+ghost use Rattle.mob_ratio.specs.Ratio.{◌<ℚ◌, ◌≤ℚ◌};
 ghost use Rattle.mob_ratio.specs.Sign.{nil};
-ghost use Rattle.mob_frac.specs.Fits.{IsExact};
 ghost use Rattle.mob_frac.specs.Formula.{IsFormula};
 ghost use Rattle.mob_slice.specs.Computed.{IsComputed};
 ghost use Rattle.mob_slice.specs.declared.formula.Formula.TheVariants.{F2};
 ghost use Rattle.mob_stbox.specs.Boxes.{is_whole};
-ghost use Rattle.mob_tile.specs.Bands.{floor_of, band_of};
-ghost use Rattle.mob_tile.specs.Tiles.{GridOf, IsGrid, tile_of, InRange, range_of, range_parts, OnSides};
+ghost use Rattle.mob_grid.specs.Tiles.{GridOf, IsGrid, tile_of, InRange, range_of, range_parts, OnSides};
 ghost use Rattle.mob_tile.specs.Split.{IsSplit, OnRange, SplitAnswer, IsLimited};
 
 use crate::splitting::{SplitFault, split_by};
-use crate::tile::{Tile, TileRange};
 use mob_frac::{Frac, Overflow};
+use mob_grid::{Tile, TileRange, band_within, floor_over, is_positive};
 use mob_plane::Point;
 use mob_slice::{Formula, Moving, Passed, PlaneLine};
 use mob_span::Span;
@@ -31,7 +28,7 @@ pub struct Grid {
 }
 
 impl Model for Grid {
-    ghost use Rattle.mob_tile.specs.Tiles.{GridOf, IsGrid};
+    ghost use Rattle.mob_grid.specs.Tiles.{GridOf, IsGrid};
 
     ghost Value = { GridOf };
 
@@ -40,70 +37,6 @@ impl Model for Grid {
     ghost invariant = { λ g. IsGrid (record { size = g.size; width = g.width }) };
 
     ghost inverse = { λ g. record { size = g.size; width = g.width } };
-}
-
-/// Whether the number is above 0.
-pub fn is_positive(x: &Frac) -> bool
-    ensures exact { (result ≡ true) ↔ (nil <ℚ x.now) }
-{
-    x.sign() == 1
-}
-
-// The greatest whole number that is not above it.
-#[tactic(auto, unfolding(crate::specs::Bands::floor_of))]
-fn floor(q: &Frac) -> i64
-    ensures value { result ≡ floor_of q.now }
-{
-    q.num().div_euclid(q.den())
-}
-
-// The product of two parts of fractions.
-fn product(a: i64, b: i64) -> i128
-    ensures value { result ≡ a *ℤ b }
-{
-    a as i128 * b as i128
-}
-
-// The quotient, rounded down.
-fn quotient(a: i128, b: i128) -> i128
-    requires positive { pos 0 <ℤ b }
-    ensures value { result ≡ int_div_euclid a b }
-{
-    a.div_euclid(b)
-}
-
-/// The number of the band of width `c` that has `x`, of any size.
-pub fn band(c: &Frac, x: &Frac) -> i128
-    requires positive { nil <ℚ c.now }
-    ensures value { result ≡ band_of c.now x.now }
-{
-    quotient(product(x.num(), c.den()), product(x.den(), c.num()))
-}
-
-/// The edge before the band of number `n`.
-pub fn edge(c: &Frac, n: i64) -> Result<Frac, Overflow>
-    ensures exact { IsExact (whole n *ℚ c.now) result }
-{
-    Frac::from_wide(product(n, c.num()), c.den() as i128)
-}
-
-// The number of the band that has `x`, where that lies between two numbers.
-fn band_within(c: &Frac, x: &Frac, low: i64, high: i64) -> i64
-    requires positive { nil <ℚ c.now }
-    requires from { low ≤ℤ band_of c.now x.now }
-    requires to { band_of c.now x.now ≤ℤ high }
-    ensures value { result ≡ band_of c.now x.now }
-{
-    band(c, x) as i64
-}
-
-// The number of the band that has `x`, by its quotient.
-fn floor_over(x: &Frac, c: &Frac) -> Result<i64, Overflow>
-    requires positive { nil <ℚ c.now }
-    ensures value { IsFormula ((x.now /ℚ c.now) ∷ []) (band_of c.now x.now) result }
-{
-    let quotient = x.div(c)?;
-    Ok(floor(&quotient))
 }
 
 impl Grid {

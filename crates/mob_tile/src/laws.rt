@@ -10,12 +10,12 @@ ghost use Rattle.mob_slice.specs.Slices.{value_at};
 ghost use Rattle.mob_slice.specs.Lines.{plane_value_of};
 ghost use Rattle.mob_slice.specs.declared.slice.Slice.{Slice};
 ghost use Rattle.mob_slice.specs.declared.line.PlaneLine.{PlaneLine};
-ghost use Rattle.mob_tile.specs.Tiles.{GridOf, IsGrid, InTile, in_tile, tile_of, InRange, range_of, IsLeastShared, least_shared};
+ghost use Rattle.mob_grid.specs.Tiles.{GridOf, IsGrid, InTile, in_tile, tile_of, InRange, range_of, IsLeastShared, least_shared};
 ghost use Rattle.mob_tile.specs.Split.{IsSplit, HasPartAt, OnRange, SplitAnswer};
 ghost use Rattle.mob_tile.specs.declared.splitting.SplitFault.{SplitFault};
 ghost use Rattle.mob_tile.specs.declared.splitting.SplitFault.TheVariants.{NoMemory};
-ghost use Rattle.mob_tile.specs.declared.tile.Tile.{Tile as TileOf};
-ghost use Rattle.mob_tile.specs.declared.tile.TileRange.{TileRange};
+ghost use Rattle.mob_grid.specs.declared.tile.Tile.{Tile as TileOf};
+ghost use Rattle.mob_grid.specs.declared.tile.TileRange.{TileRange};
 
 /// Each point is at each instant in exactly one tile, and the test of membership says what it
 /// means.

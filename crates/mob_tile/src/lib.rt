@@ -9,8 +9,7 @@ mod groups;
 pub mod laws;
 mod pieces;
 mod splitting;
-mod tile;
 
-pub use grid::{Grid, is_positive};
+pub use grid::Grid;
+pub use mob_grid::{Tile, TileRange, is_positive};
 pub use splitting::SplitFault;
-pub use tile::{Tile, TileRange};

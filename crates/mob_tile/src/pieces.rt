@@ -18,9 +18,9 @@ ghost use Rattle.mob_tile.specs.Pieces.{least_of, greatest_of, HasOneTile, Reach
 use crate::cells::cells_at;
 use crate::cuts::{differences, roots_of, times};
 use crate::grid::Grid;
-use crate::tile::{Tile, TileRange};
 use mob_cells::{Ends, append};
 use mob_frac::Frac;
+use mob_grid::{Tile, TileRange};
 use mob_plane::{Point, greater, smaller};
 use mob_slice::{OpFault, PlaneLine, Ranked, Slice, cut, operator_fault};
 use mob_span::Span;

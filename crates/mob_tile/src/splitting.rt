@@ -9,7 +9,7 @@ ghost use Rattle.mob_tile.specs.Split.{IsSplit, OnRange, SplitAnswer, IsLimited}
 use crate::grid::Grid;
 use crate::groups::{parts_of, sort_pieces};
 use crate::pieces::pieces_of;
-use crate::tile::{Tile, TileRange};
+use mob_grid::{Tile, TileRange};
 use mob_slice::{Formula, Moving, OpFault, PlaneLine};
 use mob_value::box_of;
 use std::alloc::Global;

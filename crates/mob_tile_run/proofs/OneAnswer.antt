@@ -4,7 +4,7 @@ use Rattle.std.proofs.Common.{◌≡◌, ◌≢◌, ℕ, List, [], ◌∷◌, re
 use Rattle.std.specs.List.{AllZip}
 use Rattle.mob_ratio.specs.Ratio.{Ratio}
 use Rattle.mob_value.specs.declared.value.Value.{Value}
-use Rattle.mob_tile.specs.Tiles.{GridOf, IsGrid}
+use Rattle.mob_grid.specs.Tiles.{GridOf, IsGrid}
 use Rattle.mob_tile.proofs.OneSplit.{one_split}
 use Rattle.mob_pairs.specs.declared.fault.PairFault.{PairFault}
 use Rattle.mob_pairs.specs.declared.fault.PairFault.TheVariants.{NoMemory}

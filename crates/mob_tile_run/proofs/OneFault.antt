@@ -6,9 +6,9 @@ use Rattle.mob_ratio.specs.Ratio.{Ratio}
 use Rattle.mob_slice.specs.declared.formula.Formula.{Formula}
 use Rattle.mob_value.specs.declared.value.Value.{Value}
 use Rattle.mob_tile.proofs.OneAnswer.{answer_apart, one_fault}
-use Rattle.mob_tile.specs.Tiles.{GridOf}
+use Rattle.mob_grid.specs.Tiles.{GridOf}
 use Rattle.mob_tile.specs.declared.splitting.SplitFault.TheVariants as split
-use Rattle.mob_tile.specs.declared.tile.Tile.{Tile}
+use Rattle.mob_grid.specs.declared.tile.Tile.{Tile}
 use Rattle.mob_pairs.specs.declared.fault.PairFault.{PairFault}
 use Rattle.mob_pairs.specs.declared.fault.PairFault.TheVariants.{Passed, Limit, NoMemory}
 use Rattle.mob_pairs.proofs.OneFault.{one_pairs_fault, fit_or_pairs_fault}

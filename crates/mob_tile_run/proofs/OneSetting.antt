@@ -4,7 +4,7 @@ use Rattle.std.proofs.Common.{refl}
 use Rattle.mob_ratio.specs.Ratio.{Ratio}
 use Rattle.mob_words.specs.Arguments.{IsDistance, IsRequired, option_value}
 use Rattle.mob_words.proofs.Readings.{one_day, one_distance, one_optional, one_ratio, one_required, one_workers}
-use Rattle.mob_tile.specs.Tiles.{GridOf}
+use Rattle.mob_grid.specs.Tiles.{GridOf}
 use Rattle.mob_tile_run.specs.CommandLine.{TileSays, IsNear, IsSide, IsSides, tile_command}
 use Rattle.mob_tile_run.specs.declared.settings.TileSettings.{TileSettings}
 

@@ -4,10 +4,10 @@ use Rattle.std.proofs.Common.{◌≡◌, ℕ, suc, ◌+◌, ℤ, List, [], ◌�
 use Rattle.std.specs.List.{AllZip}
 use Rattle.mob_value.specs.declared.value.Value.{Value}
 use Rattle.mob_tile.specs.Split.{OnRange, SplitAnswer}
-use Rattle.mob_tile.specs.Tiles.{GridOf}
+use Rattle.mob_grid.specs.Tiles.{GridOf}
 use Rattle.mob_tile.specs.declared.splitting.SplitFault.{SplitFault}
 use Rattle.mob_tile.specs.declared.splitting.SplitFault.TheVariants as split
-use Rattle.mob_tile.specs.declared.tile.Tile.{Tile}
+use Rattle.mob_grid.specs.declared.tile.Tile.{Tile}
 use Rattle.mob_pairs.specs.declared.fault.PairFault.{PairFault}
 use Rattle.mob_pairs.specs.declared.fault.PairFault.TheVariants.{Passed, Limit, NoMemory}
 use Rattle.mob_trips.specs.Rows.{Trip}

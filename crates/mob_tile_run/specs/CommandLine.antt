@@ -5,7 +5,7 @@ use Rattle.mob_ratio.specs.Ratio.{Ratio, ◌<ℚ◌}
 use Rattle.mob_ratio.specs.Sign.{nil}
 use Rattle.mob_numeral.specs.Numbers.{numbers}
 use Rattle.mob_numeral.specs.Verdict.{Lit}
-use Rattle.mob_tile.specs.Tiles.{GridOf}
+use Rattle.mob_grid.specs.Tiles.{GridOf}
 use Rattle.mob_words.specs.Arguments.{IsDistance, IsEpoch, IsOptional, IsRequired, IsWorkers, Takes, command_of, option_value}
 use Rattle.mob_tile_run.specs.declared.settings.TileSettings.{TileSettings}
 

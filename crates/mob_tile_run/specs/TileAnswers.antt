@@ -4,7 +4,7 @@ use Rattle.mob_ratio.specs.Ratio.{Ratio}
 use Rattle.mob_ratio.specs.Order.{up_to}
 use Rattle.mob_ratio.specs.Sign.{nil}
 use Rattle.mob_value.specs.declared.value.Value.{Value}
-use Rattle.mob_tile.specs.Tiles.{GridOf}
+use Rattle.mob_grid.specs.Tiles.{GridOf}
 use Rattle.mob_pairs.specs.Faults.{PairsFit, IsPairsFault}
 use Rattle.mob_pairs.specs.Pairs.{ArePairs}
 use Rattle.mob_pairs.specs.declared.fault.PairFault.{PairFault}

@@ -6,10 +6,10 @@ use Rattle.mob_slice.specs.Entries.{IsFirst}
 use Rattle.mob_value.specs.declared.value.Value.{Value}
 use Rattle.mob_tile.specs.Edges.{entries_of_slice}
 use Rattle.mob_tile.specs.Split.{IsSplit, OnRange, SplitAnswer}
-use Rattle.mob_tile.specs.Tiles.{GridOf, HasMany}
+use Rattle.mob_grid.specs.Tiles.{GridOf, HasMany}
 use Rattle.mob_tile.specs.declared.splitting.SplitFault.{SplitFault}
 use Rattle.mob_tile.specs.declared.splitting.SplitFault.TheVariants as split
-use Rattle.mob_tile.specs.declared.tile.Tile.{Tile}
+use Rattle.mob_grid.specs.declared.tile.Tile.{Tile}
 use Rattle.mob_pairs.specs.declared.fault.PairFault.{PairFault}
 use Rattle.mob_pairs.specs.declared.fault.PairFault.TheVariants.{Passed, Limit, NoMemory}
 use Rattle.mob_records.specs.AnswerText.{answer_text}

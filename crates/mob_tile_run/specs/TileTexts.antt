@@ -4,7 +4,7 @@ use Rattle.std.specs.Fmt.{signed_decimal}
 use Rattle.mob_value.specs.declared.value.Value.{Value}
 use Rattle.mob_value.specs.declared.value.Value.TheVariants.{MovingPoint}
 use Rattle.mob_literal.specs.Fields.{field_text}
-use Rattle.mob_tile.specs.declared.tile.Tile.{Tile}
+use Rattle.mob_grid.specs.declared.tile.Tile.{Tile}
 use Rattle.mob_trips.specs.Rows.{Trip, id_at}
 
 -- a tile: its three numbers, with blanks between them

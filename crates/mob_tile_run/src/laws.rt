@@ -1,7 +1,7 @@
 //! What holds of every run of mobtile. No code runs here.
 ghost use Rattle.std.specs.Prelude.{◌≡◌, ◌≢◌, ℕ, List, Option};
 ghost use Rattle.mob_value.specs.declared.value.Value.{Value};
-ghost use Rattle.mob_tile.specs.Tiles.{IsGrid};
+ghost use Rattle.mob_grid.specs.Tiles.{IsGrid};
 ghost use Rattle.mob_pairs.specs.declared.fault.PairFault.{PairFault};
 ghost use Rattle.mob_pairs.specs.declared.fault.PairFault.TheVariants.{NoMemory};
 ghost use Rattle.mob_trips.specs.Rows.{Trip};

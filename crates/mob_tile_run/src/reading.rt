@@ -1,7 +1,7 @@
 // The settings of a run, read from the values of its options.
 ghost use Rattle.std.specs.Prelude.{Option, IfOk, IfSome, IsNone, map, option_map, string_bytes};
 ghost use Rattle.mob_ratio.specs.Ratio.{Ratio};
-ghost use Rattle.mob_tile.specs.Tiles.{GridOf};
+ghost use Rattle.mob_grid.specs.Tiles.{GridOf};
 ghost use Rattle.mob_words.specs.Arguments.{IsRequired};
 ghost use Rattle.mob_tile_run.specs.CommandLine.{IsNear, IsSide, IsSides, TileSays};
 ghost use Rattle.mob_tile_run.specs.declared.settings.TileSettings.{TileSettings as SettingsSeen};

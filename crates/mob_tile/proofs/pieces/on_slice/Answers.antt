@@ -3,7 +3,7 @@ use Rattle.std.specs.List.{AllByRecursion}
 use Rattle.mob_ratio.specs.Ratio.{◌<ℚ◌}
 use Rattle.mob_ratio.specs.Sign.{nil}
 use Rattle.mob_cells.specs.Roots.{IsLevel}
-use Rattle.mob_tile.specs.Tiles.{IsGrid}
+use Rattle.mob_grid.specs.Tiles.{IsGrid}
 use Rattle.mob_tile.proofs.Cutting.{level_all}
 use Rattle.mob_tile.proofs.pieces.on_slice.Goals as goal
 

@@ -2,7 +2,7 @@ use Rattle.std.proofs.Common.{subst, sym, ap, ◌∙◌, inl, inr, refl, true≢
 use Rattle.std.specs.List.{AllByRecursion}
 use Rattle.mob_ratio.specs.Ratio.{◌<ℚ◌}
 use Rattle.mob_ratio.specs.Sign.{nil}
-use Rattle.mob_tile.specs.Tiles.{IsGrid, HasMany, range_of}
+use Rattle.mob_grid.specs.Tiles.{IsGrid, HasMany, range_of}
 use Rattle.mob_tile.specs.declared.splitting.SplitFault.TheVariants.{Passed}
 use Rattle.mob_tile.specs.Pieces.{Reaches}
 use Rattle.mob_tile.proofs.Limits.{box_sides, box_as, box_range, all_reach}

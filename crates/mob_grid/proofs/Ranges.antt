@@ -9,10 +9,10 @@ use Rattle.mob_span.specs.Span.{SpanOf, InSpan}
 use Rattle.mob_plane.specs.declared.point.Point.{Point}
 use Rattle.mob_stbox.specs.Areas.{InArea}
 use Rattle.mob_stbox.specs.declared.area.Area.{Area}
-use Rattle.mob_tile.specs.Bands.{in_band}
-use Rattle.mob_tile.specs.Tiles.{GridOf, IsGrid, InTile, in_tile, tile_of, InRange, IsRange, range_of}
-use Rattle.mob_tile.specs.declared.tile.Tile.{Tile}
-use Rattle.mob_tile.proofs.BandNumbers.{band_has, band_is, bands_rise, in_band_exact}
+use Rattle.mob_grid.specs.Bands.{in_band}
+use Rattle.mob_grid.specs.Tiles.{GridOf, IsGrid, InTile, in_tile, tile_of, InRange, IsRange, range_of}
+use Rattle.mob_grid.specs.declared.tile.Tile.{Tile}
+use Rattle.mob_grid.proofs.BandNumbers.{band_has, band_is, bands_rise, in_band_exact}
 
 pub tile_has : (g : GridOf) (t : Ratio) (p : Point) → IsGrid g → InTile g (tile_of g t p) t p
 tile_has g t p h = record { in_x = band_has g.size p.x h.some_size; in_y = band_has g.size p.y h.some_size; in_time = band_has g.width t h.some_width }

@@ -1,7 +1,7 @@
 use Rattle.std.proofs.Common.{refl, sym, ◌∙◌, true≢false}
 use Rattle.std.proofs.lemmas.Int.{to_z-of_z}
-use Rattle.mob_tile.proofs.Ranges.{long_first, long_second, long_third, short}
-use Rattle.mob_tile.proofs.tile.are_many.Goals as goal
+use Rattle.mob_grid.proofs.Ranges.{long_first, long_second, long_third, short}
+use Rattle.mob_grid.proofs.tile.are_many.Goals as goal
 
 pub returns-then-is_large : goal.returns-then-is_large
 returns-then-is_large c =

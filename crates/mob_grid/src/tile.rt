@@ -1,6 +1,6 @@
 //! Tiles, by their three numbers.
 ghost use Rattle.std.specs.Prelude.{◌≡◌, ◌↔◌, pos, true, ◌<ℤ◌, ◌≤ℤ◌, ◌*ℤ◌, ℤ, nat_abs, ◌<◌, ◌^◌};
-ghost use Rattle.mob_tile.specs.Tiles.{compare_tiles, compare_later, greater_number, least_shared, is_least_shared, side_of, HasMany, IsRange};
+ghost use Rattle.mob_grid.specs.Tiles.{compare_tiles, compare_later, greater_number, least_shared, is_least_shared, side_of, HasMany, IsRange};
 
 use std::cmp::Ordering;
 

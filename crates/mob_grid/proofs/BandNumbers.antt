@@ -14,7 +14,7 @@ use Rattle.mob_ratio.proofs.Field.{cases_lt, not_both, lt_of_mul_pos, lt_mul_pos
 use Rattle.mob_ratio.proofs.Divide.{div-mul, over-pos}
 use Rattle.mob_ratio.proofs.Order.{before-lt, lt-before, not-up_to-le, le-up_to}
 use Rattle.mob_frac.specs.Fits.{ratio}
-use Rattle.mob_tile.specs.Bands.{InBand, in_band, floor_of, band_of}
+use Rattle.mob_grid.specs.Bands.{InBand, in_band, floor_of, band_of}
 
 -- ---- floors of whole numbers
 quotient_from : (a : ℤ) (k : ℕ) → 0 < k → (int_div_euclid a (pos k) *ℤ pos k) ≤ℤ a

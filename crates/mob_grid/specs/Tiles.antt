@@ -8,9 +8,9 @@ use Rattle.mob_span.specs.Span.{SpanOf}
 use Rattle.mob_plane.specs.declared.point.Point.{Point}
 use Rattle.mob_stbox.specs.Boxes.{BoxOf}
 use Rattle.mob_stbox.specs.declared.area.Area.{Area}
-use Rattle.mob_tile.specs.Bands.{InBand, in_band, band_of}
-use Rattle.mob_tile.specs.declared.tile.Tile.{Tile}
-use Rattle.mob_tile.specs.declared.tile.TileRange.{TileRange}
+use Rattle.mob_grid.specs.Bands.{InBand, in_band, band_of}
+use Rattle.mob_grid.specs.declared.tile.Tile.{Tile}
+use Rattle.mob_grid.specs.declared.tile.TileRange.{TileRange}
 
 -- the sides of the tiles: `size` in units of length, the same by x and by y, and `width` in seconds
 pub record GridOf : Type 0 where

@@ -3,8 +3,8 @@ use Rattle.std.specs.Int.{w64, w128}
 use Rattle.std.proofs.lemmas.Int.{to_z-of_z, ints}
 use Rattle.mob_frac.specs.Fits.{IsExact}
 use Rattle.mob_frac.proofs.Sharing.{den_positive}
-use Rattle.mob_tile.proofs.BandNumbers.{edge_is}
-use Rattle.mob_tile.proofs.grid.edge.Goals as goal
+use Rattle.mob_grid.proofs.BandNumbers.{edge_is}
+use Rattle.mob_grid.proofs.bands.edge.Goals as goal
 
 pub from_wide-requires : goal.from_wide-requires
 from_wide-requires c =

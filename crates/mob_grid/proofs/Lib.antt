@@ -1,0 +1,3 @@
+pub mod BandNumbers
+pub mod Machine
+pub mod Ranges

@@ -1,0 +1,8 @@
+//! Bands on a line, tiles of space and time by their numbers, and ranges of tiles.
+#![tactic(auto)]
+
+mod bands;
+mod tile;
+
+pub use bands::{band_within, edge, floor_over, is_positive};
+pub use tile::{Tile, TileRange};
