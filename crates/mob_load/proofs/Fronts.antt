@@ -1,6 +1,6 @@
 -- What was read of a file is its front.
-use Rattle.std.proofs.Common.{arith, ◌≡◌, ◌∙◌, ap, sym, subst, ℕ, ◌+◌, ◌≤◌, List, [], ◌++◌, length, take, Some, None, ℤ, inl, inr}
-use Rattle.std.specs.Prelude.{Option, IfSome}
+use Rattle.std.proofs.Common.{arith, ◌≡◌, ◌∙◌, ap, sym, subst, ℕ, ◌+◌, ◌≤◌, List, [], ◌++◌, length, take, Some, None, Ok, Err, ℤ, inl, inr, true, true≢false}
+use Rattle.std.specs.Prelude.{Option, IfSome, OnErr, Result, is_err}
 use Rattle.std.proofs.lemmas.Bool.{cases_lt}
 use Rattle.mob_value.specs.declared.value.Value.{Value}
 use Rattle.mob_catalog.specs.Faults.{FileFault}
@@ -56,3 +56,8 @@ fails_front columns day room whole w (inl long) =
     inl (omega (arith, long.0), long.1)
 fails_front columns day room whole w (inr short) =
     subst (λ (bytes : List ℕ). FileFails columns day room bytes w) (short_front file_limit whole short.0) (inr short)
+
+-- what holds where a call failed, which did
+pub where_failed : {T E P : Type 0} (r : Result T E) → is_err r ≡ true → OnErr r P → P
+where_failed (Ok x) failed h = absurd (true≢false (sym failed))
+where_failed (Err y) failed h = h
