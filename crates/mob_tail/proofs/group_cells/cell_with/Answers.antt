@@ -1,8 +1,7 @@
-use Rattle.std.proofs.Common.{Ok, Err, None, refl, sym, subst}
+use Rattle.std.proofs.Common.{Ok, Err, refl, sym, subst}
 use Rattle.std.proofs.lemmas.Result.{IfErr-weaker, IfOk-weaker}
 use Rattle.mob_typed.specs.Trees.{typed_of}
 use Rattle.mob_eval.specs.Views.{scene_of}
-use Rattle.mob_outcome.specs.Faults.{OnPassed}
 use Rattle.mob_tail.specs.GroupSteps.{IsAggregateOn, IsColumnWith}
 use Rattle.mob_tail.proofs.Making.{on_passed}
 use Rattle.mob_tail.proofs.group_cells.cell_with.Goals as goal
