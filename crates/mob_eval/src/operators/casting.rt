@@ -7,10 +7,10 @@ ghost use Rattle.mob_meaning.specs.Types.{IsCastTo, IsCast};
 
 use crate::operators::coordinates::widened;
 use mob_ast::SqlType;
-use mob_value::held::{Held, made};
 use mob_ordinary::numbers::unchanged;
 use mob_typed::TExpr;
 use mob_value::Value;
+use mob_value::held::{Held, made};
 use std::alloc::{AllocError, Global};
 
 fn is_same_type(from: SqlType, to: SqlType) -> bool

@@ -45,7 +45,6 @@ use mob_ast::SqlType;
 use mob_meaning::{Calculation, Scope};
 use mob_operators::Op;
 use mob_ordinary::comparison::test;
-use mob_value::held::{Held, made};
 use mob_ordinary::logic::{
     conjunction, disjunction, is_null, known, negation as contrary, truth_of,
 };
@@ -53,6 +52,7 @@ use mob_ordinary::numbers::{negation, unchanged};
 use mob_slice::OpFault;
 use mob_typed::TExpr;
 use mob_value::Value;
+use mob_value::held::{Held, made};
 use std::alloc::{AllocError, Global};
 
 /// An operator on one operand.
