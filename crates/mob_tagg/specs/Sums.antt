@@ -1,5 +1,5 @@
 -- What is made on one piece that two values share.
-use Rattle.std.specs.Prelude.{◌≡◌, Bool, cond, List, [], ◌∷◌, Result, MatchResult}
+use Rattle.std.specs.Prelude.{◌≡◌, List, [], ◌∷◌, Result, MatchResult}
 use Rattle.mob_ratio.specs.Ratio.{Ratio}
 use Rattle.mob_frac.specs.Formula.{AllFit, sum_parts}
 use Rattle.mob_slice.specs.Entries.{OnFormula}
@@ -9,7 +9,6 @@ use Rattle.mob_slice.specs.declared.steady.Steady.{Steady}
 use Rattle.mob_slice.specs.declared.formula.Formula.TheVariants.{F2}
 use Rattle.mob_slice.specs.declared.formula.OpFault.{OpFault}
 use Rattle.mob_lift.specs.Given.{IsGiven, on_sides}
-use Rattle.mob_arith.specs.Operations.{both_hold, one_holds}
 use Rattle.mob_arith.specs.Termwise.{entries_at_ends}
 use Rattle.mob_sync.specs.Common.{pair_of}
 use Rattle.mob_tagg.specs.United.{sides_of}
@@ -28,7 +27,3 @@ IsSumGiven value start end parts number added p result =
 -- the slice on a shared piece of two steady values that has the operation on the two
 abbrev pub steady_on : {B : Type 0} → (B → B → B) → Pair (Steady B) (Steady B) → Slice (Steady B)
 steady_on op p = record { span = p.span; course = record { value = op p.left.now.course.value p.right.now.course.value } }
-
--- whether both are true, or one of them
-abbrev pub joining : Bool → Bool → Bool → Bool
-joining all = λ x y. cond all (both_hold x y) (one_holds x y)

@@ -12,7 +12,7 @@ ghost use Rattle.mob_slice.specs.Slices.{value_at};
 ghost use Rattle.mob_arith.specs.Operations.{both_hold, one_holds};
 ghost use Rattle.mob_arith.specs.Termwise.{entries_at_ends};
 ghost use Rattle.mob_tagg.specs.United.{AreUnited};
-ghost use Rattle.mob_tagg.specs.Sums.{IsSumGiven, joining, steady_on};
+ghost use Rattle.mob_tagg.specs.Sums.{IsSumGiven, steady_on};
 
 use crate::again::{Last, cut_again, keep, summed, summed_again};
 use crate::taking::{either, merged, normal_of};
@@ -119,48 +119,15 @@ pub fn ones_of<C: Course>(alloc: Global, a: &Moving<C>) -> Result<Moving<Steady<
     }
 }
 
-// Whether both are true, or one of them.
-fn joined(all: bool, left: bool, right: bool) -> bool
-    ensures value { result ≡ joining all left right }
-{
-    if all {
-        return left && right;
-    }
-    left || right
-}
-
-// Their conjunction or disjunction on a piece that two values share.
-fn joined_on(
+// The conjunction on a piece that two values share.
+fn and_on(
     alloc: Global,
-    all: bool,
     pair: &Pair<'_, Steady<bool>, Steady<bool>>,
 ) -> Result<Vec<Slice<Steady<bool>>>, OpFault>
-    ensures one { MatchResult result (λ v. v.items ≡ steady_on (joining all) pair.now ∷ []) (λ e. e ≡ OpFault.NoMemory) }
+    ensures one { MatchResult result (λ v. v.items ≡ steady_on both_hold pair.now ∷ []) (λ e. e ≡ OpFault.NoMemory) }
 {
-    let value = joined(all, pair.left.course.value, pair.right.course.value);
+    let value = pair.left.course.value && pair.right.course.value;
     single(alloc, pair.span, value)
-}
-
-// Whether both are true where both are defined, or one of them, and the one that is where one is.
-fn joined_in(
-    alloc: Global,
-    all: bool,
-    total: &Moving<Steady<bool>>,
-    v: &Moving<Steady<bool>>,
-) -> Result<Moving<Steady<bool>>, AllocError>
-    ensures value { IfOk result (λ r. AreUnited steady_value (joining all) total.now v.now r) }
-{
-    match either(
-        alloc,
-        total,
-        v,
-        |pair: &Pair<'_, Steady<bool>, Steady<bool>>| -> Result<Vec<Slice<Steady<bool>>>, OpFault>
-            ensures one { MatchResult result (λ v. v.items ≡ steady_on (joining all) pair.now ∷ []) (λ e. e ≡ OpFault.NoMemory) }
-        { joined_on(alloc, all, pair) },
-    ) {
-        Ok(value) => Ok(value),
-        Err(_) => Err(AllocError),
-    }
 }
 
 /// Whether both are true where both are defined, and the one that is where one is.
@@ -171,7 +138,28 @@ pub fn and_in(
 ) -> Result<Moving<Steady<bool>>, AllocError>
     ensures value { IfOk result (λ r. AreUnited steady_value both_hold total.now v.now r) }
 {
-    joined_in(alloc, true, total, v)
+    match either(
+        alloc,
+        total,
+        v,
+        |pair: &Pair<'_, Steady<bool>, Steady<bool>>| -> Result<Vec<Slice<Steady<bool>>>, OpFault>
+            ensures one { MatchResult result (λ v. v.items ≡ steady_on both_hold pair.now ∷ []) (λ e. e ≡ OpFault.NoMemory) }
+        { and_on(alloc, pair) },
+    ) {
+        Ok(value) => Ok(value),
+        Err(_) => Err(AllocError),
+    }
+}
+
+// The disjunction on a piece that two values share.
+fn or_on(
+    alloc: Global,
+    pair: &Pair<'_, Steady<bool>, Steady<bool>>,
+) -> Result<Vec<Slice<Steady<bool>>>, OpFault>
+    ensures one { MatchResult result (λ v. v.items ≡ steady_on one_holds pair.now ∷ []) (λ e. e ≡ OpFault.NoMemory) }
+{
+    let value = pair.left.course.value || pair.right.course.value;
+    single(alloc, pair.span, value)
 }
 
 /// Whether one is true where both are defined, and the one that is where one is.
@@ -182,5 +170,15 @@ pub fn or_in(
 ) -> Result<Moving<Steady<bool>>, AllocError>
     ensures value { IfOk result (λ r. AreUnited steady_value one_holds total.now v.now r) }
 {
-    joined_in(alloc, false, total, v)
+    match either(
+        alloc,
+        total,
+        v,
+        |pair: &Pair<'_, Steady<bool>, Steady<bool>>| -> Result<Vec<Slice<Steady<bool>>>, OpFault>
+            ensures one { MatchResult result (λ v. v.items ≡ steady_on one_holds pair.now ∷ []) (λ e. e ≡ OpFault.NoMemory) }
+        { or_on(alloc, pair) },
+    ) {
+        Ok(value) => Ok(value),
+        Err(_) => Err(AllocError),
+    }
 }
