@@ -6,10 +6,11 @@ use Rattle.mob_ast.specs.declared.statement.FromTable.{FromTable}
 use Rattle.mob_ast.specs.Trees.{tree_of, from_of}
 use Rattle.mob_typed.specs.declared.typed.ConstText.{ConstText}
 use Rattle.mob_typed.specs.Trees.{TypedTree}
-use Rattle.mob_expression.specs.declared.scope.ScopeTable.{ScopeTable}
-use Rattle.mob_expression.specs.declared.fault.Fault.{Fault}
-use Rattle.mob_expression.specs.Answers.{Mistake, one_more, StopsTyping}
-use Rattle.mob_expression.specs.Scopes.{ScopeParts, source_of, sources_of}
+use Rattle.mob_scope.specs.declared.scope.ScopeTable.{ScopeTable}
+use Rattle.mob_scope.specs.declared.fault.Fault.{Fault}
+use Rattle.mob_scope.specs.Answers.{Mistake, StopsTyping}
+use Rattle.mob_expression.specs.Steps.{one_more}
+use Rattle.mob_scope.specs.Scopes.{ScopeParts, source_of, sources_of}
 use Rattle.mob_expression.proofs.Behind.{behind, none_behind, more_behind, fails_behind}
 use Rattle.mob_expression.proofs.Wrongs.{fails_along}
 use Rattle.mob_clauses.specs.Conditions.{condition, source_start, seen_by_on, joins_from}

@@ -7,10 +7,10 @@ use Rattle.mob_ast.specs.declared.types.SqlType.{SqlType}
 use Rattle.mob_typed.specs.Statements.{ColumnList}
 use Rattle.mob_typed.specs.Trees.{typed, none}
 use Rattle.mob_typed.specs.Selects.{Output}
-use Rattle.mob_expression.specs.declared.fault.Fault.{Fault}
-use Rattle.mob_expression.specs.declared.fault.Fault.TheVariants.{Wrong as Refused, NoMemory}
-use Rattle.mob_expression.specs.Answers.{Mistake, StopsTyping}
-use Rattle.mob_expression.proofs.Matches.{drop_at}
+use Rattle.mob_scope.specs.declared.fault.Fault.{Fault}
+use Rattle.mob_scope.specs.declared.fault.Fault.TheVariants.{Wrong as Refused, NoMemory}
+use Rattle.mob_scope.specs.Answers.{Mistake, StopsTyping}
+use Rattle.mob_expression.proofs.Lists.{drop_at}
 use Rattle.mob_clauses.specs.Outputs.{columns_of_table}
 
 abbrev pub good : {A : Type 0} → A → Result A Mistake

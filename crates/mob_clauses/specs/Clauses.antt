@@ -5,8 +5,9 @@ use Rattle.mob_ast.specs.declared.types.Word.{Word}
 use Rattle.mob_ast.specs.Trees.{Tree, SelectParts}
 use Rattle.mob_typed.specs.Trees.{TypedTree, typed_of}
 use Rattle.mob_typed.specs.Selects.{TypedSelectParts, key_seen}
-use Rattle.mob_expression.specs.Answers.{◌>>=◌, TypingStep}
-use Rattle.mob_expression.specs.Scopes.{ScopeTableParts, ScopeParts}
+use Rattle.mob_scope.specs.Answers.{◌>>=◌}
+use Rattle.mob_expression.specs.Steps.{TypingStep}
+use Rattle.mob_scope.specs.Scopes.{ScopeTableParts, ScopeParts}
 use Rattle.mob_clauses.specs.Conditions.{condition, typed_joins}
 use Rattle.mob_clauses.specs.Outputs.{ColumnNumbers, is_grouped, grouping, OutputLists, with_items, no_outputs}
 use Rattle.mob_clauses.specs.Keys.{with_groups, key_item, typed_keys, limit_of}

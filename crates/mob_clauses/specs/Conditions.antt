@@ -6,8 +6,9 @@ use Rattle.mob_ast.specs.declared.refusal.Kind.TheVariants as kind
 use Rattle.mob_ast.specs.Trees.{Tree, tree, FromParts}
 use Rattle.mob_operators.specs.Lookup.{has_type}
 use Rattle.mob_typed.specs.Trees.{TypedTree, type_of}
-use Rattle.mob_expression.specs.Answers.{◌>>=◌, unless, TypingStep, one_more}
-use Rattle.mob_expression.specs.Scopes.{ScopeParts}
+use Rattle.mob_scope.specs.Answers.{◌>>=◌, unless}
+use Rattle.mob_expression.specs.Steps.{TypingStep, one_more}
+use Rattle.mob_scope.specs.Scopes.{ScopeParts}
 use Rattle.mob_expression.specs.Expressions.{typed_expression}
 
 -- the place of an expression as a whole

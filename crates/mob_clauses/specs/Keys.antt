@@ -14,11 +14,13 @@ use Rattle.mob_operators.specs.declared.operator.Op.TheVariants as op
 use Rattle.mob_operators.specs.Lookup.{has_type}
 use Rattle.mob_typed.specs.declared.typed.Agg.{Agg}
 use Rattle.mob_typed.specs.Trees.{TypedTree, typed, none, type_of}
-use Rattle.mob_expression.specs.declared.scope.Found.{Found}
-use Rattle.mob_expression.specs.Answers.{Mistake, refuse, ◌>>=◌, unless, found, TypingStep, one_more}
-use Rattle.mob_expression.specs.Names.{entry_from}
-use Rattle.mob_expression.specs.Scopes.{ScopeParts}
-use Rattle.mob_expression.specs.Expressions.{column_named, typed_expression}
+use Rattle.mob_scope.specs.declared.scope.Found.{Found}
+use Rattle.mob_scope.specs.Answers.{Mistake, refuse, ◌>>=◌, unless, found}
+use Rattle.mob_expression.specs.Steps.{TypingStep, one_more}
+use Rattle.mob_scope.specs.Names.{entry_from}
+use Rattle.mob_scope.specs.Scopes.{ScopeParts}
+use Rattle.mob_scope.specs.Columns.{column_named}
+use Rattle.mob_expression.specs.Expressions.{typed_expression}
 use Rattle.mob_clauses.specs.Conditions.{tree_place}
 use Rattle.mob_clauses.specs.Outputs.{ColumnNumbers, OutputLists, is_ungrouped}
 

@@ -15,10 +15,12 @@ use Rattle.mob_typed.specs.declared.typed.TExpr.{TExpr}
 use Rattle.mob_typed.specs.Trees.{TypedTree, typed, none, typed_of, type_of}
 use Rattle.mob_typed.specs.Selects.{Output, output_of}
 use Rattle.mob_typed.specs.Statements.{ColumnList}
-use Rattle.mob_expression.specs.declared.scope.Found.{Found}
-use Rattle.mob_expression.specs.Answers.{Mistake, ◌>>=◌, unless, found, TypingStep}
-use Rattle.mob_expression.specs.Scopes.{ScopeTableParts, ScopeParts}
-use Rattle.mob_expression.specs.Expressions.{column_named, typed_expression, typed_operands}
+use Rattle.mob_scope.specs.declared.scope.Found.{Found}
+use Rattle.mob_scope.specs.Answers.{Mistake, ◌>>=◌, unless, found}
+use Rattle.mob_expression.specs.Steps.{TypingStep}
+use Rattle.mob_scope.specs.Scopes.{ScopeTableParts, ScopeParts}
+use Rattle.mob_scope.specs.Columns.{column_named}
+use Rattle.mob_expression.specs.Expressions.{typed_expression, typed_operands}
 use Rattle.mob_clauses.specs.Conditions.{tree_place}
 use Rattle.mob_clauses.specs.declared.outputs.Outputs.{Outputs}
 

@@ -2,8 +2,8 @@
 ghost use Rattle.std.specs.Prelude.{◌≡◌, option_map};
 ghost use Rattle.mob_ast.specs.declared.types.Word.{Word};
 ghost use Rattle.mob_ast.specs.Trees.{tree_of, select_of};
-ghost use Rattle.mob_expression.specs.Answers.{TypesTo};
-ghost use Rattle.mob_expression.specs.Scopes.{scope_of};
+ghost use Rattle.mob_expression.specs.Steps.{TypesTo};
+ghost use Rattle.mob_scope.specs.Scopes.{scope_of};
 ghost use Rattle.mob_typed.specs.Selects.{select_seen};
 ghost use Rattle.mob_clauses.specs.Outputs.{outputs_seen};
 ghost use Rattle.mob_clauses.specs.Clauses.{typed_conditions, conditions_seen, typed_arrangement, arrangement_seen, rows_to_go, select_made, typed_clauses};
@@ -14,10 +14,10 @@ use crate::keys::{key_items, limit_of, typed_groups, typed_keys};
 use crate::outputs::{Outputs, outputs_of};
 use crate::tables::scope_tables;
 use mob_ast::{Expr, SelectTree};
-use mob_expression::fault::Fault;
-use mob_expression::scope::Scope;
 use mob_list::items::Items;
 use mob_list::text::Text;
+use mob_scope::fault::Fault;
+use mob_scope::scope::Scope;
 use mob_typed::{ConstText, TExpr, TypedSelect};
 use std::alloc::Global;
 

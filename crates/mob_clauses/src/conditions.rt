@@ -1,18 +1,19 @@
 //! The conditions of a SELECT: those of WHERE and of ON.
 ghost use Rattle.std.specs.Prelude.{◌≡◌, Ok, map, option_map};
 ghost use Rattle.mob_ast.specs.Trees.{tree_of, from_of};
-ghost use Rattle.mob_expression.specs.Answers.{AnswersAs, TypesTo};
-ghost use Rattle.mob_expression.specs.Scopes.{scope_of};
+ghost use Rattle.mob_scope.specs.Answers.{AnswersAs};
+ghost use Rattle.mob_expression.specs.Steps.{TypesTo};
+ghost use Rattle.mob_scope.specs.Scopes.{scope_of};
 ghost use Rattle.mob_expression.proofs.Behind.{behind};
 ghost use Rattle.mob_typed.specs.Trees.{typed_of};
 ghost use Rattle.mob_clauses.specs.Conditions.{tree_place, is_bool, condition, source_start, seen_by_on, joins_from, typed_joins};
 
 use mob_ast::{Expr, FromTable, Kind, SqlType};
 use mob_expression::expression::type_expr;
-use mob_expression::fault::Fault;
 use mob_expression::operators::type_of;
-use mob_expression::scope::{Scope, number};
 use mob_list::items::Items;
+use mob_scope::fault::Fault;
+use mob_scope::scope::{Scope, number};
 use mob_typed::{ConstText, TExpr};
 use std::alloc::Global;
 

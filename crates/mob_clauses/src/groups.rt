@@ -2,19 +2,19 @@
 ghost use Rattle.std.specs.Prelude.{◌≡◌, ◌++◌, Ok, map};
 ghost use Rattle.std.specs.List.{list_any, flat_map};
 ghost use Rattle.mob_ast.specs.Trees.{tree_of, item_of, select_of};
-ghost use Rattle.mob_expression.specs.Answers.{AnswersAs};
-ghost use Rattle.mob_expression.specs.Scopes.{scope_of};
+ghost use Rattle.mob_scope.specs.Answers.{AnswersAs};
+ghost use Rattle.mob_scope.specs.Scopes.{scope_of};
 ghost use Rattle.mob_typed.specs.Trees.{typed_of};
 ghost use Rattle.mob_typed.specs.Selects.{output_of};
 ghost use Rattle.mob_clauses.specs.Outputs.{is_aggregate_call, is_aggregate_item, is_grouped, group_column, grouping, is_same_column, is_column, is_ungrouped, any_ungrouped};
 
 use mob_ast::{Expr, Item, Node, SelectTree};
-use mob_expression::columns::column_named;
-use mob_expression::fault::Fault;
-use mob_expression::scope::Scope;
 use mob_list::items::Items;
 use mob_list::text::Text;
 use mob_operators::{Op, is_aggregate};
+use mob_scope::columns::column_named;
+use mob_scope::fault::Fault;
+use mob_scope::scope::Scope;
 use mob_typed::TExpr;
 use std::alloc::Global;
 

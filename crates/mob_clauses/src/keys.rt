@@ -1,9 +1,10 @@
 //! The columns of GROUP BY, the keys of ORDER BY and the number of LIMIT.
 ghost use Rattle.std.specs.Prelude.{◌≡◌, [], Ok, map, option_map, slice_get};
 ghost use Rattle.mob_ast.specs.Trees.{tree_of, key_of};
-ghost use Rattle.mob_expression.specs.Answers.{AnswersAs, TypesTo};
-ghost use Rattle.mob_expression.specs.Names.{entry_from};
-ghost use Rattle.mob_expression.specs.Scopes.{scope_of};
+ghost use Rattle.mob_scope.specs.Answers.{AnswersAs};
+ghost use Rattle.mob_expression.specs.Steps.{TypesTo};
+ghost use Rattle.mob_scope.specs.Names.{entry_from};
+ghost use Rattle.mob_scope.specs.Scopes.{scope_of};
 ghost use Rattle.mob_typed.specs.Trees.{typed_of};
 ghost use Rattle.mob_typed.specs.Selects.{output_of, key_seen};
 ghost use Rattle.mob_clauses.specs.Outputs.{outputs_seen};
@@ -13,15 +14,15 @@ use crate::conditions::tree_place;
 use crate::groups::is_ungrouped;
 use crate::outputs::Outputs;
 use mob_ast::{Expr, Key, Kind, Node, SqlType, Word};
-use mob_expression::columns::column_named;
 use mob_expression::constants::column_leaf;
 use mob_expression::expression::type_expr;
-use mob_expression::fault::{Fault, unless};
 use mob_expression::operators::type_of;
-use mob_expression::scope::{Found, Scope, number};
 use mob_expression::words::has_digits_alone;
 use mob_list::items::Items;
 use mob_list::text::Text;
+use mob_scope::columns::column_named;
+use mob_scope::fault::{Fault, unless};
+use mob_scope::scope::{Found, Scope, number};
 use mob_typed::{Agg, ConstText, TExpr, copy_of};
 use std::alloc::Global;
 

@@ -1,8 +1,9 @@
 //! The columns of the answer: the select list.
 ghost use Rattle.std.specs.Prelude.{◌≡◌, ◌++◌, ◌∷◌, [], map, option_map, length, IfOk, OnOk, Ok};
 ghost use Rattle.mob_ast.specs.Trees.{tree_of, trees_of, item_of, one};
-ghost use Rattle.mob_expression.specs.Answers.{AnswersAs, TypesTo};
-ghost use Rattle.mob_expression.specs.Scopes.{sources_of, scope_of};
+ghost use Rattle.mob_scope.specs.Answers.{AnswersAs};
+ghost use Rattle.mob_expression.specs.Steps.{TypesTo};
+ghost use Rattle.mob_scope.specs.Scopes.{sources_of, scope_of};
 ghost use Rattle.mob_typed.specs.Trees.{typed, typed_of, none};
 ghost use Rattle.mob_typed.specs.Selects.{output_of};
 ghost use Rattle.mob_clauses.specs.Outputs.{columns_of_table, all_outputs, numbered_name, tree_name, output_name, count_name, with_alias, value_seen, counting, lone_operand, aggregated, aggregate_value, plain_value, item_value, with_output, no_agg, with_every, with_item, with_items, outputs_seen, no_outputs};
@@ -10,15 +11,15 @@ ghost use Rattle.mob_clauses.specs.Outputs.{columns_of_table, all_outputs, numbe
 use crate::conditions::tree_place;
 use crate::groups::{any_ungrouped, is_ungrouped};
 use mob_ast::{Expr, Item, Kind, Node, SqlType, Word};
-use mob_expression::column_list::Columns;
 use mob_expression::constants::leaf;
 use mob_expression::expression::{type_expr, type_operands};
-use mob_expression::fault::Fault;
 use mob_expression::operators::type_of;
-use mob_expression::scope::{Scope, ScopeTable, number};
 use mob_list::items::Items;
 use mob_list::text::Text;
 use mob_operators::{AggKind, Op, aggregate_row, is_aggregate};
+use mob_scope::column_list::Columns;
+use mob_scope::fault::Fault;
+use mob_scope::scope::{Scope, ScopeTable, number};
 use mob_typed::{Agg, ConstText, TExpr};
 use std::alloc::{AllocError, Global};
 

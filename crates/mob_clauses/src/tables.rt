@@ -1,12 +1,12 @@
 //! The tables of FROM as they stand in a typed SELECT.
 ghost use Rattle.std.specs.Prelude.{◌≡◌, IfOk};
-ghost use Rattle.mob_expression.specs.Scopes.{sources_of};
+ghost use Rattle.mob_scope.specs.Scopes.{sources_of};
 ghost use Rattle.mob_clauses.specs.Clauses.{named_tables};
 
 use crate::clauses::Tables;
-use mob_expression::scope::ScopeTable;
 use mob_list::items::Items;
 use mob_list::text::Text;
+use mob_scope::scope::ScopeTable;
 use std::alloc::{AllocError, Global};
 
 /// The tables of FROM, with the names that they go by there.

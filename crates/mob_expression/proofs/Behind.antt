@@ -3,8 +3,9 @@
 use Rattle.std.proofs.Common.{◌≡◌, ◌∙◌, ◌<◌, ◌+◌, refl, sym, ap, ℕ, List, [], ◌∷◌, ◌++◌, length, drop, get_or, Result, Ok, Err}
 use Rattle.std.proofs.lemmas.List.{drop_more}
 use Rattle.mob_typed.specs.declared.typed.ConstText.{ConstText}
-use Rattle.mob_expression.specs.declared.fault.Fault.{Fault}
-use Rattle.mob_expression.specs.Answers.{Mistake, ◌>>=◌, TypingStep, one_more, StopsTyping}
+use Rattle.mob_scope.specs.declared.fault.Fault.{Fault}
+use Rattle.mob_scope.specs.Answers.{Mistake, ◌>>=◌, StopsTyping}
+use Rattle.mob_expression.specs.Steps.{TypingStep, one_more}
 use Rattle.mob_expression.proofs.Wrongs.{fails_along, fails_bind}
 
 -- what is there, and behind it what a step gives

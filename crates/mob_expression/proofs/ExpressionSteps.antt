@@ -5,11 +5,12 @@ use Rattle.mob_ast.specs.declared.expression.Node.{Node}
 use Rattle.mob_ast.specs.declared.expression.Expr.{Expr}
 use Rattle.mob_ast.specs.declared.expression.Expr.TheViews.{out-Expr}
 use Rattle.mob_ast.specs.Trees.{tree_of, trees_of}
-use Rattle.mob_expression.specs.declared.fault.Fault.{Fault}
+use Rattle.mob_scope.specs.declared.fault.Fault.{Fault}
 use Rattle.mob_typed.specs.declared.typed.ConstText.{ConstText}
 use Rattle.mob_typed.specs.declared.typed.TExpr.{TExpr}
-use Rattle.mob_expression.specs.Answers.{Mistake, ◌>>=◌, one_more, StopsTyping, AnswersAs, TypesTo}
-use Rattle.mob_expression.specs.Scopes.{ScopeParts}
+use Rattle.mob_scope.specs.Answers.{Mistake, ◌>>=◌, StopsTyping, AnswersAs}
+use Rattle.mob_expression.specs.Steps.{one_more, TypesTo}
+use Rattle.mob_scope.specs.Scopes.{ScopeParts}
 use Rattle.mob_typed.specs.Trees.{TypedTree, typed_of}
 use Rattle.mob_expression.specs.Expressions.{typed_before_operands, finished, or_later, typed_expression, typed_operands}
 use Rattle.mob_expression.proofs.TreeFacts.{tree_is}

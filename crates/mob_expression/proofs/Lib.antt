@@ -1,7 +1,6 @@
 pub mod Behind
-pub mod Entries
 pub mod ExpressionSteps
 pub mod Figures
-pub mod Matches
+pub mod Lists
 pub mod TreeFacts
 pub mod Wrongs

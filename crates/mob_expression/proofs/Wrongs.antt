@@ -1,8 +1,8 @@
 -- What is wrong first in a part is so in the whole.
 use Rattle.std.proofs.Common.{◌≡◌, ◌∙◌, ap, Result}
-use Rattle.mob_expression.specs.declared.fault.Fault.{Fault}
-use Rattle.mob_expression.specs.declared.fault.Fault.TheVariants.{Wrong as Refused, NoMemory}
-use Rattle.mob_expression.specs.Answers.{Mistake, ◌>>=◌, StopsTyping}
+use Rattle.mob_scope.specs.declared.fault.Fault.{Fault}
+use Rattle.mob_scope.specs.declared.fault.Fault.TheVariants.{Wrong as Refused, NoMemory}
+use Rattle.mob_scope.specs.Answers.{Mistake, ◌>>=◌, StopsTyping}
 
 pub fails_bind : {A B : Type 0} (f : Fault) (r : Result A Mistake) (k : A → Result B Mistake) → StopsTyping f r → StopsTyping f (r >>= k)
 fails_bind (Refused kind place) r k h = ap (λ a. a >>= k) h

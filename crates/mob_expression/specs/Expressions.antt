@@ -1,8 +1,7 @@
 -- Names and types of expressions: the typed tree of a tree, or what is wrong first. What is settled
 -- before the operands comes first, then the operands from left to right, then the operator.
-use Rattle.std.specs.Prelude.{◌&&◌, ◌||◌, not, ◌+◌, ℕ, List, [], ◌∷◌, ◌++◌, Bool, true, false, Option, Some, None, Result, Ok, codes, length, is_some, option_map, option_and_then, if◌then◌else◌}
+use Rattle.std.specs.Prelude.{◌&&◌, ◌||◌, not, ℕ, List, [], ◌∷◌, ◌++◌, Bool, true, false, Option, Some, None, Result, Ok, codes, length, is_some, option_map, option_and_then, if◌then◌else◌}
 use Rattle.std.specs.Str.{bytes_eq}
-use Rattle.mob_ast.specs.declared.types.Word.{Word}
 use Rattle.mob_ast.specs.declared.types.TypeWord.{TypeWord}
 use Rattle.mob_ast.specs.declared.types.SqlType.{SqlType}
 use Rattle.mob_ast.specs.declared.types.SqlType.TheVariants as sql
@@ -20,10 +19,10 @@ use Rattle.mob_operators.specs.Table.{table, is_irrational}
 use Rattle.mob_operators.specs.Aggregates.{is_aggregate}
 use Rattle.mob_typed.specs.Trees.{TypedTree, typed, none, more, typed_trees, types_of}
 use Rattle.mob_typed.specs.declared.typed.ConstText.{ConstText}
-use Rattle.mob_expression.specs.Answers.{Mistake, refuse, ◌>>=◌, unless, found, TypingStep, one_more}
-use Rattle.mob_expression.specs.Names.{column_of, entry_from}
-use Rattle.mob_expression.specs.Scopes.{ScopeTableParts, ScopeParts}
-use Rattle.mob_expression.specs.declared.scope.Found.{Found}
+use Rattle.mob_scope.specs.Answers.{Mistake, refuse, ◌>>=◌, unless, found}
+use Rattle.mob_expression.specs.Steps.{TypingStep, one_more}
+use Rattle.mob_scope.specs.Scopes.{ScopeParts}
+use Rattle.mob_scope.specs.Columns.{column_named}
 use Rattle.mob_expression.specs.Words.{type_named, literal_type, number_type, is_zero}
 
 -- a constant of this type and text, of the statement of number n, takes the next number
@@ -33,35 +32,6 @@ next_constant n ty text p cs = Ok (length cs, cs ++ record { ty = ty; text = tex
 -- the typed expression of the next constant
 abbrev pub constant : ScopeParts → SqlType → List ℕ → ℕ → TypingStep TypedTree
 constant s ty text p cs = next_constant s.statement ty text p cs >>= λ r. Ok (typed (op.Const r.0) ty p none, r.1)
-
-abbrev pub with_first : Option (ℕ × SqlType) → ℕ → List Found → List Found
-with_first None n others = others
-with_first (Some c) n others = record { from = n; column = c.0; ty = c.1 } ∷ others
-
--- the columns of this name in these tables, the first of which has number n
-abbrev pub matches : ℕ → List (List ℕ × ScopeTableParts) → List ℕ → List Found
-matches n [] name = []
-matches n (s ∷ ss) name = with_first (column_of s.1.columns name) n (matches (n + 1) ss name)
-
--- a bare name has to be that of one column
-abbrev pub the_one : ℕ → List Found → Result Found Mistake
-the_one p [] = refuse kind.UnknownName p
-the_one p (f ∷ []) = Ok f
-the_one p (f ∷ g ∷ fs) = refuse kind.Duplicate p
-
--- the column that a name stands for, with its table before a point or without, among these tables,
--- which are counted from 0
-abbrev pub column_among : List (List ℕ × ScopeTableParts) → Option Word → Word → Result Found Mistake
-column_among tables None c = the_one c.place (matches 0 tables c.text)
-column_among tables (Some t) c = found kind.UnknownName t.place (entry_from 0 tables t.text) >>= λ f. found kind.UnknownName c.place (column_of f.1.columns c.text) >>= λ k. Ok (record { from = f.0; column = k.0; ty = k.1 })
-
--- that column by the number of its table in FROM, where the first of those tables has this number
-abbrev pub in_from : ℕ → Found → Found
-in_from first f = record { from = first + f.from; column = f.column; ty = f.ty }
-
--- the column that a name stands for
-abbrev pub column_named : ScopeParts → Option Word → Word → Result Found Mistake
-column_named s t c = column_among s.from t c >>= λ f. Ok (in_from s.first f)
 
 -- the string and its place, where a cast has a bare string alone
 abbrev pub string_of : Tree → Option (List ℕ × ℕ)

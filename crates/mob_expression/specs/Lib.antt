@@ -1,5 +1,3 @@
-pub mod Answers
 pub mod Expressions
-pub mod Names
-pub mod Scopes
+pub mod Steps
 pub mod Words

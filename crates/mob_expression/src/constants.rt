@@ -1,19 +1,19 @@
 //! Constants, and what else is settled before operands are looked at.
 ghost use Rattle.std.specs.Prelude.{◌≡◌, None, Some, option_map};
 ghost use Rattle.mob_ast.specs.Trees.{tree_of, trees_of};
-ghost use Rattle.mob_expression.specs.Answers.{TypesTo};
+ghost use Rattle.mob_expression.specs.Steps.{TypesTo};
 ghost use Rattle.mob_typed.specs.Trees.{typed, typed_of, none};
-ghost use Rattle.mob_expression.specs.Scopes.{scope_of};
+ghost use Rattle.mob_scope.specs.Scopes.{scope_of};
 ghost use Rattle.mob_expression.specs.Expressions.{next_constant, constant, settled, typed_string, only, lone_string, cast_of_string, typed_before_operands};
 
-use crate::columns::column_named;
-use crate::fault::{Fault, unless};
-use crate::scope::{Found, Scope, number};
 use crate::words::{literal_type, number_type, type_named};
 use mob_ast::{Expr, Kind, Node, SqlType, TypeWord};
 use mob_list::items::Items;
 use mob_list::text::Text;
 use mob_operators::{Form, Op, is_irrational};
+use mob_scope::columns::column_named;
+use mob_scope::fault::{Fault, unless};
+use mob_scope::scope::{Found, Scope, number};
 use mob_typed::{ConstText, TExpr, with_args};
 use std::alloc::Global;
 

@@ -1,17 +1,17 @@
 //! Names and types of expressions.
 ghost use Rattle.std.specs.Prelude.{map};
 ghost use Rattle.mob_ast.specs.Trees.{tree_of, trees_of};
-ghost use Rattle.mob_expression.specs.Answers.{TypesTo};
+ghost use Rattle.mob_expression.specs.Steps.{TypesTo};
 ghost use Rattle.mob_typed.specs.Trees.{typed_of};
-ghost use Rattle.mob_expression.specs.Scopes.{scope_of};
+ghost use Rattle.mob_scope.specs.Scopes.{scope_of};
 ghost use Rattle.mob_expression.specs.Expressions.{typed_expression, typed_operands};
 
 use crate::constants::typed_before_operands;
-use crate::fault::Fault;
 use crate::operators::finished;
-use crate::scope::Scope;
 use mob_ast::Expr;
 use mob_list::items::Items;
+use mob_scope::fault::Fault;
+use mob_scope::scope::Scope;
 use mob_typed::{ConstText, TExpr};
 use std::alloc::Global;
 

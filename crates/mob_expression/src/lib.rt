@@ -3,11 +3,7 @@
 //! said, with its place.
 #![tactic(auto)]
 
-pub mod column_list;
-pub mod columns;
 pub mod constants;
 pub mod expression;
-pub mod fault;
 pub mod operators;
-pub mod scope;
 pub mod words;

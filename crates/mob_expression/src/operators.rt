@@ -4,15 +4,15 @@ ghost use Rattle.mob_operators.specs.Aggregates.{is_aggregate};
 ghost use Rattle.mob_operators.specs.Lookup.{has_function};
 ghost use Rattle.mob_operators.specs.Table.{table};
 ghost use Rattle.mob_ast.specs.Trees.{tree_of, trees_of};
-ghost use Rattle.mob_expression.specs.Answers.{AnswersAs};
+ghost use Rattle.mob_scope.specs.Answers.{AnswersAs};
 ghost use Rattle.mob_typed.specs.Trees.{TypedTree, typed, typed_of, typed_trees, type_of, types_of};
 ghost use Rattle.mob_expression.specs.Words.{is_zero};
 ghost use Rattle.mob_expression.specs.Expressions.{is_signed, digits_of, divisor_of, missing, missing_sign, are_linear, divides_by_zero, operated, can_cast, can_cast_all, cast, finished};
 
-use crate::fault::Fault;
 use crate::words::{is_zero, type_named};
 use mob_ast::{Expr, Kind, Node, SqlType, TypeWord};
 use mob_operators::{Form, Op, is_aggregate, is_function, is_irrational, operator_for};
+use mob_scope::fault::Fault;
 use mob_typed::{TExpr, with_args};
 use std::alloc::{AllocError, Global};
 

@@ -7,7 +7,7 @@ use Rattle.std.specs.Str.{bytes_eq}
 use Rattle.std.proofs.lemmas.List.{map-append}
 use Rattle.std.proofs.lemmas.Slice.Eq.{bytes_eq-Decides}
 use Rattle.mob_operators.specs.Table.{is_one_of}
-use Rattle.mob_expression.specs.Names.{entry_from, has_entry}
+use Rattle.mob_scope.specs.Names.{entry_from, has_entry}
 use Rattle.mob_list.proofs.Each.{each_both}
 
 other_way : (a b : List ℕ) → bytes_eq a b ≡ false → bytes_eq b a ≡ false

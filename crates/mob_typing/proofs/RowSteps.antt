@@ -7,10 +7,11 @@ use Rattle.mob_ast.specs.declared.expression.Expr.{Expr}
 use Rattle.mob_ast.specs.Trees.{tree_of}
 use Rattle.mob_typed.specs.declared.typed.ConstText.{ConstText}
 use Rattle.mob_typed.specs.Statements.{ColumnList}
-use Rattle.mob_expression.specs.declared.fault.Fault.{Fault}
-use Rattle.mob_expression.specs.Answers.{Mistake, TypingStep, one_more, StopsTyping}
+use Rattle.mob_scope.specs.declared.fault.Fault.{Fault}
+use Rattle.mob_scope.specs.Answers.{Mistake, StopsTyping}
+use Rattle.mob_expression.specs.Steps.{TypingStep, one_more}
 use Rattle.mob_expression.proofs.Behind.{behind, fails_behind, more_behind, none_behind}
-use Rattle.mob_expression.proofs.Matches.{drop_at}
+use Rattle.mob_expression.proofs.Lists.{drop_at}
 use Rattle.mob_expression.proofs.Wrongs.{fails_along}
 use Rattle.mob_typing.specs.Statements.{tree_value, row_values}
 

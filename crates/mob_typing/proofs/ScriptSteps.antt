@@ -7,9 +7,9 @@ use Rattle.mob_ast.specs.declared.statement.Statement.{Statement}
 use Rattle.mob_ast.specs.Trees.{StatementParts, statement_of}
 use Rattle.mob_typed.specs.declared.typed.ConstText.{ConstText}
 use Rattle.mob_typed.specs.Statements.{StatementOut, ScriptOut}
-use Rattle.mob_expression.specs.declared.fault.Fault.{Fault}
-use Rattle.mob_expression.specs.declared.fault.Fault.TheVariants.{Wrong as Refused, NoMemory}
-use Rattle.mob_expression.specs.Answers.{StopsTyping}
+use Rattle.mob_scope.specs.declared.fault.Fault.{Fault}
+use Rattle.mob_scope.specs.declared.fault.Fault.TheVariants.{Wrong as Refused, NoMemory}
+use Rattle.mob_scope.specs.Answers.{StopsTyping}
 use Rattle.mob_typing.specs.Names.{NameLists}
 use Rattle.mob_typing.specs.Statements.{Made, in_statement, or_refused, put_statement, typed_statement, typed_from, IsTypingRefusal, refusal_of}
 

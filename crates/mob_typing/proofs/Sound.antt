@@ -11,7 +11,7 @@ use Rattle.mob_typed.specs.Trees.{TypedTree, typed, TypedTrees, none, more as mo
 use Rattle.mob_typed.specs.Named.{names_before, all_name_before, names_from, all_name_from}
 use Rattle.mob_typed.specs.Statements.{ColumnList, nothing, new_table, new_index, new_rows, rows_from, deletion, query, plan_of}
 use Rattle.mob_list.proofs.Each.{each_both, each_on}
-use Rattle.mob_expression.specs.Names.{entry_from}
+use Rattle.mob_scope.specs.Names.{entry_from}
 use Rattle.mob_expression.specs.Words.{number_type}
 use Rattle.mob_clauses.specs.Conditions.{is_bool}
 use Rattle.mob_clauses.specs.Keys.{is_key}

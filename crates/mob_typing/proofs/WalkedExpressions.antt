@@ -26,12 +26,14 @@ use Rattle.std.proofs.lemmas.List.{length-map, map-append}
 use Rattle.std.proofs.lemmas.Option.{slice_get_within}
 use Rattle.mob_typed.specs.Named.{reads_before, names_before, all_name_before, reads_from, names_from, all_name_from}
 use Rattle.mob_list.proofs.Each.{each_get, each_on, each_parts}
-use Rattle.mob_expression.specs.declared.scope.Found.{Found}
-use Rattle.mob_expression.specs.Answers.{◌>>=◌, found, TypingStep}
-use Rattle.mob_expression.specs.Names.{column_of, entry_from}
-use Rattle.mob_expression.specs.Scopes.{ScopeTableParts, ScopeParts}
+use Rattle.mob_scope.specs.declared.scope.Found.{Found}
+use Rattle.mob_scope.specs.Answers.{◌>>=◌, found}
+use Rattle.mob_expression.specs.Steps.{TypingStep}
+use Rattle.mob_scope.specs.Names.{column_of, entry_from}
+use Rattle.mob_scope.specs.Scopes.{ScopeTableParts, ScopeParts}
 use Rattle.mob_expression.specs.Words.{type_named, literal_type, number_type, is_zero}
-use Rattle.mob_expression.specs.Expressions.{constant, with_first, matches, the_one, column_among, in_from, column_named, lone_string, cast_of_string, typed_before_operands, is_signed, signed_digits, digits_of, digits_in, divisor_of, divides_by_zero, applied, operated, can_cast_all, finished, or_later, typed_expression, typed_operands}
+use Rattle.mob_scope.specs.Columns.{with_first, matches, the_one, column_among, in_from, column_named}
+use Rattle.mob_expression.specs.Expressions.{constant, lone_string, cast_of_string, typed_before_operands, is_signed, signed_digits, digits_of, digits_in, divisor_of, divides_by_zero, applied, operated, can_cast_all, finished, or_later, typed_expression, typed_operands}
 use Rattle.mob_grammar.specs.Places.{IsWithin, nothing, same, literal_place, tree_places, trees_places}
 use Rattle.mob_grammar.specs.Held.{word_held, node_held, tree_held, trees_held}
 use Rattle.mob_grammar.proofs.Within.{within_all, within_back}

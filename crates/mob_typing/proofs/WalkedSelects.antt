@@ -21,11 +21,12 @@ use Rattle.mob_typed.specs.Trees.{TypedTree, type_of}
 use Rattle.mob_typed.specs.Selects.{Output, TypedSelectParts, on_of}
 use Rattle.mob_typed.specs.Statements.{ColumnList}
 use Rattle.mob_list.proofs.Each.{each_both, each_get, each_map, each_on, each_parts}
-use Rattle.mob_expression.specs.declared.scope.Found.{Found}
-use Rattle.mob_expression.specs.Answers.{Mistake, ◌>>=◌, one_more}
-use Rattle.mob_expression.specs.Expressions.{column_named}
-use Rattle.mob_expression.specs.Names.{has_entry}
-use Rattle.mob_expression.specs.Scopes.{ScopeTableParts, ScopeParts}
+use Rattle.mob_scope.specs.declared.scope.Found.{Found}
+use Rattle.mob_scope.specs.Answers.{Mistake, ◌>>=◌}
+use Rattle.mob_expression.specs.Steps.{one_more}
+use Rattle.mob_scope.specs.Columns.{column_named}
+use Rattle.mob_scope.specs.Names.{has_entry}
+use Rattle.mob_scope.specs.Scopes.{ScopeTableParts, ScopeParts}
 use Rattle.mob_typing.specs.Names.{table_of}
 use Rattle.mob_clauses.specs.Conditions.{condition, is_bool, tree_place, source_start, seen_by_on, joins_from, typed_joins}
 use Rattle.mob_clauses.specs.Outputs.{is_aggregate_call, is_aggregate_item, is_grouped, ColumnNumbers, column_numbers, group_column, grouping, is_column, is_ungrouped, any_ungrouped, columns_of_table, all_outputs, OutputLists, Value, counting, lone_operand, aggregate_value, plain_value, item_value, with_output, no_agg, with_every, with_item, with_items, no_outputs}

@@ -1,7 +1,7 @@
 -- The tables and the indexes that a script has made, as lists.
 use Rattle.std.specs.Prelude.{ℕ, List, Option}
 use Rattle.mob_typed.specs.Statements.{ColumnList}
-use Rattle.mob_expression.specs.Names.{entry_from}
+use Rattle.mob_scope.specs.Names.{entry_from}
 
 -- the tables in the order of their making, each with its columns, and the names of the indexes
 pub record NameLists : Type 0 where

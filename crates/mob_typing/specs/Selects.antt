@@ -4,11 +4,12 @@ use Rattle.std.specs.Prelude.{ℕ, List, [], ◌∷◌, ◌++◌, Option, Some, 
 use Rattle.mob_ast.specs.declared.types.Word.{Word}
 use Rattle.mob_ast.specs.declared.refusal.Kind.TheVariants as kind
 use Rattle.mob_ast.specs.Trees.{FromParts, SelectParts}
-use Rattle.mob_expression.specs.Answers.{Mistake, ◌>>=◌, unless, found, TypingStep}
+use Rattle.mob_scope.specs.Answers.{Mistake, ◌>>=◌, unless, found}
+use Rattle.mob_expression.specs.Steps.{TypingStep}
 use Rattle.mob_typed.specs.Selects.{TypedSelectParts}
 use Rattle.mob_typed.specs.Statements.{ColumnList}
-use Rattle.mob_expression.specs.Names.{has_entry}
-use Rattle.mob_expression.specs.Scopes.{ScopeTableParts}
+use Rattle.mob_scope.specs.Names.{has_entry}
+use Rattle.mob_scope.specs.Scopes.{ScopeTableParts}
 use Rattle.mob_clauses.specs.Clauses.{typed_clauses}
 use Rattle.mob_typing.specs.Names.{table_of}
 

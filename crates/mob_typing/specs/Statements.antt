@@ -16,12 +16,13 @@ use Rattle.mob_typed.specs.declared.typed.ConstText.{ConstText}
 use Rattle.mob_typed.specs.declared.typed.TypedStatement.{TypedStatement}
 use Rattle.mob_typed.specs.Selects.{TypedSelectParts}
 use Rattle.mob_typed.specs.Statements.{ColumnList, StatementOut, nothing, new_table, new_index, new_rows, rows_from, deletion, query, plan_of, ScriptOut, statement_seen}
-use Rattle.mob_expression.specs.declared.fault.Fault.{Fault}
-use Rattle.mob_expression.specs.declared.fault.Fault.TheVariants.{Wrong as Refused, NoMemory}
+use Rattle.mob_scope.specs.declared.fault.Fault.{Fault}
+use Rattle.mob_scope.specs.declared.fault.Fault.TheVariants.{Wrong as Refused, NoMemory}
 use Rattle.mob_ast.specs.Kinds.{no_memory}
-use Rattle.mob_expression.specs.Answers.{Mistake, refuse, ◌>>=◌, unless, found, TypingStep, one_more}
+use Rattle.mob_scope.specs.Answers.{Mistake, refuse, ◌>>=◌, unless, found}
+use Rattle.mob_expression.specs.Steps.{TypingStep, one_more}
 use Rattle.mob_typing.specs.Names.{NameLists, table_of}
-use Rattle.mob_expression.specs.Names.{column_of, has_entry}
+use Rattle.mob_scope.specs.Names.{column_of, has_entry}
 use Rattle.mob_operators.specs.Table.{is_one_of}
 use Rattle.mob_expression.specs.Words.{type_named, literal_type}
 use Rattle.mob_expression.specs.Expressions.{next_constant, only, is_signed}

@@ -1,16 +1,16 @@
 //! The tables of FROM.
 ghost use Rattle.std.specs.Prelude.{◌≡◌, ◌++◌, ◌∷◌, [], map};
 ghost use Rattle.mob_ast.specs.Trees.{from_of};
-ghost use Rattle.mob_expression.specs.Answers.{AnswersAs};
-ghost use Rattle.mob_expression.specs.Scopes.{source_of, sources_of};
-ghost use Rattle.mob_expression.specs.Names.{has_entry};
+ghost use Rattle.mob_scope.specs.Answers.{AnswersAs};
+ghost use Rattle.mob_scope.specs.Scopes.{source_of, sources_of};
+ghost use Rattle.mob_scope.specs.Names.{has_entry};
 ghost use Rattle.mob_typing.specs.Selects.{from_name, from_table, from_tables};
 
 use crate::names::Names;
 use mob_ast::{FromTable, Kind, Word};
-use mob_expression::columns::source_named;
-use mob_expression::fault::{Fault, unless};
-use mob_expression::scope::{ScopeTable, number};
+use mob_scope::columns::source_named;
+use mob_scope::fault::{Fault, unless};
+use mob_scope::scope::{ScopeTable, number};
 use std::alloc::Global;
 
 // How many tables there may be in FROM.

@@ -1,11 +1,11 @@
 //! The tables and the indexes that a script has made so far, by name and by number.
 ghost use Rattle.std.specs.Prelude.{◌≡◌, ◌∷◌, ◌++◌, [], false, length, OnErr, OnOk, option_map};
 ghost use Rattle.mob_operators.specs.Table.{is_one_of};
-ghost use Rattle.mob_expression.specs.Names.{has_entry};
+ghost use Rattle.mob_scope.specs.Names.{has_entry};
 ghost use Rattle.mob_typing.specs.Names.{table_of};
 
 use indexmap::{IndexMap, IndexSet};
-use mob_expression::column_list::Columns;
+use mob_scope::column_list::Columns;
 use std::alloc::{AllocError, Global};
 use std::marker::Model;
 

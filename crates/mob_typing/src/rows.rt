@@ -2,18 +2,19 @@
 ghost use Rattle.std.specs.Prelude.{◌≡◌, length, map, option_map, IfOk};
 ghost use Rattle.mob_ast.specs.Trees.{tree_of, trees_of, row_of};
 ghost use Rattle.mob_operators.specs.Lookup.{same_type};
-ghost use Rattle.mob_expression.specs.Answers.{AnswersAs, TypesTo};
+ghost use Rattle.mob_scope.specs.Answers.{AnswersAs};
+ghost use Rattle.mob_expression.specs.Steps.{TypesTo};
 ghost use Rattle.mob_typing.specs.Statements.{made_seen, row_constant, lone_number, signed_value, bool_value, typed_value, node_value, tree_value, row_values, typed_row, typed_rows, inserted, good_delimiter, copied};
 
 use crate::names::Names;
 use mob_ast::{Expr, Kind, Node, Quoted, Row, SqlType, TypeWord, Word};
-use mob_expression::column_list::Columns;
 use mob_expression::constants::{next_constant, only};
-use mob_expression::fault::{Fault, unless};
 use mob_expression::operators::is_signed;
-use mob_expression::scope::number;
 use mob_expression::words::literal_type;
 use mob_list::items::Items;
+use mob_scope::column_list::Columns;
+use mob_scope::fault::{Fault, unless};
+use mob_scope::scope::number;
 use mob_typed::{ConstText, TypedStatement};
 use std::alloc::{AllocError, Global};
 

@@ -1,7 +1,7 @@
 //! Names and types of whole scripts.
 ghost use Rattle.std.specs.Prelude.{◌≡◌, [], Ok, map, IfOk, IfErr};
 ghost use Rattle.mob_ast.specs.Trees.{statement_of, script_of};
-ghost use Rattle.mob_expression.specs.Answers.{TypesTo};
+ghost use Rattle.mob_expression.specs.Steps.{TypesTo};
 ghost use Rattle.mob_typed.specs.Statements.{script_seen};
 ghost use Rattle.mob_typing.specs.Statements.{made_seen, typed_statement, typed_from, typed_script, IsTypingRefusal, refusal_of};
 
@@ -10,8 +10,8 @@ use crate::rows::{copied, inserted};
 use crate::select::{deleted, explained, selected};
 use crate::tables::{made_index, made_table};
 use mob_ast::{Kind, Refusal, Script, Statement};
-use mob_expression::fault::Fault;
 use mob_list::items::Items;
+use mob_scope::fault::Fault;
 use mob_typed::{ConstText, Typed, TypedStatement};
 use std::alloc::Global;
 

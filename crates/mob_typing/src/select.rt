@@ -1,7 +1,7 @@
 //! SELECT, EXPLAIN and DELETE.
 ghost use Rattle.std.specs.Prelude.{option_map};
 ghost use Rattle.mob_ast.specs.Trees.{tree_of, select_of};
-ghost use Rattle.mob_expression.specs.Answers.{TypesTo};
+ghost use Rattle.mob_expression.specs.Steps.{TypesTo};
 ghost use Rattle.mob_typed.specs.Selects.{select_seen};
 ghost use Rattle.mob_typed.specs.Statements.{deletion, query, plan_of};
 ghost use Rattle.mob_clauses.specs.Clauses.{rows_to_go};
@@ -12,9 +12,9 @@ use crate::from::{from_table, from_tables};
 use crate::names::Names;
 use mob_ast::{Expr, SelectTree, Word};
 use mob_clauses::{clauses_to_go, typed_clauses};
-use mob_expression::fault::Fault;
-use mob_expression::scope::Scope;
 use mob_list::items::Items;
+use mob_scope::fault::Fault;
+use mob_scope::scope::Scope;
 use mob_typed::{ConstText, TypedSelect, TypedStatement};
 use std::alloc::Global;
 

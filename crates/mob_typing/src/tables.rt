@@ -3,19 +3,19 @@ ghost use Rattle.std.specs.Prelude.{◌≡◌, ◌∷◌, ◌++◌, [], Ok, fals
 ghost use Rattle.mob_operators.specs.Lookup.{same_type};
 ghost use Rattle.mob_operators.specs.Table.{is_one_of};
 ghost use Rattle.mob_ast.specs.declared.types.SqlType.TheVariants.{TPoint};
-ghost use Rattle.mob_expression.specs.Answers.{AnswersAs};
-ghost use Rattle.mob_expression.specs.Names.{has_entry};
+ghost use Rattle.mob_scope.specs.Answers.{AnswersAs};
+ghost use Rattle.mob_scope.specs.Names.{has_entry};
 ghost use Rattle.mob_typing.specs.Statements.{made_seen, with_column, with_columns, made_table, with_index, made_index};
 ghost use Rattle.mob_typed.specs.Statements.{new_index};
 
 use crate::names::Names;
 use mob_ast::{Kind, SqlType, TypeWord, Word};
-use mob_expression::column_list::Columns;
-use mob_expression::fault::{Fault, unless};
-use mob_expression::scope::number;
 use mob_expression::words::type_named;
 use mob_list::items::Items;
 use mob_list::text::Text;
+use mob_scope::column_list::Columns;
+use mob_scope::fault::{Fault, unless};
+use mob_scope::scope::number;
 use mob_typed::TypedStatement;
 use std::alloc::{AllocError, Global};
 

@@ -4,7 +4,7 @@ use Rattle.std.proofs.lemmas.List.{drop_all, map_push}
 use Rattle.std.proofs.lemmas.Result.{err_from_is_err_and}
 use Rattle.mob_ast.specs.Trees.{from_of}
 use Rattle.mob_typed.specs.Trees.{typed_of}
-use Rattle.mob_expression.specs.Scopes.{scope_of}
+use Rattle.mob_scope.specs.Scopes.{scope_of}
 use Rattle.mob_expression.proofs.Behind.{behind}
 use Rattle.mob_clauses.specs.Conditions.{joins_from}
 use Rattle.mob_clauses.proofs.Joined.{join_fails, join_made, joins_made}

@@ -1,7 +1,7 @@
 use Rattle.std.proofs.Common.{◌≡◌, drop, map}
 use Rattle.std.specs.Prelude.{option_map}
 use Rattle.mob_ast.specs.Trees.{from_of}
-use Rattle.mob_expression.specs.Scopes.{scope_of}
+use Rattle.mob_scope.specs.Scopes.{scope_of}
 use Rattle.mob_expression.proofs.Behind.{behind}
 use Rattle.mob_typed.specs.Trees.{typed_of}
 use Rattle.mob_clauses.specs.Conditions.{joins_from}

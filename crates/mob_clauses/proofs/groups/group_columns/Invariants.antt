@@ -1,7 +1,7 @@
 use Rattle.std.proofs.Common.{◌≡◌, ◌++◌, drop, map}
 use Rattle.std.specs.List.{flat_map}
 use Rattle.mob_ast.specs.Trees.{tree_of}
-use Rattle.mob_expression.specs.Scopes.{scope_of}
+use Rattle.mob_scope.specs.Scopes.{scope_of}
 use Rattle.mob_clauses.specs.Outputs.{group_column}
 use Rattle.mob_clauses.proofs.groups.group_columns.Given as goal
 

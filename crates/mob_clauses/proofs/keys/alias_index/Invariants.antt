@@ -1,5 +1,5 @@
 use Rattle.std.proofs.Common.{◌≡◌, drop, map}
-use Rattle.mob_expression.specs.Names.{entry_from}
+use Rattle.mob_scope.specs.Names.{entry_from}
 use Rattle.mob_clauses.proofs.keys.alias_index.Given as goal
 
 abbrev pub invariant-loop-alias : goal.invariant-loop-alias

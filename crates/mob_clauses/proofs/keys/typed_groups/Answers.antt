@@ -2,7 +2,7 @@ use Rattle.std.proofs.Common.{◌∙◌, ap, arith, map}
 use Rattle.std.proofs.lemmas.List.{map_push}
 use Rattle.std.proofs.lemmas.Result.{err_from_is_err_and}
 use Rattle.mob_typed.specs.Trees.{typed_of}
-use Rattle.mob_expression.specs.Scopes.{scope_of}
+use Rattle.mob_scope.specs.Scopes.{scope_of}
 use Rattle.mob_clauses.proofs.Listed.{group_fails, group_made, groups_made}
 use Rattle.mob_clauses.proofs.keys.typed_groups.Goals as goal
 

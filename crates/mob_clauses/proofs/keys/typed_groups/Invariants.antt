@@ -1,6 +1,6 @@
 use Rattle.std.proofs.Common.{◌≡◌, [], drop, map}
 use Rattle.mob_ast.specs.Trees.{tree_of}
-use Rattle.mob_expression.specs.Scopes.{scope_of}
+use Rattle.mob_scope.specs.Scopes.{scope_of}
 use Rattle.mob_typed.specs.Trees.{typed_of}
 use Rattle.mob_clauses.specs.Keys.{with_groups}
 use Rattle.mob_clauses.proofs.keys.typed_groups.Given as goal

@@ -4,7 +4,7 @@ use Rattle.std.proofs.lemmas.Result.{err_from_is_err_and}
 use Rattle.mob_ast.specs.declared.statement.Key.{Key}
 use Rattle.mob_ast.specs.Trees.{key_of}
 use Rattle.mob_typed.specs.Selects.{key_seen}
-use Rattle.mob_expression.specs.Scopes.{scope_of}
+use Rattle.mob_scope.specs.Scopes.{scope_of}
 use Rattle.mob_expression.proofs.Behind.{entries_made, entry_fails, entry_made}
 use Rattle.mob_clauses.specs.Outputs.{outputs_seen}
 use Rattle.mob_clauses.specs.Keys.{typed_key, typed_keys}

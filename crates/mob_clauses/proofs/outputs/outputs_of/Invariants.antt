@@ -1,6 +1,6 @@
 use Rattle.std.proofs.Common.{◌≡◌, drop, map}
 use Rattle.mob_ast.specs.Trees.{item_of}
-use Rattle.mob_expression.specs.Scopes.{scope_of}
+use Rattle.mob_scope.specs.Scopes.{scope_of}
 use Rattle.mob_clauses.specs.Outputs.{with_items, no_outputs, outputs_seen}
 use Rattle.mob_clauses.proofs.outputs.outputs_of.Given as goal
 

@@ -1,5 +1,5 @@
 use Rattle.std.proofs.Common.{◌≡◌, ◌++◌, drop, map}
-use Rattle.mob_expression.specs.Scopes.{sources_of}
+use Rattle.mob_scope.specs.Scopes.{sources_of}
 use Rattle.mob_clauses.specs.Outputs.{all_outputs}
 use Rattle.mob_typed.specs.Selects.{output_of}
 use Rattle.mob_clauses.proofs.outputs.push_all.Given as goal

@@ -1,6 +1,6 @@
 use Rattle.std.proofs.Common.{◌∙◌, sym, arith}
 use Rattle.mob_typed.specs.Selects.{output_of}
-use Rattle.mob_expression.proofs.Matches.{mapped_more, mapped_all}
+use Rattle.mob_expression.proofs.Lists.{mapped_more, mapped_all}
 use Rattle.mob_clauses.specs.Outputs.{no_agg}
 use Rattle.mob_clauses.proofs.outputs.push_no_aggs.Goals as goal
 

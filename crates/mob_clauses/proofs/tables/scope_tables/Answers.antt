@@ -1,6 +1,6 @@
 use Rattle.std.proofs.Common.{◌≡◌, ◌∙◌, ◌++◌, ◌∷◌, [], ℕ, List, sym, ap, arith}
-use Rattle.mob_expression.specs.Scopes.{ScopeTableParts, source_of}
-use Rattle.mob_expression.proofs.Matches.{mapped_more, mapped_all}
+use Rattle.mob_scope.specs.Scopes.{ScopeTableParts, source_of}
+use Rattle.mob_expression.proofs.Lists.{mapped_more, mapped_all}
 use Rattle.mob_clauses.specs.declared.clauses.Tables.{Tables}
 use Rattle.mob_clauses.proofs.tables.scope_tables.Goals as goal
 

@@ -1,5 +1,5 @@
 use Rattle.std.proofs.Common.{◌≡◌, ◌++◌, drop, map}
-use Rattle.mob_expression.specs.Scopes.{sources_of}
+use Rattle.mob_scope.specs.Scopes.{sources_of}
 use Rattle.mob_clauses.proofs.tables.scope_tables.Given as goal
 
 abbrev pub invariant-loop-source : goal.invariant-loop-source

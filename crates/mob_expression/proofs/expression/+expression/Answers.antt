@@ -3,7 +3,7 @@ use Rattle.std.proofs.lemmas.List.{drop_all, map_push}
 use Rattle.std.proofs.lemmas.Result.{err_from_is_err_and}
 use Rattle.mob_ast.specs.declared.expression.Expr.{Expr}
 use Rattle.mob_ast.specs.Trees.{tree_of, trees_of}
-use Rattle.mob_expression.specs.Scopes.{scope_of}
+use Rattle.mob_scope.specs.Scopes.{scope_of}
 use Rattle.mob_typed.specs.Trees.{typed_of}
 use Rattle.mob_expression.specs.Expressions.{typed_expression, typed_operands}
 use Rattle.mob_expression.proofs.Behind.{entries_made, entry_fails, entry_made}

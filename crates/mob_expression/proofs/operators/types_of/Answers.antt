@@ -1,6 +1,6 @@
 use Rattle.std.proofs.Common.{◌∙◌, ◌++◌, ◌∷◌, [], sym, ap, arith}
 use Rattle.mob_typed.specs.Trees.{typed_of, type_of}
-use Rattle.mob_expression.proofs.Matches.{mapped_more, mapped_all}
+use Rattle.mob_expression.proofs.Lists.{mapped_more, mapped_all}
 use Rattle.mob_expression.proofs.operators.types_of.Goals as goal
 
 pub loop-arg-preserved : goal.loop-arg-preserved

@@ -5,9 +5,9 @@ use Rattle.mob_ast.specs.declared.types.Word.{Word}
 use Rattle.mob_ast.specs.declared.statement.FromTable.{FromTable}
 use Rattle.mob_ast.specs.Trees.{from_of}
 use Rattle.mob_typed.specs.Statements.{ColumnList}
-use Rattle.mob_expression.specs.declared.scope.ScopeTable.{ScopeTable}
-use Rattle.mob_expression.specs.Answers.{Mistake, StopsTyping}
-use Rattle.mob_expression.specs.Scopes.{ScopeTableParts, source_of, sources_of}
+use Rattle.mob_scope.specs.declared.scope.ScopeTable.{ScopeTable}
+use Rattle.mob_scope.specs.Answers.{Mistake, StopsTyping}
+use Rattle.mob_scope.specs.Scopes.{ScopeTableParts, source_of, sources_of}
 use Rattle.mob_typing.specs.Selects.{from_table, from_tables}
 use Rattle.mob_typing.proofs.Folded.{step_fails, step_made, steps_made}
 use Rattle.mob_typing.proofs.from.from_tables.Goals as goal

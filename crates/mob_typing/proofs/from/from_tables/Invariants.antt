@@ -1,6 +1,6 @@
 use Rattle.std.proofs.Common.{◌≡◌, [], drop, map}
 use Rattle.mob_ast.specs.Trees.{from_of}
-use Rattle.mob_expression.specs.Scopes.{sources_of}
+use Rattle.mob_scope.specs.Scopes.{sources_of}
 use Rattle.mob_typing.specs.Selects.{from_tables}
 use Rattle.mob_typing.proofs.from.from_tables.Given as goal
 

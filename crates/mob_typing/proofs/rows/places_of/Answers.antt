@@ -1,6 +1,6 @@
 use Rattle.std.proofs.Common.{◌∙◌, ℕ, sym, arith}
 use Rattle.mob_ast.specs.Trees.{RowParts, row_of}
-use Rattle.mob_expression.proofs.Matches.{mapped_more, mapped_all}
+use Rattle.mob_expression.proofs.Lists.{mapped_more, mapped_all}
 use Rattle.mob_typing.proofs.rows.places_of.Goals as goal
 
 abbrev place : RowParts → ℕ

@@ -1,5 +1,5 @@
 use Rattle.mob_typing.specs.Names.{NameLists}
-use Rattle.mob_expression.proofs.Entries.{name_last}
+use Rattle.mob_scope.proofs.Entries.{name_last}
 use Rattle.std.proofs.Common.{sym, ap}
 use Rattle.mob_typing.proofs.names.Names.add_index.Goals as goal
 

@@ -1,6 +1,6 @@
 use Rattle.std.proofs.Common.{sym, ap}
 use Rattle.mob_typing.specs.Names.{NameLists}
-use Rattle.mob_expression.proofs.Entries.{new_last}
+use Rattle.mob_scope.proofs.Entries.{new_last}
 use Rattle.mob_typing.proofs.names.Names.add_table.Goals as goal
 
 pub returns-clause-last : goal.returns-clause-last

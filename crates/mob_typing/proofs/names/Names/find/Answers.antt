@@ -1,6 +1,6 @@
 use Rattle.std.proofs.Common.{sym, ap}
 use Rattle.mob_typing.specs.Names.{NameLists}
-use Rattle.mob_expression.proofs.Entries.{entry_there, entry_missing}
+use Rattle.mob_scope.proofs.Entries.{entry_there, entry_missing}
 use Rattle.mob_typing.proofs.names.Names.find.Goals as goal
 
 pub returns-in_err-index : goal.returns-in_err-index

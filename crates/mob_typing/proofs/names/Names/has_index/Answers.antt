@@ -1,5 +1,5 @@
 use Rattle.mob_typing.specs.Names.{NameLists}
-use Rattle.mob_expression.proofs.Entries.{any_bytes}
+use Rattle.mob_scope.proofs.Entries.{any_bytes}
 use Rattle.std.proofs.Common.{sym, ◌∙◌, ap}
 use Rattle.mob_typing.proofs.names.Names.has_index.Goals as goal
 

@@ -2,7 +2,6 @@
 use Rattle.std.specs.Prelude.{◌+◌, ℕ, List, [], ◌∷◌, Bool, Option, Some, None, is_some, if◌then◌else◌}
 use Rattle.std.specs.Str.{bytes_eq}
 use Rattle.mob_ast.specs.declared.types.SqlType.{SqlType}
-use Rattle.mob_typed.specs.Statements.{ColumnList}
 
 -- the number and the content of the first entry of this name, where the first of the entries has
 -- number n
@@ -15,5 +14,5 @@ abbrev pub has_entry : {A : Type 0} → List (List ℕ × A) → List ℕ → Bo
 has_entry es name = is_some (entry_from 0 es name)
 
 -- the number and the type of the column of this name
-abbrev pub column_of : ColumnList → List ℕ → Option (ℕ × SqlType)
+abbrev pub column_of : List (List ℕ × SqlType) → List ℕ → Option (ℕ × SqlType)
 column_of columns name = entry_from 0 columns name

@@ -1,8 +1,8 @@
 use Rattle.std.proofs.Common.{◌≡◌, drop}
-use Rattle.mob_expression.specs.Scopes.{sources_of}
-use Rattle.mob_expression.specs.Expressions.{matches}
-use Rattle.mob_expression.proofs.Matches.{listed}
-use Rattle.mob_expression.proofs.columns.bare_column.Given as goal
+use Rattle.mob_scope.specs.Scopes.{sources_of}
+use Rattle.mob_scope.specs.Columns.{matches}
+use Rattle.mob_scope.proofs.Matches.{listed}
+use Rattle.mob_scope.proofs.columns.bare_column.Given as goal
 
 abbrev pub invariant-loop-index : goal.invariant-loop-index
 invariant-loop-index l = matches 0 (sources_of l.from) l.name.text ≡ listed l.one (matches l.index (sources_of (drop l.index l.from)) l.name.text)

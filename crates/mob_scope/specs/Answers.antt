@@ -1,9 +1,8 @@
--- What typing answers: a value and the constants so far, or what is wrong first.
-use Rattle.std.specs.Prelude.{◌≡◌, ℕ, List, ◌∷◌, Bool, Option, Some, None, Result, Ok, Err, if◌then◌else◌}
+-- What typing answers: a value, or what is wrong first.
+use Rattle.std.specs.Prelude.{◌≡◌, ℕ, Bool, Option, Some, None, Result, Ok, Err, if◌then◌else◌}
 use Rattle.mob_ast.specs.declared.refusal.Kind.{Kind}
-use Rattle.mob_typed.specs.declared.typed.ConstText.{ConstText}
-use Rattle.mob_expression.specs.declared.fault.Fault.{Fault}
-use Rattle.mob_expression.specs.declared.fault.Fault.TheVariants.{Wrong as Refused, NoMemory}
+use Rattle.mob_scope.specs.declared.fault.Fault.{Fault}
+use Rattle.mob_scope.specs.declared.fault.Fault.TheVariants.{Wrong as Refused, NoMemory}
 
 -- what is wrong, and where
 pub record Mistake : Type 0 where
@@ -28,14 +27,6 @@ abbrev pub found : {A : Type 0} → Kind → ℕ → Option A → Result A Mista
 found kind place None = refuse kind place
 found kind place (Some x) = Ok x
 
--- a step takes the constants so far, and gives a value and the constants after it
-abbrev pub TypingStep : Type 0 → Type 0
-TypingStep A = List ConstText → Result (A × List ConstText) Mistake
-
--- the first of a list, and then the others
-abbrev pub one_more : {A : Type 0} → TypingStep A → TypingStep (List A) → TypingStep (List A)
-one_more first others cs = first cs >>= λ r. others r.1 >>= λ s. Ok (r.0 ∷ s.0, s.1)
-
 -- what the program answers where the definition reads so; a failed allocation is free
 abbrev pub StopsTyping : {Y : Type 0} → Fault → Result Y Mistake → Type 0
 StopsTyping (Refused kind place) read = read ≡ Err (record { kind = kind; place = place })
@@ -45,8 +36,3 @@ StopsTyping NoMemory read = Unit {0}
 abbrev pub AnswersAs : {X Y : Type 0} → (X → Y) → Result X Fault → Result Y Mistake → Type 0
 AnswersAs view (Ok x) read = read ≡ Ok (view x)
 AnswersAs view (Err e) read = StopsTyping e read
-
--- the same for a step, which leaves these constants
-abbrev pub TypesTo : {X Y : Type 0} → (X → Y) → Result X Fault → List ConstText → Result (Y × List ConstText) Mistake → Type 0
-TypesTo view (Ok x) after read = read ≡ Ok (view x, after)
-TypesTo view (Err e) after read = StopsTyping e read

@@ -1,6 +1,6 @@
 //! The columns of a table, by name and by number.
 ghost use Rattle.std.specs.Prelude.{◌≡◌, ◌<◌, Some, ◌∷◌, ◌++◌, [], false, length, OnErr, OnOk, slice_get};
-ghost use Rattle.mob_expression.specs.Names.{column_of, has_entry};
+ghost use Rattle.mob_scope.specs.Names.{column_of, has_entry};
 
 use indexmap::IndexMap;
 use mob_ast::SqlType;

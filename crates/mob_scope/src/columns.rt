@@ -1,9 +1,9 @@
 //! The column that a name stands for.
 ghost use Rattle.std.specs.Prelude.{◌≡◌, Ok, option_map};
-ghost use Rattle.mob_expression.specs.Answers.{AnswersAs};
-ghost use Rattle.mob_expression.specs.Names.{entry_from};
-ghost use Rattle.mob_expression.specs.Scopes.{source_of, sources_of, scope_of};
-ghost use Rattle.mob_expression.specs.Expressions.{the_one, matches, column_among, in_from, column_named};
+ghost use Rattle.mob_scope.specs.Answers.{AnswersAs};
+ghost use Rattle.mob_scope.specs.Names.{entry_from};
+ghost use Rattle.mob_scope.specs.Scopes.{source_of, sources_of, scope_of};
+ghost use Rattle.mob_scope.specs.Columns.{the_one, matches, column_among, in_from, column_named};
 
 use crate::fault::Fault;
 use crate::scope::{Found, Scope, ScopeTable, number};

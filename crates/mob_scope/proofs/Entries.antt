@@ -8,7 +8,7 @@ use Rattle.std.specs.Map.{keys_of, lookup}
 use Rattle.std.proofs.lemmas.Iterator.Adapters.{position_from-zero}
 use Rattle.indexmap.specs.IndexMap.{insert_entry}
 use Rattle.indexmap.specs.IndexSet.{insert_key}
-use Rattle.mob_expression.specs.Names.{entry_from, has_entry}
+use Rattle.mob_scope.specs.Names.{entry_from, has_entry}
 
 abbrev is : List ℕ → String Global → Bool
 is name k = bytes_eq name (string_bytes k)

@@ -1,5 +1,5 @@
 //! Why typing stops.
-ghost use Rattle.mob_expression.specs.Answers.{AnswersAs, unless};
+ghost use Rattle.mob_scope.specs.Answers.{AnswersAs, unless};
 
 use mob_ast::Kind;
 use std::alloc::{AllocError, AllocFailed};
@@ -20,7 +20,7 @@ pub enum Fault {
 
 impl From<AllocError> for Fault {
     ghost use Rattle.std.specs.Prelude.{◌≡◌};
-    ghost use Rattle.mob_expression.specs.declared.fault.Fault.TheVariants.{NoMemory};
+    ghost use Rattle.mob_scope.specs.declared.fault.Fault.TheVariants.{NoMemory};
 
     ghost from_gives = { λ _ e. e ≡ NoMemory };
 
@@ -31,7 +31,7 @@ impl From<AllocError> for Fault {
 
 impl<T: Drop> From<AllocFailed<T>> for Fault {
     ghost use Rattle.std.specs.Prelude.{◌≡◌};
-    ghost use Rattle.mob_expression.specs.declared.fault.Fault.TheVariants.{NoMemory};
+    ghost use Rattle.mob_scope.specs.declared.fault.Fault.TheVariants.{NoMemory};
 
     ghost from_gives = { λ _ e. e ≡ NoMemory };
 

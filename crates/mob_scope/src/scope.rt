@@ -1,6 +1,6 @@
 //! What an expression sees: tables of FROM and their columns.
 ghost use Rattle.std.specs.Prelude.{Ok};
-ghost use Rattle.mob_expression.specs.Answers.{AnswersAs};
+ghost use Rattle.mob_scope.specs.Answers.{AnswersAs};
 
 use crate::column_list::Columns;
 use crate::fault::Fault;

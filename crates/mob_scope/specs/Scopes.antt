@@ -1,13 +1,13 @@
 -- What an expression sees.
 use Rattle.std.specs.Prelude.{ℕ, List, map}
-use Rattle.mob_expression.specs.declared.scope.ScopeTable.{ScopeTable}
-use Rattle.mob_expression.specs.declared.scope.Scope.{Scope}
-use Rattle.mob_typed.specs.Statements.{ColumnList}
+use Rattle.mob_ast.specs.declared.types.SqlType.{SqlType}
+use Rattle.mob_scope.specs.declared.scope.ScopeTable.{ScopeTable}
+use Rattle.mob_scope.specs.declared.scope.Scope.{Scope}
 
 -- a table of FROM: its number and its columns
 pub record ScopeTableParts : Type 0 where
   pub table : ℕ
-  pub columns : ColumnList
+  pub columns : List (List ℕ × SqlType)
 
 -- what an expression sees: tables of FROM that stand side by side, under the names that they go by
 -- there, the number of the first of them in FROM, and the number of its statement

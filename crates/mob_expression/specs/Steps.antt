@@ -1,0 +1,19 @@
+-- A step of typing: a value and the constants so far, or what is wrong first.
+use Rattle.std.specs.Prelude.{◌≡◌, List, ◌∷◌, Result, Ok, Err}
+use Rattle.mob_typed.specs.declared.typed.ConstText.{ConstText}
+use Rattle.mob_scope.specs.declared.fault.Fault.{Fault}
+use Rattle.mob_scope.specs.Answers.{Mistake, ◌>>=◌, StopsTyping}
+
+-- a step takes the constants so far, and gives a value and the constants after it
+abbrev pub TypingStep : Type 0 → Type 0
+TypingStep A = List ConstText → Result (A × List ConstText) Mistake
+
+-- the first of a list, and then the others
+abbrev pub one_more : {A : Type 0} → TypingStep A → TypingStep (List A) → TypingStep (List A)
+one_more first others cs = first cs >>= λ r. others r.1 >>= λ s. Ok (r.0 ∷ s.0, s.1)
+
+-- the program answers as the definition of a step reads, and leaves these constants; a failed
+-- allocation is free
+abbrev pub TypesTo : {X Y : Type 0} → (X → Y) → Result X Fault → List ConstText → Result (Y × List ConstText) Mistake → Type 0
+TypesTo view (Ok x) after read = read ≡ Ok (view x, after)
+TypesTo view (Err e) after read = StopsTyping e read
