@@ -1,5 +1,4 @@
-use Rattle.std.proofs.Common.{◌≡◌, ap, subst, sym}
-use Rattle.mob_typed.specs.Trees.{typed_of}
+use Rattle.std.proofs.Common.{ap, subst, sym}
 use Rattle.mob_typed.proofs.TreeFacts.{typed_is}
 use Rattle.mob_eval.specs.Views.{scene_of}
 use Rattle.mob_eval.proofs.OwnBoxes.{has_given}
