@@ -13,8 +13,5 @@ returns-in-Ok-clause-part g c =
     let opens : Opens c.args.name.now (g.F.Files.files c.args.files.now) (g.F.Files.left c.open.new.self) = search rules in
     inr (file_left c.args.name.now (g.F.Files.files c.args.files.now) (g.F.Files.left c.open.new.self) (g.F.Files.left c.read_opened.new.files) opens c.read_opened.ensures.part)
 
-pub returns-then-is_err-clause-files : goal.returns-then-is_err-clause-files
-returns-then-is_err-clause-files g c = c.open.ensures.files
-
 pub returns-then-is_err-clause-may_ask : goal.returns-then-is_err-clause-may_ask
 returns-then-is_err-clause-may_ask g c = where_failed c.open.result (sym c.is_err.ensures.value ∙ c.if-is_err.true) c.open.ensures.refused
