@@ -1,8 +1,8 @@
 -- How far a loop is that numbers groups by their keys.
-use Rattle.std.specs.Prelude.{◌≡◌, Bool, true, false, cond, not, ℕ, ◌+◌, refl, List, [], ◌∷◌, ◌++◌, map, filter, length, if◌then◌else◌, ◌||◌}
+use Rattle.std.specs.Prelude.{◌≡◌, Bool, true, false, cond, not, ℕ, ◌+◌, refl, List, [], ◌∷◌, ◌++◌, map, filter, if◌then◌else◌, ◌||◌}
 use Rattle.std.specs.List.{list_any, position_or_len}
 use Rattle.std.specs.Cmp.{IsEquivalence}
-use Rattle.std.proofs.Common.{ap, ap₂, sym, ◌∙◌, arith, true≢false, append_assoc, append-nil}
+use Rattle.std.proofs.Common.{ap, ap₂, sym, ◌∙◌, true≢false, append_assoc, append-nil}
 use Rattle.mob_groups.specs.Groups.{first_keys, group_number}
 
 module _ {K : Type 0} (same : K → K → Bool) where
@@ -125,6 +125,3 @@ module _ {K : Type 0} (same : K → K → Bool) (equal : IsEquivalence same) whe
 
   pub numbers_of_all : (keys : List K) → numbers_on same [] keys ≡ map (group_number same keys) keys
   numbers_of_all keys = numbers_are [] keys ∙ ap (λ z. map (λ k. position_or_len (same k) z) keys) (keys_of_all keys)
-
-pub counted_down : {A : Type 0} (x : A) (xs ys : List A) (m n : ℕ) → ys ≡ x ∷ xs → m + 1 ≡ n → n ≡ length ys → m ≡ length xs
-counted_down x xs ys m n e f h = let l = ap length e in omega (arith, f, h, l)

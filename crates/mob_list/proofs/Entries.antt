@@ -34,3 +34,7 @@ each_of_all P (y ∷ ys) h x c = elim (which_in y ys x c) [
 -- what is left of a list from an entry on begins with it
 pub drop_read : {X : Type 0} (xs : List X) (i : ℕ) (x : X) → i < length xs → x ≡ get_or xs i x → drop i xs ≡ x ∷ drop (i + 1) xs
 drop_read xs i x h e = rw add-one (rw (drop-cons xs i x) (ap (λ y. y ∷ drop (suc i) xs) (sym e)))
+
+-- a list that is walked: one entry less is left
+pub counted_down : {A : Type 0} (x : A) (xs ys : List A) (m n : ℕ) → ys ≡ x ∷ xs → m + 1 ≡ n → n ≡ length ys → m ≡ length xs
+counted_down x xs ys m n e f h = let l = ap length e in omega (arith, f, h, l)

@@ -1,4 +1,4 @@
-//! Numbers that stand in a list, and what is left of a list without them.
+//! Numbers that stand in a list in which none falls, and what is left of a list without them.
 ghost use Rattle.std.specs.Prelude.{◌≡◌, ◌∷◌, []};
 ghost use Rattle.std.specs.List.Sorted.{IsNonDecreasing, IsStrictlyIncreasing};
 ghost use Rattle.mob_live.specs.Rows.{is_among as stands_among, without};

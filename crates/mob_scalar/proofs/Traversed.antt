@@ -1,14 +1,11 @@
 -- A function's values on a list, where it has one on each entry, as a loop makes them.
-use Rattle.std.proofs.Common.{◌≡◌, ℕ, ◌+◌, List, [], ◌∷◌, ◌++◌, length, Option, Some, None, option_map, refl, sym, ap, append_assoc, append-nil, arith}
+use Rattle.std.proofs.Common.{◌≡◌, List, [], ◌∷◌, ◌++◌, Option, Some, None, option_map, refl, sym, ap, append_assoc, append-nil}
 use Rattle.mob_language.specs.Readers.{◌>>=◌}
 use Rattle.mob_scalar.specs.Traverse.{traverse}
 
 -- those that are made, and those that are still made
 abbrev pub with_list : {C : Type 0} → List C → Option (List C) → Option (List C)
 with_list front rest = option_map (λ ys. front ++ ys) rest
-
-pub counted_down : {A : Type 0} (x : A) (xs ys : List A) (m n : ℕ) → ys ≡ x ∷ xs → m + 1 ≡ n → n ≡ length ys → m ≡ length xs
-counted_down x xs ys m n e f h = let l = ap length e in omega (arith, f, h, l)
 
 one_more : {C : Type 0} (front : List C) (y : C) (rest : Option (List C)) → with_list (front ++ y ∷ []) rest ≡ with_list front (rest >>= λ ys. Some (y ∷ ys))
 one_more front y None = refl

@@ -2,7 +2,7 @@ use Rattle.std.proofs.Common.{refl, sym, ◌∙◌, rules}
 use Rattle.std.proofs.lemmas.List.{nil_from_length}
 use Rattle.std.proofs.lemmas.Result.{IfOk-weaker}
 use Rattle.std.specs.Vec.Iter.{into_iter_items}
-use Rattle.mob_normal.proofs.Runs.{counted_down}
+use Rattle.mob_list.proofs.Entries.{counted_down}
 use Rattle.mob_slice.specs.CourseOf.{course_of}
 use Rattle.mob_literal.specs.Slices.{made}
 use Rattle.mob_literal.proofs.Made.{made_begins, made_more, opens_before}

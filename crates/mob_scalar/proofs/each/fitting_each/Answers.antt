@@ -1,7 +1,8 @@
 use Rattle.std.proofs.Common.{Ok, sym, ◌∙◌}
 use Rattle.std.proofs.lemmas.List.{nil_from_length}
 use Rattle.std.specs.Vec.Iter.{into_iter_items}
-use Rattle.mob_scalar.proofs.Traversed.{counted_down, traverse_more, traverse_fails, traverse_ends}
+use Rattle.mob_list.proofs.Entries.{counted_down}
+use Rattle.mob_scalar.proofs.Traversed.{traverse_more, traverse_fails, traverse_ends}
 use Rattle.mob_scalar.proofs.each.fitting_each.Goals as goal
 
 pub returns-in_default : goal.returns-in_default

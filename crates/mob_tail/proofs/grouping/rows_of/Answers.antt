@@ -2,7 +2,7 @@ use Rattle.std.proofs.Common.{◌≡◌, [], sym, ◌∙◌, subst, rules}
 use Rattle.std.specs.List.{AllZip}
 use Rattle.std.proofs.lemmas.List.{nil_from_length}
 use Rattle.std.specs.Vec.Iter.{into_iter_items}
-use Rattle.mob_span.proofs.Chained.{counted_down}
+use Rattle.mob_list.proofs.Entries.{counted_down}
 use Rattle.mob_typed.specs.Selects.{select_seen}
 use Rattle.mob_tail.specs.AnswerRows.{IsGroupRowOf}
 use Rattle.mob_tail.specs.GroupSteps.{IsGroupOf}
