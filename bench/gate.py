@@ -105,7 +105,7 @@ def main():
     used = resource.getrusage(resource.RUSAGE_CHILDREN)
     count = lambda crate: len(glob.glob(f"{top}/crates/{crate}/must-fail/*.edit"))
     kit = subprocess.run(["rt", "version"], capture_output=True, text=True).stdout.split("\n")[0]
-    print(f"{time.strftime('%Y-%m-%d')}, {kit}: {(used.ru_utime + used.ru_stime) / 60:.0f} processor minutes, {minutes:.0f} minutes on {os.cpu_count()} processors.\n")
+    print(f"{time.strftime('%Y-%m-%d')}, {kit}: {(used.ru_utime + used.ru_stime) / 60:.0f} processor minutes, {minutes:.0f} minutes on {len(os.sched_getaffinity(0))} processors.\n")
     print(f"A loop of five million products in Python: {before:.2f} seconds before the gate, {pace():.2f} after it.\n")
     print("\n".join(table(seen, count)), end="\n\n")
     with open(log) as output:
