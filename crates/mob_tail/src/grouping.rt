@@ -99,7 +99,7 @@ fn references<'a>(alloc: Global, keys: &'a [Items<Text>]) -> Result<Vec<Vec<&'a 
     Ok(all)
 }
 
-// The numbers of the groups of entries with these fields.
+// The number of the group of each entry with these fields, and how many groups there are.
 fn numbers_of(alloc: Global, keys: &[Items<Text>]) -> Result<Groups, AllocError>
     ensures numbers { IfOk result (λ r. r.numbers.items ≡ map (group_number same_texts keys.now) keys.now) }
     ensures groups { IfOk result (λ r. r.groups ≡ length (first_keys same_texts keys.now)) }

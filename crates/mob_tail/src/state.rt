@@ -1,14 +1,10 @@
 //! An aggregate of the values so far, as a group holds it.
-ghost use Rattle.std.specs.Prelude.{◌≡◌, OnOk, IfOk, IfErr, MatchOption, false};
+ghost use Rattle.std.specs.Prelude.{◌≡◌, OnOk, IfOk, IfErr, false};
 ghost use Rattle.mob_ratio.specs.Ratio.{Ratio};
-ghost use Rattle.mob_ratio.specs.Order.{same};
-ghost use Rattle.mob_span.specs.Flags.{same_bool};
-ghost use Rattle.mob_slice.specs.CourseOf.{steady_course};
 ghost use Rattle.mob_slice.specs.Slices.{value_at};
 ghost use Rattle.mob_tagg.specs.Gathered.{united_parts};
 ghost use Rattle.mob_tagg.specs.United.{united_by};
-ghost use Rattle.mob_value.specs.declared.value.Value.TheVariants.{MovingBool, MovingInt};
-ghost use Rattle.mob_ordinary.specs.Moving.{AreNormalBy, or_nothing};
+ghost use Rattle.mob_value.specs.declared.value.Value.TheVariants.{MovingBool};
 ghost use Rattle.mob_tail.specs.Aggregated.{leaves_out, truths_of};
 ghost use Rattle.mob_tail.specs.Made.{made_in};
 ghost use Rattle.mob_tail.specs.States.{AreTruthsWith, IsHeld, IsStartState, IsStateWith};
@@ -17,6 +13,7 @@ use crate::adding::{aggregate_in, leaves_out, ones_on, put};
 use mob_frac::Frac;
 use mob_list::items::Items;
 use mob_operators::AggKind;
+use mob_ordinary::kinds::{bool_or_null, int_or_null};
 use mob_slice::{Course, Moving, OpFault, Steady};
 use mob_tagg::{Conjunctions, Counts, Disjunctions, Part, Uniting, gathered, with_value};
 use mob_typed::Agg;
@@ -138,35 +135,6 @@ pub fn state_in(alloc: Global, agg: Agg, state: &mut State, value: &Value) -> Re
         State::Counts(parts) => counts_in(alloc, parts, value),
         State::All(parts) => truths_in::<Conjunctions>(alloc, parts, value),
         State::Any(parts) => truths_in::<Disjunctions>(alloc, parts, value),
-    }
-}
-
-// A tint or NULL, and a tbool or NULL.
-fn int_or_null(moving: Option<Moving<Steady<Frac>>>) -> Value
-    ensures value { result ≡ or_nothing MovingInt moving }
-    ensures normal { MatchOption moving (Unit {0}) (AreNormalBy (steady_course same)) }
-{
-    match moving {
-        Some(moving) => {
-            // The clause of `slices` says that they are normal.
-            let _ = moving.slices();
-            Value::MovingInt(moving)
-        }
-        None => Value::Null,
-    }
-}
-
-fn bool_or_null(moving: Option<Moving<Steady<bool>>>) -> Value
-    ensures value { result ≡ or_nothing MovingBool moving }
-    ensures normal { MatchOption moving (Unit {0}) (AreNormalBy (steady_course same_bool)) }
-{
-    match moving {
-        Some(moving) => {
-            // The clause of `slices` says that they are normal.
-            let _ = moving.slices();
-            Value::MovingBool(moving)
-        }
-        None => Value::Null,
     }
 }
 
