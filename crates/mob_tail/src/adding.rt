@@ -1,5 +1,5 @@
 //! The aggregate of values with one more.
-ghost use Rattle.std.specs.Prelude.{◌≡◌, [], ◌∷◌, IfOk, IfErr, MatchResult, MatchOption, None, Some, false, option_map};
+ghost use Rattle.std.specs.Prelude.{◌≡◌, [], ◌∷◌, IfOk, IfErr, MatchResult, MatchOption, None, Some, true, false, option_map};
 ghost use Rattle.mob_ratio.specs.Order.{same};
 ghost use Rattle.mob_arith.specs.Operations.{sum_of};
 ghost use Rattle.mob_slice.specs.CourseOf.{steady_course, line_course};
@@ -244,6 +244,7 @@ pub fn aggregate_in(
     value: &Value,
 ) -> Result<(), OpFault>
     ensures with { is_in_parts agg.kind ≡ false → false ≡ leaves_out agg.kind value.now → IsAggregateWith (leaves_out agg.kind value.now) agg.kind agg.ty before.old value.now (made_in result before.new) }
+    ensures parts { is_in_parts agg.kind ≡ true → before.new ≡ before.old }
 {
     match agg.kind {
         AggKind::CountAll => one_more(before),
