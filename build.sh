@@ -1,29 +1,43 @@
 #!/bin/sh
-# Builds the programs and copies them to a folder: ./build.sh [FOLDER], bin/ here if none is named. All crates that they
-# stand on are proved on the way, in a copy that is kept for the next build, as many side by side as there are processors.
-# It prints each crate as it is proved, with an estimate of the time that is left. Put the folder on the PATH, and
-# `mobsql < script.sql` works in any folder.
+# Proves and builds programs: ./build.sh [FOLDER [PROGRAM..]]
+#
+# The programs are mobsql, mobnear, mobthin and mobtile, or those that you name. They are copied to
+# the folder, or to bin/ here. With the folder on the PATH, `mobsql < script.sql` works everywhere.
+#
+# All crates below the programs are proved first, in a copy of the repository, as many side by side
+# as there are processors. Each crate is printed with an estimate of the time that is left. The copy
+# is kept, so the next build proves only what has changed.
 set -eu
 folder=${1:-$(dirname "$0")/bin}
-mkdir -p "$folder"
+[ $# = 0 ] || shift
+case $folder in
+    -*) echo "usage: ./build.sh [FOLDER [PROGRAM..]]" >&2; exit 2 ;;
+esac
+top=$(cd "$(dirname "$0")" && pwd)
+kept=${XDG_CACHE_HOME:-$HOME/.cache}
+copy=$kept/mobsql-build
+aside=$kept/mobsql-build-aside
+
+# The programs: the crates with a main, except those of benchmarks.
+all=$(cd "$top/crates" && ls -d */src/main.rt | cut -d / -f 1 | grep -v bench)
+programs=${*:-$all}
+for program in $programs; do
+    if ! echo "$all" | grep -qx -e "$program"; then
+        echo "build: there is no program $program. The programs are" $all >&2
+        exit 2
+    fi
+done
+mkdir -p "$folder" "$copy/crates" "$aside"
 folder=$(cd "$folder" && pwd)
-cd "$(dirname "$0")"
-copy=${XDG_CACHE_HOME:-$HOME/.cache}/mobsql-build
-mkdir -p "$copy/crates"
+cd "$top"
 cp HANDLES "$copy/HANDLES"
 
-# The programs: the crates with a main but those of benchmarks.
-programs=$(for main in crates/*/src/main.rt; do
-    crate=${main#crates/}
-    echo "${crate%%/*}"
-done | grep -v bench)
-
-# The names of the crates that the programs stand on, with their own.
-crates=$(awk -v programs="$programs" '
+# The names of the programs and of the crates below them.
+crates=$(echo $programs | awk '
+    NR == FNR { last = split($0, queue, " "); next }
     { sub(/#.*/, "") }
     NF { name = $1; sub(/:$/, "", name); $1 = ""; below[name] = $0 }
     END {
-        last = split(programs, queue, " ")
         for (i = 1; i <= last; i++) met[queue[i]] = 1
         for (i = 1; i <= last; i++) {
             print queue[i]
@@ -34,22 +48,34 @@ crates=$(awk -v programs="$programs" '
                     queue[++last] = names[j]
                 }
         }
-    }' crates.txt)
+    }' - crates.txt)
+
+# `rt all` refuses a crate that crates.txt does not list. Those of another build are put aside, with
+# what was proved of them.
+for place in "$copy"/crates/*; do
+    crate=$(basename "$place")
+    if [ -d "$place" ] && ! echo "$crates" | grep -qx -e "$crate"; then
+        rm -rf "$aside/$crate"
+        mv "$place" "$aside/$crate"
+    fi
+done
 
 : > "$copy/crates.txt"
 : > "$copy/sizes"
 for crate in $crates; do
+    [ -d "$copy/crates/$crate" ] || [ ! -d "$aside/$crate" ] || mv "$aside/$crate" "$copy/crates/"
     grep "^$crate:" crates.txt >> "$copy/crates.txt"
     mkdir -p "$copy/crates/$crate"
     for part in src specs proofs stdin stdout args; do
         rm -rf "$copy/crates/$crate/$part"
         [ ! -e "crates/$crate/$part" ] || cp -R "crates/$crate/$part" "$copy/crates/$crate/$part"
     done
-    lines=$(find "crates/$crate" -path '*/out' -prune -o \( -name '*.rt' -o -name '*.antt' \) -print | xargs cat | wc -l)
+    lines=$(cd "$copy/crates/$crate" &&
+        find src specs proofs -name '*.rt' -o -name '*.antt' 2> /dev/null | xargs cat | wc -l)
     echo "$crate $lines" >> "$copy/sizes"
 done
 
-# Prints each crate that is done. The time that is left goes by the lines of code and proofs that are still to be checked.
+# Prints each crate that is done. The estimate is by the lines of code and proofs that are left.
 show() {
     awk -v begun="$(date +%s)" '
         FNR == NR { size[$1] = $2; whole += $2; crates++; next }
@@ -59,7 +85,8 @@ show() {
             "date +%s" | getline now
             close("date +%s")
             left = (now - begun) * (whole - done) / done / 60
-            printf "build: crate %d of %d: %s, about %d minutes left\n", ++count, crates, $2, left + 0.5
+            form = "build: crate %d of %d: %s, about %d minutes left\n"
+            printf form, ++count, crates, $2, left + 0.5
             fflush()
         }' sizes -
 }
