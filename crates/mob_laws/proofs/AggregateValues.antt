@@ -1,27 +1,23 @@
 -- What an aggregate makes of values of the type that it takes.
-use Rattle.std.proofs.Common.{◌≡◌, ◌≢◌, ◌∙◌, refl, sym, ap, subst, inl, inr, arith, true≢false, ℕ, ℤ, zero, suc, ◌+◌, pos, nat_abs, List, [], ◌∷◌, length, map, Bool, true, false, not, cond, Option, Some, None, Ok}
-use Rattle.std.specs.Prelude.{◌⊎◌, ◌↔◌, ◌++◌, MatchOption, filter, is_some, nat_eq, option_and_then, option_map, slice_get}
+use Rattle.std.proofs.Common.{◌≡◌, ◌∙◌, refl, sym, ap, subst, inl, inr, arith, true≢false, ℕ, ℤ, suc, ◌+◌, pos, nat_abs, List, [], ◌∷◌, length, map, Bool, true, false, not, cond, Option, Some, None, Ok}
+use Rattle.std.specs.Prelude.{◌⊎◌, ◌↔◌, ◌++◌, MatchOption, is_some, nat_eq, option_and_then, option_map, slice_get}
 use Rattle.std.specs.List.{AllByRecursion, AllZip, flat_map}
 use Rattle.mob_list.proofs.Each.{each_on, each_parts}
 use Rattle.mob_ratio.specs.GcdLaws.{gcd_one_right}
 use Rattle.mob_ratio.specs.LowestLaws.{lowest_in}
 use Rattle.mob_ratio.specs.Order.{same}
-use Rattle.mob_ratio.specs.Ratio.{Ratio, whole, over, ◌+ℚ◌}
+use Rattle.mob_ratio.specs.Ratio.{Ratio, whole, over}
 use Rattle.mob_ratio.proofs.Clear.{whole-over}
 use Rattle.mob_ratio.proofs.RatioLemmas.{over-lowest}
 use Rattle.mob_span.specs.Flags.{same_bool}
-use Rattle.mob_span.specs.Span.{has}
 use Rattle.mob_span.proofs.SpanLemmas.{some_instant}
 use Rattle.mob_slice.specs.CourseOf.{CourseOf, steady_course, line_course}
-use Rattle.mob_slice.specs.Lines.{line_value_of}
-use Rattle.mob_slice.specs.Operands.{steady_value}
-use Rattle.mob_slice.specs.Slices.{IsNormal, value_at}
-use Rattle.mob_slice.specs.declared.line.Line.{Line}
+use Rattle.mob_slice.specs.Slices.{value_at}
 use Rattle.mob_slice.specs.declared.slice.Slice.{Slice}
 use Rattle.mob_written.specs.Values.{is_whole_number}
 use Rattle.mob_ast.specs.declared.types.SqlType.{SqlType}
 use Rattle.mob_ast.specs.declared.types.SqlType.TheVariants as sql
-use Rattle.mob_operators.specs.Aggregates.{aggregate_named, aggregate_row, aggregate_type}
+use Rattle.mob_operators.specs.Aggregates.{aggregate_named, aggregate_type}
 use Rattle.mob_operators.specs.declared.aggregate.AggKind.{AggKind}
 use Rattle.mob_operators.specs.declared.aggregate.AggKind.TheVariants.{CountAll, Count, Sum, TCount, TSum, TAnd, TOr}
 use Rattle.mob_typed.specs.declared.typed.Agg.{Agg}
@@ -30,19 +26,18 @@ use Rattle.mob_typed.specs.Statements.{query}
 use Rattle.mob_typed.specs.Trees.{TypedTree, typed, none, more, type_of}
 use Rattle.mob_typing.specs.WellTyped.{IsTypedItem, condition_alone}
 use Rattle.mob_value.specs.declared.value.Value.{Value}
-use Rattle.mob_value.specs.declared.value.Value.TheVariants.{Null, Number, MovingBool, MovingInt, MovingFrac, MovingText, MovingPoint}
-use Rattle.mob_ordinary.specs.Moving.{AreNormalBy, StepSlices, line_function, or_nothing, plane_function, step_function}
+use Rattle.mob_value.specs.declared.value.Value.TheVariants.{Null, Number, MovingBool, MovingInt, MovingFrac}
+use Rattle.mob_ordinary.specs.Moving.{AreNormalBy, line_function, or_nothing, plane_function, step_function}
 use Rattle.mob_ordinary.specs.Ordinary.{is_null}
 use Rattle.mob_catalog.specs.Catalogue.{Catalogue}
 use Rattle.mob_catalog.specs.OwnTypes.{IsValueOf}
-use Rattle.mob_meaning.specs.Evaluation.{TreeEvaluatesTo}
 use Rattle.mob_meaning.specs.Scene.{Scene, scene}
 use Rattle.mob_meaning.specs.Values.{EvaluatesToItsValue}
 use Rattle.mob_operands.specs.Rows.{is_there}
 use Rattle.mob_operands.proofs.Forms.{OnForms, by_type}
-use Rattle.mob_operands.proofs.Whole.{HasInts, int_sum, ints_there, tint_of}
-use Rattle.mob_tagg.specs.Aggregates.{IsAggregate, all_hold, count, made_of, put_there, some_holds, total, values_at}
-use Rattle.mob_tail.specs.Aggregated.{IsAggregated, IsOverTime, counted, known_of, line_there, lines_of, number_in, numbers_of, one_there, one_where, step_there, steps_of, truth_there, truths_of}
+use Rattle.mob_operands.proofs.Whole.{int_sum, ints_there, tint_of}
+use Rattle.mob_tagg.specs.Aggregates.{all_hold, count, made_of, put_there, some_holds, total, values_at}
+use Rattle.mob_tail.specs.Aggregated.{IsOverTime, counted, known_of, line_there, numbers_of, one_there, one_where, step_there, truth_there}
 use Rattle.mob_join.specs.TypedFor.{HasStoredTypes, IsTypedFor}
 use Rattle.mob_tail.specs.GroupedAnswers.{Column, IsArgumentOf, IsArgumentOn, agg_at, columns_from, columns_of}
 use Rattle.mob_tail.specs.Groups.{first_value}

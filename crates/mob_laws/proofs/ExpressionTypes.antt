@@ -1,7 +1,7 @@
 -- Each value of an expression of a typed query is of the expression's type: a leaf reads a stored
 -- value of it, and each operator has its row of the table.
 use Rattle.std.proofs.Common.{◌≡◌, ◌∙◌, arith, nat_abs, refl, sym, ap, subst, inl, inr, true≢false, ℕ, ℤ, zero, suc, List, [], ◌∷◌, map, Bool, true, false, cond, Option, Some, None}
-use Rattle.std.specs.Prelude.{◌≢◌, ◌⊎◌, ◌==◌, ◌++◌, IfSome, IsTrue, pos, option_map, option_and_then, slice_get}
+use Rattle.std.specs.Prelude.{◌≢◌, ◌==◌, ◌++◌, IfSome, IsTrue, pos, option_map, option_and_then, slice_get}
 use Rattle.std.specs.List.{AllByRecursion, AllZip, flat_map, list_all}
 use Rattle.std.specs.Option.{option_or}
 use Rattle.std.specs.Str.{bytes_eq}
@@ -9,7 +9,7 @@ use Rattle.mob_list.proofs.Each.{each_both, each_map, each_on}
 use Rattle.mob_ratio.specs.GcdLaws.{gcd_one_right}
 use Rattle.mob_ratio.specs.LowestLaws.{lowest_in}
 use Rattle.mob_ratio.specs.Order.{same}
-use Rattle.mob_ratio.specs.Ratio.{Ratio, whole, over, ◌+ℚ◌, neg_ℚ}
+use Rattle.mob_ratio.specs.Ratio.{Ratio, whole, ◌+ℚ◌, neg_ℚ}
 use Rattle.mob_ratio.proofs.Clear.{whole-over}
 use Rattle.mob_ratio.proofs.Field.{add_zero, sub_self}
 use Rattle.mob_ratio.proofs.Order.{same_exact}
@@ -28,7 +28,7 @@ use Rattle.mob_typed.specs.Trees.{TypedTree, typed, TypedTrees, none, more, type
 use Rattle.mob_clauses.specs.Conditions.{is_bool}
 use Rattle.mob_clauses.specs.Keys.{is_key}
 use Rattle.mob_expression.specs.Expressions.{can_cast_all}
-use Rattle.mob_typing.specs.WellTyped.{AreOperated, FitsArguments, HasOperatorRow, IsBehindSigns, IsGroup, IsOperated, behind_minus, behind_plus, column_type, condition_alone, expressions_of, from_type, is_division, the_number}
+use Rattle.mob_typing.specs.WellTyped.{AreOperated, FitsArguments, HasOperatorRow, IsBehindSigns, IsGroup, IsOperated, behind_minus, behind_plus, column_type, condition_alone, expressions_of, is_division, the_number}
 use Rattle.mob_value.specs.Types.{is_of_type, read_as}
 use Rattle.mob_value.specs.Null.{value_or_null}
 use Rattle.mob_value.specs.declared.store.Table.{Table}
@@ -40,13 +40,13 @@ use Rattle.mob_catalog.specs.Catalogue.{Catalogue}
 use Rattle.mob_catalog.specs.OwnTypes.{HasColumnTypes, IsValueOf}
 use Rattle.mob_catalog.specs.TypedTables.{HoldsTypedRows, HoldsTypedTables, head_columns}
 use Rattle.mob_catalog.specs.declared.catalog.TableHead.{TableHead}
-use Rattle.mob_meaning.specs.Evaluation.{stop_of, stops}
+use Rattle.mob_meaning.specs.Evaluation.{stop_of}
 use Rattle.mob_meaning.specs.Operators.{OperatorGives}
-use Rattle.mob_meaning.specs.Scene.{Scene, column_value, constant_at, leaf_value, row_of_number, scene}
+use Rattle.mob_meaning.specs.Scene.{Scene, column_value, leaf_value, row_of_number, scene}
 use Rattle.mob_meaning.specs.Values.{OperandsHaveValues, TreeHasValue}
 use Rattle.mob_operands.specs.Rows.{CastsHaveMeanings, DividesByOther, HasMeaning, RowsHaveMeanings, SettledIsTheValue}
 use Rattle.mob_operands.proofs.Table.{each_line, line_passes, passes_on}
-use Rattle.mob_join.specs.TypedFor.{AllHaveDivisors, AllHaveStoredTypes, DividesByNumber, HasConstant, HasDivisors, HasStoredType, HasStoredTypes, IsNotZero, IsTypedFor}
+use Rattle.mob_join.specs.TypedFor.{AllHaveDivisors, AllHaveStoredTypes, DividesByNumber, HasDivisors, HasStoredType, HasStoredTypes, IsNotZero, IsTypedFor}
 use Rattle.mob_shell.specs.StoredTypes.{QueriesAreTyped}
 use Rattle.mob_laws.specs.ExpressionTypes.{HasItsType, RunExpressionsHaveTheirTypes, TypedExpressionsHaveTheirTypes}
 

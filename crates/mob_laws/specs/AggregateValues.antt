@@ -2,7 +2,7 @@
 --
 -- `IsAggregated` of `mob_tail` leaves out a value of a form that it does not name, as it leaves out
 -- NULL. In a typed query there is none but NULL.
-use Rattle.std.specs.Prelude.{◌≡◌, ◌⊎◌, ◌↔◌, ℕ, ℤ, Bool, true, false, List, [], Option, Some, None, Ok, is_some, map, slice_get}
+use Rattle.std.specs.Prelude.{◌≡◌, ◌⊎◌, ◌↔◌, ℕ, ℤ, Bool, false, List, Option, Some, None, Ok, is_some, map, slice_get}
 use Rattle.std.specs.List.{AllByRecursion, AllZip}
 use Rattle.mob_ratio.specs.Ratio.{Ratio}
 use Rattle.mob_slice.specs.declared.line.Line.{Line}

@@ -1,9 +1,9 @@
 -- The instant of a moment that is written is one of the years 0001 to 9999.
-use Rattle.std.proofs.Common.{◌≡◌, sym, subst, ap, ◌∙◌, ◌+◌, ◌*◌, ◌<◌, ℕ, ℤ, pos, negsuc, ◌+ℤ◌, ◌-ℤ◌, ◌*ℤ◌, ◌<ℤ◌, ◌≤ℤ◌, Bool, true, false, Option, Some, None, arith}
+use Rattle.std.proofs.Common.{◌≡◌, sym, subst, ap, ◌∙◌, ◌*◌, ◌<◌, ℕ, ℤ, pos, negsuc, ◌+ℤ◌, ◌-ℤ◌, ◌*ℤ◌, ◌<ℤ◌, ◌≤ℤ◌, arith}
 use Rattle.std.proofs.lemmas.Int.{ints}
 use Rattle.std.specs.Int.{int_div_euclid}
-use Rattle.mob_ratio.specs.Ratio.{Ratio, over, whole, ◌+ℚ◌}
-use Rattle.mob_ratio.proofs.IntRing.{add_mul, le_cancel, le_times, linear, lt_cancel, lt_times, products}
+use Rattle.mob_ratio.specs.Ratio.{over, whole, ◌+ℚ◌}
+use Rattle.mob_ratio.proofs.IntRing.{add_mul, le_cancel, linear, lt_cancel, lt_times, products}
 use Rattle.mob_ratio.proofs.RatioLemmas.{den_pos, over-add, over-cross}
 use Rattle.mob_language.specs.Language.{Text}
 use Rattle.mob_scalar.specs.declared.stamp.Stamp.{Stamp}

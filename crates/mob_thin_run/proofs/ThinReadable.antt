@@ -38,7 +38,6 @@ use Rattle.mob_catalog.proofs.OwnTypes.{fits_unless, no_part}
 use Rattle.mob_simplify.specs.Breaks.{start_of, end_of}
 use Rattle.mob_simplify.specs.BreaksOf.{HaveBreaks, followed, printed_instants}
 use Rattle.mob_simplify.specs.Thinned.{IsThin}
-use Rattle.mob_simplify.specs.declared.breaks.Break.{Break}
 use Rattle.mob_simplify.proofs.Answering.{IsNormalLines}
 use Rattle.mob_simplify.proofs.Tidied.{thin_breaks, thin_prints}
 use Rattle.mob_thin_run.specs.TableAgain.{IsPrintable}
