@@ -24,6 +24,7 @@ use Rattle.mob_typed.specs.declared.typed.Agg.{Agg}
 use Rattle.mob_typed.specs.Selects.{Output, TypedSelectParts}
 use Rattle.mob_typed.specs.Statements.{query}
 use Rattle.mob_typed.specs.Trees.{TypedTree, typed, none, more, type_of}
+use Rattle.mob_clauses.specs.Keys.{value_type}
 use Rattle.mob_typing.specs.WellTyped.{IsTypedItem, condition_alone}
 use Rattle.mob_value.specs.declared.value.Value.{Value}
 use Rattle.mob_value.specs.declared.value.Value.TheVariants.{Null, Number, MovingBool, MovingInt, MovingFrac}
@@ -39,10 +40,10 @@ use Rattle.mob_operands.proofs.Whole.{int_sum, ints_there, tint_of}
 use Rattle.mob_tagg.specs.Aggregates.{all_hold, count, made_of, put_there, some_holds, total, values_at}
 use Rattle.mob_tail.specs.Aggregated.{IsOverTime, counted, known_of, line_there, numbers_of, one_there, one_where, step_there, truth_there}
 use Rattle.mob_join.specs.TypedFor.{HasStoredTypes, IsTypedFor}
-use Rattle.mob_tail.specs.GroupedAnswers.{Column, IsArgumentOf, IsArgumentOn, agg_at, columns_from, columns_of}
+use Rattle.mob_tail.specs.GroupedAnswers.{Column, IsArgumentOf, IsArgumentOn, IsColumnValue, agg_at, columns_from, columns_of}
 use Rattle.mob_tail.specs.Groups.{first_value}
 use Rattle.mob_shell.specs.StoredTypes.{QueriesAreTyped}
-use Rattle.mob_laws.specs.AggregateValues.{AggregateRowsHaveMeanings, ColumnHasMeaning, HasMeaningOn, IsNullDue, IsResult, IsSeen, IsTaken, RunColumnsHaveMeanings, TypedColumnsHaveMeanings}
+use Rattle.mob_laws.specs.AggregateValues.{AggregateRowsHaveMeanings, ArgumentsHaveMeaning, ColumnHasMeaning, HasMeaningOn, IsNullDue, IsResult, IsThereBy, TakesValue, RunColumnsHaveMeanings, TypedColumnsHaveMeanings}
 use Rattle.mob_laws.specs.ExpressionTypes.{HasItsType, TypedExpressionsHaveTheirTypes}
 use Rattle.mob_laws.proofs.ExpressionTypes.{leaf_of_type, null_of}
 
@@ -109,11 +110,11 @@ one_seen (Some x) = refl
 
 module _ {B : Type 0} (there : Value → Ratio → Option B) where
   -- at an instant there is nothing exactly where no value is there
-  missing_none : (vs : List Value) (t : Ratio) → AllByRecursion (IsSeen there) vs → AllByRecursion (λ v. is_there t v ≡ false) vs → values_at there vs t ≡ []
+  missing_none : (vs : List Value) (t : Ratio) → AllByRecursion (IsThereBy there) vs → AllByRecursion (λ v. is_there t v ≡ false) vs → values_at there vs t ≡ []
   missing_none [] t h k = refl
   missing_none (v ∷ vs) t h k = ap (λ o. put_there o (values_at there vs t)) (nothing_there (there v t) (h.0 t ∙ k.0)) ∙ missing_none vs t h.1 k.1
 
-  none_missing : (vs : List Value) (t : Ratio) → AllByRecursion (IsSeen there) vs → values_at there vs t ≡ [] → AllByRecursion (λ v. is_there t v ≡ false) vs
+  none_missing : (vs : List Value) (t : Ratio) → AllByRecursion (IsThereBy there) vs → values_at there vs t ≡ [] → AllByRecursion (λ v. is_there t v ≡ false) vs
   none_missing [] t h e = tt
   none_missing (v ∷ vs) t h e = by (there v t) (h.0 t) e (λ k. none_missing vs t h.1 k)
     where
@@ -138,7 +139,7 @@ module _ {B : Type 0} (there : Value → Ratio → Option B) where
         let i = some_instant s.span n.chained.0.some in
         (i.0, course.value s.course s.span.lower s.span.upper i.0, ap (λ b. cond b (Some (course.value s.course s.span.lower s.span.upper i.0)) (value_at course.value m i.0)) i.1)
 
-    null_due : (vs : List Value) (v : Value) → AllByRecursion (IsSeen there) vs → IsOverTime course make f there vs v → (v ≡ Null) ↔ ((t : Ratio) → AllByRecursion (λ w. is_there t w ≡ false) vs)
+    null_due : (vs : List Value) (v : Value) → AllByRecursion (IsThereBy there) vs → IsOverTime course make f there vs v → (v ≡ Null) ↔ ((t : Ratio) → AllByRecursion (λ w. is_there t w ≡ false) vs)
     null_due vs v seen (None, all, is) = (λ n t. none_missing vs t seen (all t), λ h. is)
     null_due vs v seen (Some m, all, is) = (λ n. absurd (makes m (sym is ∙ n)), λ h. by (instant_of m all.0) h)
       where
@@ -185,7 +186,7 @@ module _ (vs : List Value) where
       let ints = numbers_int vs (each_of sql.Int IsIntValue (inl refl) (λ n w. inr (n, refl, w)) h) in
       record {
         gives = inl refl;
-        taken = taken_of sql.Int (IsTaken Sum sql.Int) (λ n w. inr (n, refl)) h;
+        taken = taken_of sql.Int (TakesValue Sum sql.Int) (λ n w. inr (n, refl)) h;
         numbers = λ e. numbers_known vs are;
         result = λ v is. sum_result sql.Int v are (record { form = refl; whole = tt }) (λ x e. record { form = refl; whole = subst IsInt (sym e) (total_int (numbers_of vs) ints) }) is;
       }
@@ -195,18 +196,18 @@ module _ (vs : List Value) where
       let are = each_of sql.Numeric IsNumber (inl refl) (λ n. inr (n, refl)) h in
       record {
         gives = inr refl;
-        taken = taken_of sql.Numeric (IsTaken Sum sql.Numeric) (λ n. inr (n, refl)) h;
+        taken = taken_of sql.Numeric (TakesValue Sum sql.Numeric) (λ n. inr (n, refl)) h;
         numbers = λ e. numbers_known vs are;
         result = λ v is. sum_result sql.Numeric v are (record { form = refl; whole = tt }) (λ x e. record { form = refl; whole = tt }) is;
       }
 
   -- ---- aggregates over time
-  t_count : (a : SqlType) → OnForms a (IsSeen one_there) → AllByRecursion (IsValueOf a) vs → HasMeaningOn TCount sql.TInt vs
+  t_count : (a : SqlType) → OnForms a (IsThereBy one_there) → AllByRecursion (IsValueOf a) vs → HasMeaningOn TCount sql.TInt vs
   t_count a forms h =
-      let seen = each_of a (IsSeen one_there) (λ t. refl) forms h in
+      let seen = each_of a (IsThereBy one_there) (λ t. refl) forms h in
       record {
         gives = refl;
-        taken = known_all (IsTaken TCount sql.TInt) vs (each_on (IsSeen one_there) (λ v. (v ≡ Null) ⊎ IsTaken TCount sql.TInt v) (λ v s. inr s) vs seen);
+        taken = known_all (TakesValue TCount sql.TInt) vs (each_on (IsThereBy one_there) (λ v. (v ≡ Null) ⊎ TakesValue TCount sql.TInt v) (λ v s. inr s) vs seen);
         numbers = λ e. absurd (cc);
         result = λ v is. record {
           own = own_of one_there (steady_course same) MovingInt count (λ m e. absurd (cc)) sql.TInt vs v (record { form = refl; whole = tt })
@@ -217,10 +218,10 @@ module _ (vs : List Value) where
 
   t_sum_int : AllByRecursion (IsValueOf sql.TInt) vs → HasMeaningOn TSum sql.TInt vs
   t_sum_int h =
-      let seen = each_of sql.TInt (IsSeen step_there) (λ t. refl) (λ m w t. refl) h in
+      let seen = each_of sql.TInt (IsThereBy step_there) (λ t. refl) (λ m w t. refl) h in
       record {
         gives = inl refl;
-        taken = taken_of sql.TInt (IsTaken TSum sql.TInt) (λ m w. inr (m, refl, λ t. refl)) h;
+        taken = taken_of sql.TInt (TakesValue TSum sql.TInt) (λ m w. inr (m, refl, λ t. refl)) h;
         numbers = λ e. absurd (cc);
         result = λ v is. record {
           own = own_of step_there (steady_course same) MovingInt total (λ m e. absurd (cc)) sql.TInt vs v (record { form = refl; whole = tt })
@@ -234,10 +235,10 @@ module _ (vs : List Value) where
 
   t_sum_frac : AllByRecursion (IsValueOf sql.TFrac) vs → HasMeaningOn TSum sql.TFrac vs
   t_sum_frac h =
-      let seen = each_of sql.TFrac (IsSeen line_there) (λ t. refl) (λ m t. refl) h in
+      let seen = each_of sql.TFrac (IsThereBy line_there) (λ t. refl) (λ m t. refl) h in
       record {
         gives = inr refl;
-        taken = taken_of sql.TFrac (IsTaken TSum sql.TFrac) (λ m. inr (m, refl, λ t. refl)) h;
+        taken = taken_of sql.TFrac (TakesValue TSum sql.TFrac) (λ m. inr (m, refl, λ t. refl)) h;
         numbers = λ e. absurd (cc);
         result = λ v is. record {
           own = own_of line_there line_course MovingFrac total (λ m e. absurd (cc)) sql.TFrac vs v (record { form = refl; whole = tt }) (λ m n at. record { form = refl; whole = tt }) is;
@@ -245,8 +246,8 @@ module _ (vs : List Value) where
         };
       }
 
-  truths_seen : AllByRecursion (IsValueOf sql.TBool) vs → AllByRecursion (IsSeen truth_there) vs
-  truths_seen h = each_of sql.TBool (IsSeen truth_there) (λ t. refl) (λ m t. refl) h
+  truths_seen : AllByRecursion (IsValueOf sql.TBool) vs → AllByRecursion (IsThereBy truth_there) vs
+  truths_seen h = each_of sql.TBool (IsThereBy truth_there) (λ t. refl) (λ m t. refl) h
 
   truth_result : (f : List Bool → Bool) (v : Value) → AllByRecursion (IsValueOf sql.TBool) vs → IsOverTime (steady_course same_bool) MovingBool f truth_there vs v → IsValueOf sql.TBool v × ((v ≡ Null) ↔ ((t : Ratio) → AllByRecursion (λ w. is_there t w ≡ false) vs))
   truth_result f v h is = (
@@ -257,7 +258,7 @@ module _ (vs : List Value) where
   t_and : AllByRecursion (IsValueOf sql.TBool) vs → HasMeaningOn TAnd sql.TBool vs
   t_and h = record {
     gives = refl;
-    taken = taken_of sql.TBool (IsTaken TAnd sql.TBool) (λ m. inr (m, refl, λ t. refl)) h;
+    taken = taken_of sql.TBool (TakesValue TAnd sql.TBool) (λ m. inr (m, refl, λ t. refl)) h;
     numbers = λ e. absurd (cc);
     result = λ v is. let r = truth_result all_hold v h is in record { own = r.0; null = r.1 };
   }
@@ -265,7 +266,7 @@ module _ (vs : List Value) where
   t_or : AllByRecursion (IsValueOf sql.TBool) vs → HasMeaningOn TOr sql.TBool vs
   t_or h = record {
     gives = refl;
-    taken = taken_of sql.TBool (IsTaken TOr sql.TBool) (λ m. inr (m, refl, λ t. refl)) h;
+    taken = taken_of sql.TBool (TakesValue TOr sql.TBool) (λ m. inr (m, refl, λ t. refl)) h;
     numbers = λ e. absurd (cc);
     result = λ v is. let r = truth_result some_holds v h is in record { own = r.0; null = r.1 };
   }
@@ -378,9 +379,19 @@ module _ (evaluated : EvaluatesToItsValue) (typed_expressions : TypedExpressions
     first_own (typed o ty place none) (t ∷ tuples) s = leaf_of_type c h.rows q.from t day o ty s.0
     first_own (typed o ty place (more a args)) (t ∷ tuples) s = null_of ty
 
+    argument_meant : (o : Output) (a : Option Agg) → HasTypes o → IsTypedItem q.grouped q.groups o a → (agg : Agg) (vs : List Value) → a ≡ Some agg → AllZip (λ t w. IsArgumentOn q c.store day t (o.0, a) (Ok w)) group vs → ArgumentsHaveMeaning o.0 agg vs
+    argument_meant o None k item agg vs e is = absurd (cc)
+    argument_meant o (Some b) k item agg vs e is =
+        let same_agg : b ≡ agg = cc in
+        let own = arguments_own o.0 b group vs k.1 is in
+        subst (λ x. ArgumentsHaveMeaning o.0 x vs) same_agg (record { own = own; meant = aggregate_rows o.0 b vs item.1 own })
+
+    value_own : (o : Output) (a : Option Agg) → HasTypes o → IsTypedItem q.grouped q.groups o a → (v : Value) → IsColumnValue q c.store day group (o.0, a) v → IsValueOf (value_type o.0 a) v
+    value_own o None k item v is = subst (IsValueOf (type_of o.0)) (sym is) (first_own o.0 group k.0)
+    value_own o (Some agg) k item v is = ((argument_meant o (Some agg) k item agg is.0 refl is.1).meant.result v is.2).own
+
     column_meant : (o : Output) (a : Option Agg) → HasTypes o → IsTypedItem q.grouped q.groups o a → ColumnHasMeaning c q day group (o.0, a)
-    column_meant o None k item = λ v is. subst (IsValueOf (type_of o.0)) (sym is) (first_own o.0 group k.0)
-    column_meant o (Some agg) k item = λ vs is. let own = arguments_own o.0 agg group vs k.1 is in record { own = own; meant = aggregate_rows o.0 agg vs item.1 own }
+    column_meant o a k item = record { own = value_own o a k item; arguments = argument_meant o a k item }
 
     columns_meant : AllByRecursion (ColumnHasMeaning c q day group) (columns_of q)
     columns_meant = each_column (ColumnHasMeaning c q day group) HasTypes (IsTypedItem q.grouped q.groups) q.aggs column_meant 0 q.items q.aggs (λ k. let same : 0 + k ≡ k = omega arith in ap (slice_get q.aggs) same) items_typed h.aggs

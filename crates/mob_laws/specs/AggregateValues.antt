@@ -2,7 +2,7 @@
 --
 -- `IsAggregated` of `mob_tail` leaves out a value of a form that it does not name, as it leaves out
 -- NULL. In a typed query there is none but NULL.
-use Rattle.std.specs.Prelude.{◌≡◌, ◌⊎◌, ◌↔◌, ℕ, ℤ, Bool, false, List, Option, Some, None, Ok, is_some, map, slice_get}
+use Rattle.std.specs.Prelude.{◌≡◌, ◌⊎◌, ◌↔◌, ℕ, ℤ, Bool, false, List, Option, Some, Ok, is_some, map, slice_get}
 use Rattle.std.specs.List.{AllByRecursion, AllZip}
 use Rattle.mob_ratio.specs.Ratio.{Ratio}
 use Rattle.mob_slice.specs.declared.line.Line.{Line}
@@ -15,6 +15,7 @@ use Rattle.mob_typed.specs.declared.typed.Agg.{Agg}
 use Rattle.mob_typed.specs.Selects.{TypedSelectParts}
 use Rattle.mob_typed.specs.Statements.{query}
 use Rattle.mob_typed.specs.Trees.{TypedTree, type_of}
+use Rattle.mob_clauses.specs.Keys.{value_type}
 use Rattle.mob_typing.specs.WellTyped.{IsAggregateOf}
 use Rattle.mob_value.specs.declared.value.Value.{Value}
 use Rattle.mob_value.specs.declared.value.Value.TheVariants.{Null, Number}
@@ -39,27 +40,27 @@ GivesType TSum ty = (ty ≡ sql.TInt) ⊎ (ty ≡ sql.TFrac)
 GivesType TAnd ty = ty ≡ sql.TBool
 GivesType TOr ty = ty ≡ sql.TBool
 
--- what there is at an instant, as an option, is there exactly where the value is
-abbrev pub IsSeen : {B : Type 0} → (Value → Ratio → Option B) → Value → Type 0
-IsSeen there v = (t : Ratio) → is_some (there v t) ≡ is_there t v
+-- `there` gives something of a value at exactly the instants at which the value is there
+abbrev pub IsThereBy : {B : Type 0} → (Value → Ratio → Option B) → Value → Type 0
+IsThereBy there v = (t : Ratio) → is_some (there v t) ≡ is_there t v
 
--- An aggregate of this type takes a value that is not NULL: a sum its number, one over time what
--- it has at each instant at which it is there. count(*) and count ask for no more than that it is
--- one.
-abbrev pub IsTaken : AggKind → SqlType → Value → Type 0
-IsTaken CountAll ty v = Unit {0}
-IsTaken Count ty v = Unit {0}
-IsTaken Sum ty v = (n : Ratio) × (number_in v ≡ Some n)
-IsTaken TCount ty v = IsSeen one_there v
-IsTaken TSum sql.TInt v = (m : StepSlices Ratio) × (steps_of v ≡ Some m) × IsSeen step_there v
-IsTaken TSum sql.TFrac v = (m : List (Slice Line)) × (lines_of v ≡ Some m) × IsSeen line_there v
-IsTaken TSum _ v = ⊥
-IsTaken TAnd ty v = (m : StepSlices Bool) × (truths_of v ≡ Some m) × IsSeen truth_there v
-IsTaken TOr ty v = (m : StepSlices Bool) × (truths_of v ≡ Some m) × IsSeen truth_there v
+-- An aggregate of this type takes a value that is not NULL: a sum its number, and an aggregate over
+-- time what the value has at each instant at which it is there. A count asks for no more than the
+-- value.
+abbrev pub TakesValue : AggKind → SqlType → Value → Type 0
+TakesValue CountAll ty v = Unit {0}
+TakesValue Count ty v = Unit {0}
+TakesValue Sum ty v = (n : Ratio) × (number_in v ≡ Some n)
+TakesValue TCount ty v = IsThereBy one_there v
+TakesValue TSum sql.TInt v = (m : StepSlices Ratio) × (steps_of v ≡ Some m) × IsThereBy step_there v
+TakesValue TSum sql.TFrac v = (m : List (Slice Line)) × (lines_of v ≡ Some m) × IsThereBy line_there v
+TakesValue TSum _ v = ⊥
+TakesValue TAnd ty v = (m : StepSlices Bool) × (truths_of v ≡ Some m) × IsThereBy truth_there v
+TakesValue TOr ty v = (m : StepSlices Bool) × (truths_of v ≡ Some m) × IsThereBy truth_there v
 
 -- it takes each value but NULL
-abbrev pub EachIsTaken : AggKind → SqlType → List Value → Type 0
-EachIsTaken kind ty vs = AllByRecursion (IsTaken kind ty) (known_of vs)
+abbrev pub TakesEachValue : AggKind → SqlType → List Value → Type 0
+TakesEachValue kind ty vs = AllByRecursion (TakesValue kind ty) (known_of vs)
 
 -- Where NULL is due: for a count never, for a sum where each value is NULL, and for an aggregate
 -- over time where no value is there at any instant.
@@ -75,11 +76,12 @@ pub record IsResult (kind : AggKind) (ty : SqlType) (vs : List Value) (v : Value
   pub own : IsValueOf ty v
   pub null : (v ≡ Null) ↔ IsNullDue kind vs
 
--- An aggregate of this type has a meaning on these values: it may give the type, it takes each of
--- them but NULL, a sum is that of their numbers, and what it makes of them is such a result.
+-- An aggregate of this type has a meaning on these values: the type is one that it may give, it
+-- takes each value but NULL, the numbers of a sum are those of these values in order, and what it
+-- makes of the values is such a result.
 pub record HasMeaningOn (kind : AggKind) (ty : SqlType) (vs : List Value) : Type 0 where
   pub gives : GivesType kind ty
-  pub taken : EachIsTaken kind ty vs
+  pub taken : TakesEachValue kind ty vs
   pub numbers : kind ≡ Sum → map Number (numbers_of vs) ≡ known_of vs
   pub result : (v : Value) → IsAggregated kind ty vs v → IsResult kind ty vs v
 
@@ -93,11 +95,11 @@ pub record ArgumentsHaveMeaning (e : TypedTree) (agg : Agg) (vs : List Value) : 
   pub own : AllByRecursion (IsValueOf (type_of e)) vs
   pub meant : HasMeaningOn agg.kind agg.ty vs
 
--- A column of a grouped query has a meaning on a group of tuples: an aggregate on whatever values
--- its argument has there, and a column of GROUP BY by its type.
-abbrev pub ColumnHasMeaning : Catalogue → TypedSelectParts → ℤ → List (List ℕ) → Column → Type 0
-ColumnHasMeaning c q day group (e, None) = (v : Value) → IsColumnValue q c.store day group (e, None) v → IsValueOf (type_of e) v
-ColumnHasMeaning c q day group (e, Some agg) = (vs : List Value) → AllZip (λ t w. IsArgumentOn q c.store day t (e, Some agg) (Ok w)) group vs → ArgumentsHaveMeaning e agg vs
+-- A column of a grouped query has a meaning on a group of tuples: each value of it is NULL or of the
+-- type that typing gives it, and an aggregate has one on whatever values its argument has there.
+pub record ColumnHasMeaning (c : Catalogue) (q : TypedSelectParts) (day : ℤ) (group : List (List ℕ)) (column : Column) : Type 0 where
+  pub own : (v : Value) → IsColumnValue q c.store day group column v → IsValueOf (value_type column.0 column.1) v
+  pub arguments : (agg : Agg) (vs : List Value) → column.1 ≡ Some agg → AllZip (λ t w. IsArgumentOn q c.store day t column (Ok w)) group vs → ArgumentsHaveMeaning column.0 agg vs
 
 -- So has each column of a query that is typed for a catalogue, on whatever tuples. A query that is
 -- not grouped has no aggregate.

@@ -13,11 +13,12 @@ pub fn expressions_have_their_types()
     mob_shell::laws::queries_are_typed();
 }
 
-/// Aggregates have meanings: of the values of its argument an aggregate leaves out no value but
+/// Aggregates have meanings. Of the values of its argument an aggregate leaves out no value but
 /// NULL, and what it makes of them has the type that its row of the table gives. It is NULL exactly
 /// where that is due: a count never, a sum where each value is NULL, and an aggregate over time
 /// where no value is there at any instant. So it is with each column of a grouped query, on
-/// whatever tuples, also in a run.
+/// whatever tuples, also in a run: the values of its argument are of the argument's type, and its
+/// own are of the type that typing gives it.
 pub fn aggregates_have_meanings()
     ensures rows { AggregateRowsHaveMeanings }
     ensures typed { TypedColumnsHaveMeanings }
