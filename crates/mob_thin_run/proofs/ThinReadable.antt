@@ -11,7 +11,6 @@ use Rattle.mob_language.specs.Language.{Text}
 use Rattle.mob_numeral.specs.NumberValue.{numeral_value}
 use Rattle.mob_numeral.specs.Verdict.{Lit}
 use Rattle.mob_numeral.specs.declared.fault.ReadText.{ReadText}
-use Rattle.mob_scalar.specs.MomentText.{IsDated}
 use Rattle.mob_ast.specs.declared.types.SqlType.{SqlType}
 use Rattle.mob_ast.specs.declared.types.SqlType.TheVariants.{Int, TPoint}
 use Rattle.mob_value.specs.declared.value.Value.{Value}
@@ -39,12 +38,11 @@ use Rattle.mob_catalog.proofs.OwnTypes.{fits_unless, no_part}
 use Rattle.mob_simplify.specs.Breaks.{start_of, end_of}
 use Rattle.mob_simplify.specs.BreaksOf.{HaveBreaks, followed, printed_instants}
 use Rattle.mob_simplify.specs.Thinned.{IsThin}
-use Rattle.mob_simplify.specs.declared.breaks.Break.{Break}
 use Rattle.mob_simplify.proofs.Answering.{IsNormalLines}
 use Rattle.mob_simplify.proofs.Tidied.{thin_breaks, thin_prints}
-use Rattle.mob_thin_run.specs.TableAgain.{IsPrintable, IsPrintableValue}
+use Rattle.mob_thin_run.specs.TableAgain.{IsPrintable}
 use Rattle.mob_thin_run.specs.ThinRows.{IsThinValue}
-use Rattle.mob_thin_run.proofs.PlacesFit.{places_fit}
+use Rattle.mob_thin_run.proofs.BreaksWritten.{IsWritable, breaks_written}
 use Rattle.mob_trips.specs.Reading.{trip_columns}
 
 abbrev Line : Type 0
@@ -110,27 +108,18 @@ module _ (day : ℤ) where
   counted (s ∷ r ∷ rest) = put_counts s r (neighbour_groups plane_course (r ∷ rest)) (begins_put r (neighbour_groups plane_course rest)) ∙ ap (λ n. one_or_two (followed s (r ∷ rest)) (before s.span.lower s.span.upper) + n) (counted (r ∷ rest))
 
   -- ---- a trip
-  -- the instant of a break lies in the years 0001 to 9999, and its coordinates fit
-  record IsWritable (b : Break) : Type 0 where
-    dated : IsDated day b.instant
-    fits : PointFits b.place
-
-  are_writable : (slices : List Line) → HaveBreaks (λ b. IsDated day b.instant) slices → HaveBreaks (λ b. PointFits b.place) slices → HaveBreaks IsWritable slices
-  are_writable [] h k = tt
-  are_writable (s ∷ rest) h k = ((record { dated = h.0.0; fits = k.0.0 }, record { dated = h.0.1; fits = k.0.1 }), are_writable rest h.1 k.1)
-
   -- a trip that was read, and that can be printed
   record IsReadTrip (slices : List Line) : Type 0 where
     normal : IsNormalLines slices
-    breaks : HaveBreaks IsWritable slices
+    breaks : HaveBreaks (IsWritable day) slices
     short : printed_instants slices ≤ 100000
 
   abbrev IsReadableTrip : List Line → Type 0
   IsReadableTrip slices = IsReadable plane_course day point_text PointFits slices
 
-  readable_by : (slices : List Line) → IsNormalLines slices → HaveBreaks IsWritable slices → printed_instants slices ≤ 100000 → IsReadableTrip slices
+  readable_by : (slices : List Line) → IsNormalLines slices → HaveBreaks (IsWritable day) slices → printed_instants slices ≤ 100000 → IsReadableTrip slices
   readable_by slices normal all most =
-      let each = each_of_all (λ s. IsWritable (start_of s) × IsWritable (end_of s)) slices all in
+      let each = each_of_all (λ s. IsWritable day (start_of s) × IsWritable day (end_of s)) slices all in
       let count = counted slices in
       record {
         normal = normal;
@@ -145,7 +134,7 @@ module _ (day : ℤ) where
   thin_readable d slices thin h k =
       let few = thin_prints d slices thin h.normal k in
       let most = h.short in
-      readable_by thin k.normal (thin_breaks IsWritable d slices thin h.normal k h.breaks) (omega (arith, few, most))
+      readable_by thin k.normal (thin_breaks (IsWritable day) d slices thin h.normal k h.breaks) (omega (arith, few, most))
 
   -- ---- what was read
   normal_in : (slices : List Line) (step : Bool) (o : Option (List (Sequence (Written Point)))) → MatchOption o ⊥ (λ qs. Defines plane_course step qs slices) → IsNormalLines slices
@@ -157,20 +146,20 @@ module _ (day : ℤ) where
   IsTripCell (MovingPoint slices) = IsReadTrip slices
   IsTripCell v = v ≡ Null
 
-  read_trip : (text : Text) (slices : List Line) → Lit (literals day true point_value any_value plane_course) text (Ok slices) → IsPrintable day slices → IsReadTrip slices
-  read_trip text slices h p = record {
+  read_trip : (text : Text) (slices : List Line) → Lit (literals day true point_value any_value plane_course) text (Ok slices) → printed_instants slices ≤ 100000 → IsReadTrip slices
+  read_trip text slices h short = record {
     normal = normal_in slices (is_step plane_course.steady h.0.says_step) (fitting_all h.0.sequences) h.5;
-    breaks = are_writable slices p.dated (places_fit day text slices h);
-    short = p.short;
+    breaks = breaks_written day text slices h;
+    short = short;
   }
 
   ok_same : (v w : Value) → ◌≡◌ {A = Result Value ReadText} (Ok v) (Ok w) → v ≡ w
   ok_same v w e = cc
 
-  trip_said : (text : Text) (v : Value) → SaysAs TPoint day text (Ok v) → IsPrintableValue day v → IsTripCell v
-  trip_said text v h p = subst IsTripCell (sym h.1) (read_trip text h.0 h.2 (subst (IsPrintableValue day) h.1 p))
+  trip_said : (text : Text) (v : Value) → SaysAs TPoint day text (Ok v) → IsPrintable v → IsTripCell v
+  trip_said text v h p = subst IsTripCell (sym h.1) (read_trip text h.0 h.2 (subst IsPrintable h.1 p))
 
-  trip_field : (field : Text) (v : Value) (b : Bool) → is_null_field TPoint field ≡ b → FieldSays TPoint day field (Ok v) → IsPrintableValue day v → IsTripCell v
+  trip_field : (field : Text) (v : Value) (b : Bool) → is_null_field TPoint field ≡ b → FieldSays TPoint day field (Ok v) → IsPrintable v → IsTripCell v
   trip_field field v true e h p = subst IsTripCell (sym (ok_same v Null (h.null e))) refl
   trip_field field v false e h p = trip_said (text_of_field TPoint field) v (h.text e) p
 
@@ -201,7 +190,7 @@ module _ (day : ℤ) where
   trip_again d (MovingPoint slices) w h k = absurd k
   trip_again d v w h k = inl (null_stays d v w h k)
 
-  row_readable : (d : Ratio) (fields : List Text) (row thin : List Value) → IsRow trip_columns day fields row → AllByRecursion (IsPrintableValue day) row → AllZip (IsThinValue d) row thin → IsTripRow day thin
+  row_readable : (d : Ratio) (fields : List Text) (row thin : List Value) → IsRow trip_columns day fields row → AllByRecursion IsPrintable row → AllZip (IsThinValue d) row thin → IsTripRow day thin
   row_readable d (f ∷ g ∷ []) (v ∷ w ∷ []) (x ∷ y ∷ []) h p k = record {
     id = x;
     trip = y;
@@ -219,7 +208,7 @@ module _ (day : ℤ) where
   row_readable d (f ∷ []) row thin h p k = let n = h.whole.count in absurd (omega (arith, n))
   row_readable d (f ∷ g ∷ e ∷ fields) row thin h p k = let n = h.whole.count in absurd (omega (arith, n))
 
-  pub rows_readable : (d : Ratio) (records : List (List Text)) (rows thin : List (List Value)) → AllZip (IsRow trip_columns day) records rows → AllByRecursion (AllByRecursion (IsPrintableValue day)) rows → AllZip (AllZip (IsThinValue d)) rows thin → AllByRecursion (IsTripRow day) thin
+  pub rows_readable : (d : Ratio) (records : List (List Text)) (rows thin : List (List Value)) → AllZip (IsRow trip_columns day) records rows → AllByRecursion (AllByRecursion IsPrintable) rows → AllZip (AllZip (IsThinValue d)) rows thin → AllByRecursion (IsTripRow day) thin
   rows_readable d [] [] [] h p k = tt
   rows_readable d [] [] (t ∷ thin) h p k = absurd k
   rows_readable d [] (row ∷ rows) thin h p k = absurd h

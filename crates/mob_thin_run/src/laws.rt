@@ -3,7 +3,7 @@ ghost use Rattle.mob_thin_run.specs.TableAgain.{ReadsTableAgain};
 
 /// The file that is written of a table is read again as its rows with each trip simplified, if it
 /// is not longer than a table file may be, and each trip of the table prints at most 100,000
-/// instants, with its breaks in the years 0001 to 9999.
+/// instants.
 pub fn table_read_again()
     ensures again { ReadsTableAgain }
 {}

@@ -1,4 +1,5 @@
--- The coordinates of a trip that was read fit: its breaks are at places that are written.
+-- The breaks of a trip that was read are at instants and places that are written: the instants lie
+-- in the years 0001 to 9999, and all their numbers fit.
 use Rattle.std.specs.Prelude.{◌≡◌, ◌∷◌, ◌++◌, ◌^◌, [], ℤ, Bool, true, false, cond, List, map, nat_lt, nat_abs, Option, Some, None, MatchOption, Ok, refl}
 use Rattle.std.specs.List.{AllByRecursion}
 use Rattle.std.proofs.Common.{sym, ◌∙◌, subst, inl, inr}
@@ -9,14 +10,17 @@ use Rattle.mob_frac.specs.Fits.{Fits}
 use Rattle.mob_language.specs.Language.{Text, Language, Separated}
 use Rattle.mob_language.specs.Readers.{◌>>=◌}
 use Rattle.mob_language.proofs.Exact.{bind_some}
-use Rattle.mob_numeral.specs.Fitting.{fits, number_value}
+use Rattle.mob_numeral.specs.Fitting.{fits, fitting, number_value}
 use Rattle.mob_numeral.specs.NumberValue.{numeral_value}
 use Rattle.mob_numeral.specs.Verdict.{Lit}
 use Rattle.mob_plane.specs.Points.{same_point, same_point_exact}
 use Rattle.mob_plane.specs.declared.point.Point.{Point}
 use Rattle.mob_points.specs.Points.{coordinates, point_value, written_point}
 use Rattle.mob_scalar.specs.Brackets.{comma}
+use Rattle.mob_scalar.specs.Moment.{instant, moment}
+use Rattle.mob_scalar.specs.MomentText.{HasDate, IsDated}
 use Rattle.mob_scalar.specs.Traverse.{traverse}
+use Rattle.mob_scalar.specs.declared.stamp.Stamp.{Stamp}
 use Rattle.mob_slice.specs.CourseOf.{plane_course}
 use Rattle.mob_slice.specs.Lines.{plane_value_of}
 use Rattle.mob_slice.specs.PlaneLaws.{plane_laws}
@@ -42,6 +46,7 @@ use Rattle.mob_simplify.specs.Breaks.{start_of, end_of}
 use Rattle.mob_simplify.specs.BreaksOf.{HaveBreaks}
 use Rattle.mob_simplify.specs.declared.breaks.Break.{Break}
 use Rattle.mob_simplify.proofs.Tidied.{normal_breaks}
+use Rattle.mob_thin_run.proofs.MomentsDated.{moment_dated}
 
 -- ---- what a literal is made of
 -- each entry of each sequence meets P
@@ -125,13 +130,30 @@ written_fits text o said p e = coordinates_fit said.said.second.back said.meant.
 value_fits : (text : Text) (o : Option Point) → point_value text o → HasFitting o
 value_fits text o said p e = written_fits said.said.back said.meant.1 said.said.second p (sym said.is ∙ e)
 
-noted_fits : (day : ℤ) (text : Text) (n : Noted Point) → noted day point_value text n → HasFitting n.value
-noted_fits day text n said = subst (λ (x : Noted Point). HasFitting x.value) (sym said.is) (value_fits said.said.front said.meant.0 said.said.first)
+-- ---- a point at an instant that is written
+-- where there is an instant, it fits and lies in these years
+abbrev IsDatedThere : ℤ → Option Ratio → Type 0
+IsDatedThere day o = (t : Ratio) → o ≡ Some t → IsDated day t
+
+dated_by : (day : ℤ) (x t : Ratio) (b : Bool) → fits x ≡ b → HasDate day x → ◌≡◌ {A = Option Ratio} (cond b (Some x) None) (Some t) → IsDated day t
+dated_by day x t true e dated h = subst (IsDated day) (one_some x t h) (record { fits = of_test x e; dated = dated })
+dated_by day x t false e dated h = absurd cc
+
+instant_dated : (day : ℤ) (text : Text) (s : Stamp) → moment text s → IsDatedThere day (fitting (instant day s))
+instant_dated day text s said t e = dated_by day (instant day s) t (fits (instant day s)) refl (moment_dated day text s said) e
+
+-- each of these
+record IsNotedThere (day : ℤ) (n : Noted Point) : Type 0 where
+  value : HasFitting n.value
+  instant : IsDatedThere day n.instant
+
+noted_there : (day : ℤ) (text : Text) (n : Noted Point) → noted day point_value text n → IsNotedThere day n
+noted_there day text n said = subst (IsNotedThere day) (sym said.is) (record {
+  value = value_fits said.said.front said.meant.0 said.said.first;
+  instant = instant_dated day said.said.second.back said.meant.1.1 said.said.second.second;
+})
 
 -- ---- where all numbers fit
-abbrev Fit : Written Point → Type 0
-Fit w = PointFits w.value
-
 traversed : {A C : Type 0} (f : A → Option C) (P : A → Type 0) (Q : C → Type 0) → ((a : A) (c : C) → P a → f a ≡ Some c → Q c) → (xs : List A) (ys : List C) → AllByRecursion P xs → traverse f xs ≡ Some ys → AllByRecursion Q ys
 traversed {A} {C} f P Q each [] ys h e = subst (λ (z : List C). AllByRecursion Q z) (one_some [] ys e) tt
 traversed {A} {C} f P Q each (x ∷ xs) ys h e =
@@ -139,58 +161,68 @@ traversed {A} {C} f P Q each (x ∷ xs) ys h e =
     let b = bind_some (traverse f xs) (λ zs. Some (a.0 ∷ zs)) ys a.2 in
     subst (λ (z : List C). AllByRecursion Q z) (one_some (a.0 ∷ b.0) ys b.2) (each x a.0 h.0 a.1, traversed f P Q each xs b.0 h.1 b.1)
 
-one_fits : (n : Noted Point) (w : Written Point) → HasFitting n.value → written_of n ≡ Some w → Fit w
-one_fits n w h e =
-    let a = bind_some n.value (λ (v : Point). n.instant >>= λ (t : Ratio). Some (record { value = v; instant = t })) w e in
-    let b = bind_some n.instant (λ (t : Ratio). Some (record { value = a.0; instant = t })) w a.2 in
-    subst Fit (one_some (record { value = a.0; instant = b.0 }) w b.2) (h a.0 a.1)
+-- the instant of a break lies in the years 0001 to 9999, and all its numbers fit
+pub record IsWritable (day : ℤ) (b : Break) : Type 0 where
+  pub dated : IsDated day b.instant
+  pub fits : PointFits b.place
 
-sequence_fits : (n : Sequence (Noted Point)) (q : Sequence (Written Point)) → AllByRecursion (λ m. HasFitting m.value) n.instants → fitting_sequence n ≡ Some q → AllByRecursion Fit q.instants
-sequence_fits n q h e =
-    let c = bind_some (traverse written_of n.instants) (λ (is : List (Written Point)). Some (record { lower_inc = n.lower_inc; instants = is; upper_inc = n.upper_inc })) q e in
-    subst (λ (x : Sequence (Written Point)). AllByRecursion Fit x.instants) (one_some (record { lower_inc = n.lower_inc; instants = c.0; upper_inc = n.upper_inc }) q c.2)
-    (traversed written_of (λ m. HasFitting m.value) Fit one_fits n.instants c.0 h c.1)
+module _ (day : ℤ) where
+  record Fit (w : Written Point) : Type 0 where
+    dated : IsDated day w.instant
+    fits : PointFits w.value
 
--- ---- the slices of the sequences
-abbrev Placed : Break → Type 0
-Placed b = PointFits b.place
+  one_fits : (n : Noted Point) (w : Written Point) → IsNotedThere day n → written_of n ≡ Some w → Fit w
+  one_fits n w h e =
+      let a = bind_some n.value (λ (v : Point). n.instant >>= λ (t : Ratio). Some (record { value = v; instant = t })) w e in
+      let b = bind_some n.instant (λ (t : Ratio). Some (record { value = a.0; instant = t })) w a.2 in
+      subst Fit (one_some (record { value = a.0; instant = b.0 }) w b.2) (record { dated = h.instant b.0 b.1; fits = h.value a.0 a.1 })
 
-stretch_fits : (step lower : Bool) (i j : Written Point) → Fit i → Fit j → Placed (start_of (stretch plane_course step lower i j)) × Placed (end_of (stretch plane_course step lower i j))
-stretch_fits true lower i j h k = (h, h)
-stretch_fits false lower i j h k = (h, k)
+  sequence_fits : (n : Sequence (Noted Point)) (q : Sequence (Written Point)) → AllByRecursion (IsNotedThere day) n.instants → fitting_sequence n ≡ Some q → AllByRecursion Fit q.instants
+  sequence_fits n q h e =
+      let c = bind_some (traverse written_of n.instants) (λ (is : List (Written Point)). Some (record { lower_inc = n.lower_inc; instants = is; upper_inc = n.upper_inc })) q e in
+      subst (λ (x : Sequence (Written Point)). AllByRecursion Fit x.instants) (one_some (record { lower_inc = n.lower_inc; instants = c.0; upper_inc = n.upper_inc }) q c.2)
+      (traversed written_of (IsNotedThere day) Fit one_fits n.instants c.0 h c.1)
 
-slices_fit : (step lower : Bool) (is : List (Written Point)) (upper : Bool) → AllByRecursion Fit is → HaveBreaks Placed (slices_of plane_course step lower is upper)
-slices_fit step lower [] upper h = tt
-slices_fit step lower (i ∷ []) true h = ((h.0, h.0), tt)
-slices_fit step lower (i ∷ []) false h = tt
-slices_fit step lower (i ∷ j ∷ is) upper h = (stretch_fits step lower i j h.0 h.1.0, slices_fit step true (j ∷ is) upper h.1)
+  -- ---- the slices of the sequences
+  at_once : (i : Written Point) → Fit i → IsWritable day (record { instant = i.instant; place = i.value })
+  at_once i h = record { dated = h.dated; fits = h.fits }
 
-breaks_append : (P : Break → Type 0) (v w : List (Slice PlaneLine)) → HaveBreaks P v → HaveBreaks P w → HaveBreaks P (v ++ w)
-breaks_append P [] w h k = k
-breaks_append P (s ∷ v) w h k = (h.0, breaks_append P v w h.1 k)
+  stretch_fits : (step lower : Bool) (i j : Written Point) → Fit i → Fit j → IsWritable day (start_of (stretch plane_course step lower i j)) × IsWritable day (end_of (stretch plane_course step lower i j))
+  stretch_fits true lower i j h k = (at_once i h, record { dated = k.dated; fits = h.fits })
+  stretch_fits false lower i j h k = (at_once i h, at_once j k)
 
-flat_fits : (step : Bool) (qs : List (Sequence (Written Point))) → AllEntries Fit qs → HaveBreaks Placed (flat plane_course step qs)
-unfolding flat
-flat_fits step [] h = tt
-flat_fits step (q ∷ qs) h = breaks_append Placed (slices_of plane_course step q.lower_inc q.instants q.upper_inc) (flat plane_course step qs) (slices_fit step q.lower_inc q.instants q.upper_inc h.0) (flat_fits step qs h.1)
+  slices_fit : (step lower : Bool) (is : List (Written Point)) (upper : Bool) → AllByRecursion Fit is → HaveBreaks (IsWritable day) (slices_of plane_course step lower is upper)
+  slices_fit step lower [] upper h = tt
+  slices_fit step lower (i ∷ []) true h = ((at_once i h.0, at_once i h.0), tt)
+  slices_fit step lower (i ∷ []) false h = tt
+  slices_fit step lower (i ∷ j ∷ is) upper h = (stretch_fits step lower i j h.0 h.1.0, slices_fit step true (j ∷ is) upper h.1)
 
--- ---- the normal slices that they define
-not_refused : (b : Bool) → ((b ≡ false) → ⊥) → b ≡ true
-not_refused true h = refl
-not_refused false h = absurd (h refl)
+  breaks_append : (P : Break → Type 0) (v w : List (Slice PlaneLine)) → HaveBreaks P v → HaveBreaks P w → HaveBreaks P (v ++ w)
+  breaks_append P [] w h k = k
+  breaks_append P (s ∷ v) w h k = (h.0, breaks_append P v w h.1 k)
 
-defined_fit : (step : Bool) (qs : List (Sequence (Written Point))) (slices : List (Slice PlaneLine)) → AllEntries Fit qs → is_sound any_value plane_course step qs ≡ true → Defines plane_course step qs slices → HaveBreaks Placed slices
-defined_fit step qs slices h sound defines =
-    let f = is_flat any_value plane_course (lawful same_point same_point_exact plane_laws) step (λ e. refl) qs sound in
-    normal_breaks Placed (flat plane_course step qs) slices f.ordered defines.normal.chained
-    (λ t. one_option (value_at plane_value_of slices t) (value_at plane_value_of (flat plane_course step qs) t) (λ v. (λ e. (f.same t v).1 ((defines.same t v).0 e), λ e. (defines.same t v).1 ((f.same t v).0 e))))
-    (flat_fits step qs h)
+  flat_fits : (step : Bool) (qs : List (Sequence (Written Point))) → AllEntries Fit qs → HaveBreaks (IsWritable day) (flat plane_course step qs)
+  unfolding flat
+  flat_fits step [] h = tt
+  flat_fits step (q ∷ qs) h = breaks_append (IsWritable day) (slices_of plane_course step q.lower_inc q.instants q.upper_inc) (flat plane_course step qs) (slices_fit step q.lower_inc q.instants q.upper_inc h.0) (flat_fits step qs h.1)
 
-fit_by : (step : Bool) (s : List (Sequence (Noted Point))) (o : Option (List (Sequence (Written Point)))) (slices : List (Slice PlaneLine)) → AllEntries (λ m. HasFitting m.value) s → fitting_all s ≡ o
-    → (MatchOption o ⊥ (λ qs. is_sound any_value plane_course step qs ≡ false) → ⊥) → MatchOption o ⊥ (λ qs. Defines plane_course step qs slices) → HaveBreaks Placed slices
-fit_by step s None slices h e sound defines = absurd defines
-fit_by step s (Some qs) slices h e sound defines = defined_fit step qs slices (traversed fitting_sequence (λ n. AllByRecursion (λ m. HasFitting m.value) n.instants) (λ q. AllByRecursion Fit q.instants) sequence_fits s qs h e) (not_refused _ sound) defines
+  -- ---- the normal slices that they define
+  not_refused : (b : Bool) → ((b ≡ false) → ⊥) → b ≡ true
+  not_refused true h = refl
+  not_refused false h = absurd (h refl)
 
-pub places_fit : (day : ℤ) (text : Text) (slices : List (Slice PlaneLine)) → Lit (literals day true point_value any_value plane_course) text (Ok slices) → HaveBreaks (λ b. PointFits b.place) slices
-places_fit day text slices (written, shape, short, fits, sound, means) =
-    fit_by (is_step plane_course.steady written.says_step) written.sequences (fitting_all written.sequences) slices (in_temporal (noted day point_value) (λ m. HasFitting m.value) (noted_fits day) (admitted plane_course.steady true) text written shape) refl sound means
+  defined_fit : (step : Bool) (qs : List (Sequence (Written Point))) (slices : List (Slice PlaneLine)) → AllEntries Fit qs → is_sound any_value plane_course step qs ≡ true → Defines plane_course step qs slices → HaveBreaks (IsWritable day) slices
+  defined_fit step qs slices h sound defines =
+      let f = is_flat any_value plane_course (lawful same_point same_point_exact plane_laws) step (λ e. refl) qs sound in
+      normal_breaks (IsWritable day) (flat plane_course step qs) slices f.ordered defines.normal.chained
+      (λ t. one_option (value_at plane_value_of slices t) (value_at plane_value_of (flat plane_course step qs) t) (λ v. (λ e. (f.same t v).1 ((defines.same t v).0 e), λ e. (defines.same t v).1 ((f.same t v).0 e))))
+      (flat_fits step qs h)
+
+  fit_by : (step : Bool) (s : List (Sequence (Noted Point))) (o : Option (List (Sequence (Written Point)))) (slices : List (Slice PlaneLine)) → AllEntries (IsNotedThere day) s → fitting_all s ≡ o
+      → (MatchOption o ⊥ (λ qs. is_sound any_value plane_course step qs ≡ false) → ⊥) → MatchOption o ⊥ (λ qs. Defines plane_course step qs slices) → HaveBreaks (IsWritable day) slices
+  fit_by step s None slices h e sound defines = absurd defines
+  fit_by step s (Some qs) slices h e sound defines = defined_fit step qs slices (traversed fitting_sequence (λ n. AllByRecursion (IsNotedThere day) n.instants) (λ q. AllByRecursion Fit q.instants) sequence_fits s qs h e) (not_refused _ sound) defines
+
+  pub breaks_written : (text : Text) (slices : List (Slice PlaneLine)) → Lit (literals day true point_value any_value plane_course) text (Ok slices) → HaveBreaks (IsWritable day) slices
+  breaks_written text slices (written, shape, short, fits, sound, means) =
+      fit_by (is_step plane_course.steady written.says_step) written.sequences (fitting_all written.sequences) slices (in_temporal (noted day point_value) (IsNotedThere day) (noted_there day) (admitted plane_course.steady true) text written shape) refl sound means

@@ -1,0 +1,2 @@
+mod AggregateValues
+mod ExpressionTypes

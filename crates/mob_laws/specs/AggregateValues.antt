@@ -1,0 +1,112 @@
+-- What the aggregates of a grouped query make of the values of their arguments.
+--
+-- `IsAggregated` of `mob_tail` leaves out a value of a form that it does not name, as it leaves out
+-- NULL. In a typed query there is none but NULL.
+use Rattle.std.specs.Prelude.{◌≡◌, ◌⊎◌, ◌↔◌, ℕ, ℤ, Bool, false, List, Option, Some, Ok, is_some, map, slice_get}
+use Rattle.std.specs.List.{AllByRecursion, AllZip}
+use Rattle.mob_ratio.specs.Ratio.{Ratio}
+use Rattle.mob_slice.specs.declared.line.Line.{Line}
+use Rattle.mob_slice.specs.declared.slice.Slice.{Slice}
+use Rattle.mob_ast.specs.declared.types.SqlType.{SqlType}
+use Rattle.mob_ast.specs.declared.types.SqlType.TheVariants as sql
+use Rattle.mob_operators.specs.declared.aggregate.AggKind.{AggKind}
+use Rattle.mob_operators.specs.declared.aggregate.AggKind.TheVariants.{CountAll, Count, Sum, TCount, TSum, TAnd, TOr}
+use Rattle.mob_typed.specs.declared.typed.Agg.{Agg}
+use Rattle.mob_typed.specs.Selects.{TypedSelectParts}
+use Rattle.mob_typed.specs.Statements.{query}
+use Rattle.mob_typed.specs.Trees.{TypedTree, type_of}
+use Rattle.mob_clauses.specs.Keys.{value_type}
+use Rattle.mob_typing.specs.WellTyped.{IsAggregateOf}
+use Rattle.mob_value.specs.declared.value.Value.{Value}
+use Rattle.mob_value.specs.declared.value.Value.TheVariants.{Null, Number}
+use Rattle.mob_ordinary.specs.Moving.{StepSlices}
+use Rattle.mob_catalog.specs.Catalogue.{Catalogue}
+use Rattle.mob_catalog.specs.OwnTypes.{IsValueOf}
+use Rattle.mob_operands.specs.Rows.{is_there}
+use Rattle.mob_join.specs.TypedFor.{IsTypedFor}
+use Rattle.mob_tail.specs.Aggregated.{IsAggregated, known_of, line_there, lines_of, number_in, numbers_of, one_there, step_there, steps_of, truth_there, truths_of}
+use Rattle.mob_tail.specs.GroupedAnswers.{Column, IsArgumentOn, IsColumnValue, columns_of}
+use Rattle.mob_words.specs.declared.options.Settings.{Settings}
+use Rattle.mob_shell.specs.Inputs.{Input}
+use Rattle.mob_shell.specs.Program.{WritesFirst}
+
+-- the types that an aggregate may give
+abbrev pub GivesType : AggKind → SqlType → Type 0
+GivesType CountAll ty = ty ≡ sql.Int
+GivesType Count ty = ty ≡ sql.Int
+GivesType Sum ty = (ty ≡ sql.Int) ⊎ (ty ≡ sql.Numeric)
+GivesType TCount ty = ty ≡ sql.TInt
+GivesType TSum ty = (ty ≡ sql.TInt) ⊎ (ty ≡ sql.TFrac)
+GivesType TAnd ty = ty ≡ sql.TBool
+GivesType TOr ty = ty ≡ sql.TBool
+
+-- `there` gives something of a value at exactly the instants at which the value is there
+abbrev pub IsThereBy : {B : Type 0} → (Value → Ratio → Option B) → Value → Type 0
+IsThereBy there v = (t : Ratio) → is_some (there v t) ≡ is_there t v
+
+-- An aggregate of this type takes a value that is not NULL: a sum its number, and an aggregate over
+-- time what the value has at each instant at which it is there. A count asks for no more than the
+-- value.
+abbrev pub TakesValue : AggKind → SqlType → Value → Type 0
+TakesValue CountAll ty v = Unit {0}
+TakesValue Count ty v = Unit {0}
+TakesValue Sum ty v = (n : Ratio) × (number_in v ≡ Some n)
+TakesValue TCount ty v = IsThereBy one_there v
+TakesValue TSum sql.TInt v = (m : StepSlices Ratio) × (steps_of v ≡ Some m) × IsThereBy step_there v
+TakesValue TSum sql.TFrac v = (m : List (Slice Line)) × (lines_of v ≡ Some m) × IsThereBy line_there v
+TakesValue TSum _ v = ⊥
+TakesValue TAnd ty v = (m : StepSlices Bool) × (truths_of v ≡ Some m) × IsThereBy truth_there v
+TakesValue TOr ty v = (m : StepSlices Bool) × (truths_of v ≡ Some m) × IsThereBy truth_there v
+
+-- it takes each value but NULL
+abbrev pub TakesEachValue : AggKind → SqlType → List Value → Type 0
+TakesEachValue kind ty vs = AllByRecursion (TakesValue kind ty) (known_of vs)
+
+-- Where NULL is due: for a count never, for a sum where each value is NULL, and for an aggregate
+-- over time where no value is there at any instant.
+abbrev pub IsNullDue : AggKind → List Value → Type 0
+IsNullDue CountAll vs = ⊥
+IsNullDue Count vs = ⊥
+IsNullDue Sum vs = AllByRecursion (λ v. v ≡ Null) vs
+IsNullDue _ vs = (t : Ratio) → AllByRecursion (λ v. is_there t v ≡ false) vs
+
+-- what an aggregate of this type makes of values is one of the type, and NULL exactly where that is
+-- due
+pub record IsResult (kind : AggKind) (ty : SqlType) (vs : List Value) (v : Value) : Type 0 where
+  pub own : IsValueOf ty v
+  pub null : (v ≡ Null) ↔ IsNullDue kind vs
+
+-- An aggregate of this type has a meaning on these values: the type is one that it may give, it
+-- takes each value but NULL, the numbers of a sum are those of these values in order, and what it
+-- makes of the values is such a result.
+pub record HasMeaningOn (kind : AggKind) (ty : SqlType) (vs : List Value) : Type 0 where
+  pub gives : GivesType kind ty
+  pub taken : TakesEachValue kind ty vs
+  pub numbers : kind ≡ Sum → map Number (numbers_of vs) ≡ known_of vs
+  pub result : (v : Value) → IsAggregated kind ty vs v → IsResult kind ty vs v
+
+-- So it is with each row of the table of aggregates, on whatever values of the type that it takes.
+abbrev pub AggregateRowsHaveMeanings : Type 0
+AggregateRowsHaveMeanings = (e : TypedTree) (agg : Agg) (vs : List Value) → IsAggregateOf e agg → AllByRecursion (IsValueOf (type_of e)) vs → HasMeaningOn agg.kind agg.ty vs
+
+-- The values of an aggregate's argument on a group are NULL or of the argument's type, and the
+-- aggregate has a meaning on them.
+pub record ArgumentsHaveMeaning (e : TypedTree) (agg : Agg) (vs : List Value) : Type 0 where
+  pub own : AllByRecursion (IsValueOf (type_of e)) vs
+  pub meant : HasMeaningOn agg.kind agg.ty vs
+
+-- A column of a grouped query has a meaning on a group of tuples: each value of it is NULL or of the
+-- type that typing gives it, and an aggregate has one on whatever values its argument has there.
+pub record ColumnHasMeaning (c : Catalogue) (q : TypedSelectParts) (day : ℤ) (group : List (List ℕ)) (column : Column) : Type 0 where
+  pub own : (v : Value) → IsColumnValue q c.store day group column v → IsValueOf (value_type column.0 column.1) v
+  pub arguments : (agg : Agg) (vs : List Value) → column.1 ≡ Some agg → AllZip (λ t w. IsArgumentOn q c.store day t column (Ok w)) group vs → ArgumentsHaveMeaning column.0 agg vs
+
+-- So has each column of a query that is typed for a catalogue, on whatever tuples. A query that is
+-- not grouped has no aggregate.
+abbrev pub TypedColumnsHaveMeanings : Type 0
+TypedColumnsHaveMeanings = (c : Catalogue) (q : TypedSelectParts) (day : ℤ) (group : List (List ℕ)) → IsTypedFor c q → AllByRecursion (ColumnHasMeaning c q day group) (columns_of q)
+
+-- So has each column of a query that is next in a run.
+abbrev pub RunColumnsHaveMeanings : Type 0
+RunColumnsHaveMeanings = (settings : Settings) (input : Input) (count : ℕ) (text : List ℕ) (run : WritesFirst settings input count text) (q : TypedSelectParts) (group : List (List ℕ))
+    → slice_get run.out.statements count ≡ Some (query q) → AllByRecursion (ColumnHasMeaning run.stands.catalogue q settings.epoch group) (columns_of q)

@@ -1,0 +1,31 @@
+-- Each value of an expression of a typed query is of the expression's type.
+use Rattle.std.specs.Prelude.{◌≡◌, ◌⊎◌, ℕ, ℤ, List, Some, slice_get}
+use Rattle.std.specs.List.{AllByRecursion}
+use Rattle.mob_typed.specs.Selects.{TypedSelectParts}
+use Rattle.mob_typed.specs.Statements.{deletion, query}
+use Rattle.mob_typed.specs.Trees.{TypedTree, type_of}
+use Rattle.mob_typing.specs.WellTyped.{expressions_of}
+use Rattle.mob_value.specs.declared.value.Value.{Value}
+use Rattle.mob_catalog.specs.Catalogue.{Catalogue}
+use Rattle.mob_catalog.specs.OwnTypes.{IsValueOf}
+use Rattle.mob_meaning.specs.Scene.{Scene, scene}
+use Rattle.mob_meaning.specs.Values.{TreeHasValue}
+use Rattle.mob_join.specs.TypedFor.{IsTypedFor}
+use Rattle.mob_words.specs.declared.options.Settings.{Settings}
+use Rattle.mob_shell.specs.Inputs.{Input}
+use Rattle.mob_shell.specs.Program.{WritesFirst}
+
+-- whatever value an expression has, it is NULL or one of the expression's type
+abbrev pub HasItsType : Scene → TypedTree → Type 0
+HasItsType s e = (v : Value) → TreeHasValue s e v → IsValueOf (type_of e) v
+
+-- So it is with each expression of a query that is typed for a catalogue, on whatever rows of its
+-- tables.
+abbrev pub TypedExpressionsHaveTheirTypes : Type 0
+TypedExpressionsHaveTheirTypes = (c : Catalogue) (q : TypedSelectParts) (day : ℤ) (tuple : List ℕ) → IsTypedFor c q → AllByRecursion (HasItsType (scene c.store q.from tuple day)) (expressions_of q)
+
+-- So it is with each expression of a query, and of a DELETE, that is next in a run.
+abbrev pub RunExpressionsHaveTheirTypes : Type 0
+RunExpressionsHaveTheirTypes = (settings : Settings) (input : Input) (count : ℕ) (text : List ℕ) (run : WritesFirst settings input count text) (q : TypedSelectParts) (tuple : List ℕ)
+    → (slice_get run.out.statements count ≡ Some (query q)) ⊎ (slice_get run.out.statements count ≡ Some (deletion q))
+    → AllByRecursion (HasItsType (scene run.stands.catalogue.store q.from tuple settings.epoch)) (expressions_of q)

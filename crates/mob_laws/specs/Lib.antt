@@ -1,0 +1,2 @@
+pub mod AggregateValues
+pub mod ExpressionTypes
