@@ -1,0 +1,7 @@
+mod Unplaced
+mod UnplacedGroups
+mod UnplacedAnswers
+mod BareLoads
+mod BareRuns
+mod IndexedScripts
+mod Examples
