@@ -1,4 +1,4 @@
-//! Laws of whole runs that follow from what stands below. No code runs here.
+//! Laws of whole queries and of whole runs, above the crates that run them. No code runs here.
 #![tactic(auto)]
 
 pub mod indexes;
