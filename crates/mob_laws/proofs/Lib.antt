@@ -4,4 +4,4 @@ mod UnplacedAnswers
 mod BareLoads
 mod BareRuns
 mod IndexedScripts
-mod Examples
+mod IndexExamples
