@@ -1,0 +1,2 @@
+mod KeptTuples
+mod KeptExamples

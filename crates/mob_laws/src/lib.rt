@@ -1,0 +1,4 @@
+//! Laws of whole queries and of whole runs, above the crates that run them. No code runs here.
+#![tactic(auto)]
+
+pub mod kept;
