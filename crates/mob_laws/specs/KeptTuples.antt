@@ -6,7 +6,12 @@ use Rattle.mob_typed.specs.Selects.{TypedSelectParts}
 use Rattle.mob_typed.specs.Statements.{deletion, query}
 use Rattle.mob_catalog.specs.Catalogue.{Catalogue, with_deleted}
 use Rattle.mob_join.specs.Deleted.{first_rows}
-use Rattle.mob_join.specs.Query.{AreTuplesThatMeet, IsKept}
+use Rattle.mob_join.specs.Query.{AreTuplesThatMeet, FailsOn, IsKept, IsMetAt, conditions}
+use Rattle.mob_join.specs.TypedFor.{IsTypedFor}
+use Rattle.mob_plan.specs.Plans.{planned}
+use Rattle.mob_probes.specs.Rows.{StepGives}
+use Rattle.mob_tuples.specs.Kept.{AreClean}
+use Rattle.mob_tuples.specs.Ranges.{AreAllVisits}
 use Rattle.mob_records.specs.AnswerText.{answer_text}
 use Rattle.mob_tail.specs.Answers.{IsAnswerOnKept}
 use Rattle.mob_tail.specs.AnswerTexts.{answer_names}
@@ -21,6 +26,12 @@ use Rattle.mob_shell.specs.Runs.{StatementWrites}
 -- order: `AreThoseThatMeet` of mob_join says it tuple by tuple, and entry by entry.
 abbrev pub KeptTuplesMeet : Type 0
 KeptTuplesMeet = (q : TypedSelectParts) (c : Catalogue) (day : ℤ) (kept : List (List ℕ)) → IsKept q c day (Ok kept) → AreTuplesThatMeet q c day kept
+
+-- And these are what a query keeps that is typed for the tables, as each query of a run is, where no
+-- visit of its plan has a fault.
+abbrev pub TuplesThatMeetAreKept : Type 0
+TuplesThatMeetAreKept = (q : TypedSelectParts) (c : Catalogue) (day : ℤ) (kept : List (List ℕ)) → IsTypedFor c q → AreTuplesThatMeet q c day kept
+    → AreClean (FailsOn q c day) (AreAllVisits (conditions q) (IsMetAt q c day) (StepGives c q.from day) (planned q c.indexed)) → IsKept q c day (Ok kept)
 
 -- There is one such list.
 abbrev pub TuplesThatMeetAreOneList : Type 0
