@@ -5,3 +5,5 @@ mod BareLoads
 mod BareRuns
 mod IndexedScripts
 mod IndexExamples
+mod KeptTuples
+mod KeptExamples
