@@ -5,7 +5,6 @@ use Rattle.mob_typed.specs.Selects.{TypedSelectParts}
 use Rattle.mob_typed.specs.Statements.{StatementOut, nothing, new_table, new_index, new_rows, rows_from, deletion, query, plan_of}
 use Rattle.mob_catalog.specs.Catalogue.{Catalogue, with_all_rows, with_deleted, with_row}
 use Rattle.mob_join.specs.Deleted.{first_rows}
-use Rattle.mob_join.specs.Outcomes.{HasOneKept}
 use Rattle.mob_join.specs.Query.{IsKept}
 use Rattle.mob_records.specs.AnswerText.{answer_text}
 use Rattle.mob_tail.specs.AnswerTexts.{answer_names}
@@ -100,12 +99,12 @@ run_bare day (nothing ∷ xs) s answers h = passed day s h.0 (without_indexes xs
 run_bare day (new_index n c name ∷ xs) s answers h = passed day s h.0 (without_indexes xs) h.2 answers (ap bare_state h.3.leaves) h.5 (run_bare day xs h.0 h.2 h.4)
 run_bare day (x ∷ xs) s answers h = (bare_state h.0, answer_in x h.1, h.2, step_bare day s x h.0 h.1 h.3, run_bare day xs h.0 h.2 h.4, h.5)
 
-module _ (once : HasOneKept) (one : HasOneQueryAnswer) (day : ℤ) where
+module _ (one : HasOneQueryAnswer) (day : ℤ) where
   one_kept : (bare : Catalogue) (q : TypedSelectParts) (kept others : List (List ℕ)) → SomeKept day bare q kept → SomeKept day bare q others → kept ≡ others
-  one_kept bare q kept others h k = kept_alike once day h.own k.own h.catalogue k.catalogue kept others (h.placed ∙ sym k.placed) (differ h.catalogue k.catalogue (h.indexed ∙ sym k.indexed)) h.keeps k.keeps
+  one_kept bare q kept others h k = kept_alike day h.own k.own h.catalogue k.catalogue kept others (h.placed ∙ sym k.placed) (differ h.catalogue k.catalogue (h.indexed ∙ sym k.indexed)) h.keeps k.keeps
 
   one_answer : (bare : Catalogue) (q : TypedSelectParts) (rows others : List (List (List ℕ))) → SomeAnswer day bare q rows → SomeAnswer day bare q others → rows ≡ others
-  one_answer bare q rows others h k = answers_alike once one day h.own k.own h.catalogue k.catalogue rows others (h.placed ∙ sym k.placed) (differ h.catalogue k.catalogue (h.indexed ∙ sym k.indexed)) h.answers k.answers
+  one_answer bare q rows others h k = answers_alike one day h.own k.own h.catalogue k.catalogue rows others (h.placed ∙ sym k.placed) (differ h.catalogue k.catalogue (h.indexed ∙ sym k.indexed)) h.answers k.answers
 
   one_step : (s : RunState) (x : StatementOut) (t u : RunState) (a b : List (List ℕ)) → BareStep day s x t a → BareStep day s x u b → (t ≡ u) × (a ≡ b)
   one_step s (deletion q) t u a b h k =

@@ -9,7 +9,6 @@ use Rattle.mob_catalog.specs.Outcomes.{ConstantsHaveOneMeaning}
 use Rattle.mob_load.specs.Loads.{LoadedIsRead, LoadsScript, ProgramHasValues}
 use Rattle.mob_load.specs.Outcomes.{HasOneLoading}
 use Rattle.mob_load.specs.declared.program.Program.{Program}
-use Rattle.mob_join.specs.Outcomes.{HasOneKept}
 use Rattle.mob_tail.specs.Outcomes.{HasOneQueryAnswer}
 use Rattle.mob_statements.specs.Statements.{Ran}
 use Rattle.mob_shell.specs.Runs.{RunState, RunsStatement, StatementWrites, begin}
@@ -69,13 +68,13 @@ module _ (script : HasOneScript) where
         λ none. a.whole (no_explain input.script h.out h.is.script none),
       )
 
-  module _ (meaning : ConstantsHaveOneMeaning) (read : LoadedIsRead) (values : ProgramHasValues) (loading : HasOneLoading) (once : HasOneKept) (one : HasOneQueryAnswer) where
+  module _ (meaning : ConstantsHaveOneMeaning) (read : LoadedIsRead) (values : ProgramHasValues) (loading : HasOneLoading) (one : HasOneQueryAnswer) where
     -- on one day, of accepted scripts over the same files
     scripts_alike : (day : ℤ) (files : Contents) (out others : ScriptOut) (p q : Program) (a b : List (List ℕ)) → DifferInIndexStatements out others → LoadsScript day files out (Ok p) → LoadsScript day files others (Ok q) → Answered day (begin p) out.statements a → Answered day (begin q) others.statements b → a ≡ b
     scripts_alike day files out others p q a b differ loads loaded h k =
         let same : p ≡ q = program_alike meaning read values loading day files out others p q differ loads loaded in
         let there : Answered day (begin p) others.statements b = subst (λ (r : Program). Answered day (begin r) others.statements b) (sym same) k in
-        answered_alike once one day out.statements others.statements (begin p) a b differ.statements h there
+        answered_alike one day out.statements others.statements (begin p) a b differ.statements h there
 
     pub change_no_answer : IndexesChangeNoAnswer
     change_no_answer settings others workers one other differ a b h k =

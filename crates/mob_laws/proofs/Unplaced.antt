@@ -14,10 +14,9 @@ use Rattle.mob_meaning.specs.Evaluation.{OperandsEvaluateTo, TreeEvaluatesTo, st
 use Rattle.mob_meaning.specs.Values.{OperandsHaveValues, TreeHasValue}
 use Rattle.mob_catalog.specs.Catalogue.{Catalogue, live_of}
 use Rattle.mob_catalog.specs.declared.catalog.TableHead.{TableHead}
-use Rattle.mob_tuples.specs.Kept.{AreKeptOfAny}
-use Rattle.mob_tuples.specs.Tuples.{AreTuples}
-use Rattle.mob_tuples.specs.Visits.{Conditions, Joins, Keeps, Meeting, Visit}
-use Rattle.mob_join.specs.Outcomes.{HasOneKept}
+use Rattle.mob_tuples.specs.Visits.{Conditions, Meeting, Visit}
+use Rattle.mob_join.specs.KeptTuples.{AreThoseThatMeet}
+use Rattle.mob_join.proofs.KeptTuples.{those_once}
 use Rattle.mob_join.specs.Query.{IsKept, IsMet, condition_at, conditions}
 use Rattle.mob_shell.specs.SameAnswers.{DifferInIndexes}
 use Rattle.mob_laws.specs.IndexScripts.{all_unplaced, unplaced, unplaced_select}
@@ -89,25 +88,23 @@ meets_same q store day visit =
     let s : Scene = scene store q.from visit.tuple day in
     met_same (condition_at q visit.on) s ∙ ap (λ (e : Option TypedTree). IsMet e s) (condition_same q visit.on)
 
--- what is kept of all tuples of the tables, by their rows that are there
-abbrev AreKeptBy : Conditions → Meeting → List ℕ → List TableHead → List (List ℕ) → Type 0
-AreKeptBy c M from heads kept = AreKeptOfAny (Keeps M) (AreTuples (Joins c M (λ table begin rows. rows ≡ live_of heads table)) from []) kept
+-- the tuples on which WHERE is true, by the rows of the tables that are there
+abbrev MeetBy : Conditions → Meeting → List ℕ → List TableHead → List (List ℕ) → Type 0
+MeetBy c M from heads kept = AreThoseThatMeet c M (live_of heads) from kept
 
-abbrev AreKeptOn : ℤ → List (List ℕ) → TypedSelectParts → Store → List TableHead → Type 0
-AreKeptOn day kept q store heads = AreKeptBy (conditions q) (meets q store day) q.from heads kept
+abbrev MeetOn : ℤ → List (List ℕ) → TypedSelectParts → Store → List TableHead → Type 0
+MeetOn day kept q store heads = MeetBy (conditions q) (meets q store day) q.from heads kept
 
-kept_same : (day : ℤ) (kept : List (List ℕ)) (q : TypedSelectParts) (store : Store) (heads : List TableHead) → AreKeptOn day kept q store heads ≡ AreKeptOn day kept (unplaced_select q) store heads
-kept_same day kept q store heads = λ i. AreKeptBy (conditions_same q i) (λ visit. meets_same q store day visit i) q.from heads kept
+kept_same : (day : ℤ) (kept : List (List ℕ)) (q : TypedSelectParts) (store : Store) (heads : List TableHead) → MeetOn day kept q store heads ≡ MeetOn day kept (unplaced_select q) store heads
+kept_same day kept q store heads = λ i. MeetBy (conditions_same q i) (λ visit. meets_same q store day visit i) q.from heads kept
 
 -- queries that differ in places, over catalogues that differ in indexes, keep the same where both
 -- have no fault
-pub kept_alike : HasOneKept → (day : ℤ) (p q : TypedSelectParts) (c d : Catalogue) (kept others : List (List ℕ)) → unplaced_select p ≡ unplaced_select q → DifferInIndexes c d → IsKept p c day (Ok kept) → IsKept q d day (Ok others) → kept ≡ others
-kept_alike once day p q c d kept others same differ h k =
-    let a : AreKeptOn day others (unplaced_select q) d.store d.heads = transport (kept_same day others q d.store d.heads) k.0 in
-    let b : AreKeptOn day others (unplaced_select p) d.store d.heads = subst (λ (r : TypedSelectParts). AreKeptOn day others r d.store d.heads) (sym same) a in
-    let e : AreKeptOn day others p d.store d.heads = transport (sym (kept_same day others p d.store d.heads)) b in
-    let f : AreKeptOn day others p c.store d.heads = subst (λ (store : Store). AreKeptOn day others p store d.heads) (sym differ.store) e in
-    let g : AreKeptOn day others p c.store c.heads = subst (λ (heads : List TableHead). AreKeptOn day others p c.store heads) (sym differ.heads) f in
-    let there : IsKept p c day (Ok others) = (g, h.1) in
-    let one = once p c day (Ok kept) (Ok others) h there in
-    cc one
+pub kept_alike : (day : ℤ) (p q : TypedSelectParts) (c d : Catalogue) (kept others : List (List ℕ)) → unplaced_select p ≡ unplaced_select q → DifferInIndexes c d → IsKept p c day (Ok kept) → IsKept q d day (Ok others) → kept ≡ others
+kept_alike day p q c d kept others same differ h k =
+    let bare : MeetOn day others (unplaced_select q) d.store d.heads = transport (kept_same day others q d.store d.heads) k.1 in
+    let placed : MeetOn day others (unplaced_select p) d.store d.heads = subst (λ (r : TypedSelectParts). MeetOn day others r d.store d.heads) (sym same) bare in
+    let own : MeetOn day others p d.store d.heads = transport (sym (kept_same day others p d.store d.heads)) placed in
+    let stored : MeetOn day others p c.store d.heads = subst (λ (store : Store). MeetOn day others p store d.heads) (sym differ.store) own in
+    let there : MeetOn day others p c.store c.heads = subst (λ (heads : List TableHead). MeetOn day others p c.store heads) (sym differ.heads) stored in
+    those_once (conditions p) (meets p c.store day) (live_of c.heads) p.from kept others h.1 there

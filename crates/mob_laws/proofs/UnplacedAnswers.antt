@@ -10,7 +10,6 @@ use Rattle.mob_meaning.specs.Scene.{Scene, scene}
 use Rattle.mob_catalog.specs.Catalogue.{Catalogue}
 use Rattle.mob_arrange.specs.Keyed.{Keyed}
 use Rattle.mob_arrange.specs.Rows.{AreArranged}
-use Rattle.mob_join.specs.Outcomes.{HasOneKept}
 use Rattle.mob_tail.specs.Answers.{IsAnswerBy, IsAnswerOnKept, IsField, IsKey, IsTupleRow}
 use Rattle.mob_tail.specs.GroupedAnswers.{IsGroupRow}
 use Rattle.mob_tail.specs.Groups.{groups_on}
@@ -73,9 +72,9 @@ module _ (q : TypedSelectParts) (store : Store) (day : ℤ) where
 
 -- queries that differ in places, over catalogues that differ in indexes, have the same answer where
 -- both have one
-pub answers_alike : HasOneKept → HasOneQueryAnswer → (day : ℤ) (p q : TypedSelectParts) (c d : Catalogue) (rows others : List (List (List ℕ))) → unplaced_select p ≡ unplaced_select q → DifferInIndexes c d → QueryAnswers p c day (Ok rows) → QueryAnswers q d day (Ok others) → rows ≡ others
-answers_alike once one day p q c d rows others same differ h k =
-    let kept : h.0 ≡ k.0 = kept_alike once day p q c d h.0 k.0 same differ h.1 k.1 in
+pub answers_alike : HasOneQueryAnswer → (day : ℤ) (p q : TypedSelectParts) (c d : Catalogue) (rows others : List (List (List ℕ))) → unplaced_select p ≡ unplaced_select q → DifferInIndexes c d → QueryAnswers p c day (Ok rows) → QueryAnswers q d day (Ok others) → rows ≡ others
+answers_alike one day p q c d rows others same differ h k =
+    let kept : h.0 ≡ k.0 = kept_alike day p q c d h.0 k.0 same differ h.1 k.1 in
     let here : IsAnswerOnKept (unplaced_select p) c.store day h.0 (Ok rows) = answer_bare p c.store day h.0 rows h.2 in
     let there : IsAnswerOnKept (unplaced_select q) d.store day k.0 (Ok others) = answer_bare q d.store day k.0 others k.2 in
     let placed : IsAnswerOnKept (unplaced_select p) d.store day k.0 (Ok others) = subst (λ (r : TypedSelectParts). IsAnswerOnKept r d.store day k.0 (Ok others)) (sym same) there in

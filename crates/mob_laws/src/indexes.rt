@@ -15,6 +15,5 @@ pub fn indexes_change_no_answer()
     mob_load::laws::loaded_is_read();
     mob_load::laws::literals_have_their_values();
     mob_load::laws::one_loading();
-    mob_join::laws::one_kept();
     mob_tail::laws::one_answer_to();
 }

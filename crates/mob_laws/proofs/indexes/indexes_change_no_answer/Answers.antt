@@ -8,10 +8,9 @@ returns c =
     let read = c.loaded_is_read.ensures.read in
     let values = c.literals_have_their_values.ensures.values in
     let loading = c.one_loading.ensures.loading in
-    let kept = c.one_kept.ensures.outcome in
     let answer = c.one_answer_to.ensures.outcome in
     record {
       answered = written_answered script;
-      answers = change_no_answer script meaning read values loading kept answer;
-      text = write_the_same script meaning read values loading kept answer;
+      answers = change_no_answer script meaning read values loading answer;
+      text = write_the_same script meaning read values loading answer;
     }
