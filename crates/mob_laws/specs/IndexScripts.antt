@@ -77,12 +77,12 @@ without_indexes ss = flat_map beside_indexes ss
 -- the text moves all that follows it, and so may empty statements. These two do:
 --
 --     CREATE TABLE t (id int, trip tgeompoint);
---     COPY t FROM 'trips.csv';
+--     COPY t FROM 'trips.csv' WITH (FORMAT csv, HEADER);
 --     SELECT count(*) FROM t WHERE trip && STBOX 'STBOX X((0,0),(10,10))';
 --
 --     CREATE TABLE t (id int, trip tgeompoint);
 --     CREATE INDEX by_trip ON t USING GIST (trip);
---     COPY t FROM 'trips.csv';
+--     COPY t FROM 'trips.csv' WITH (FORMAT csv, HEADER);
 --     SELECT count(*) FROM t WHERE trip && STBOX 'STBOX X((0,0),(10,10))';
 pub record DifferInIndexStatements (one other : ScriptOut) : Type 0 where
   pub statements : without_indexes one.statements ≡ without_indexes other.statements
