@@ -5,3 +5,4 @@ mod BareLoads
 mod BareRuns
 mod IndexedScripts
 mod IndexExamples
+mod BlankedScripts

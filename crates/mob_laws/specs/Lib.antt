@@ -1,1 +1,2 @@
 pub mod IndexScripts
+pub mod BlankedScripts
