@@ -7,3 +7,4 @@ mod IndexedScripts
 mod IndexExamples
 mod KeptTuples
 mod KeptExamples
+mod BlankedScripts

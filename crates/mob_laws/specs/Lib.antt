@@ -1,2 +1,3 @@
 pub mod IndexScripts
 pub mod KeptTuples
+pub mod BlankedScripts

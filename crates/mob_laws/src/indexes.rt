@@ -1,4 +1,5 @@
 //! Indexes change no answer of a script. No code runs here.
+ghost use Rattle.mob_laws.specs.BlankedScripts.{BlankedScriptsAreAccepted};
 ghost use Rattle.mob_laws.specs.IndexScripts.{IndexesChangeNoAnswer, IndexesWriteTheSame, WrittenIsAnswered};
 
 /// Two scripts that differ in CREATE INDEX statements alone, run on the same files, give the same
@@ -17,3 +18,10 @@ pub fn indexes_change_no_answer()
     mob_load::laws::one_loading();
     mob_tail::laws::one_answer_to();
 }
+
+/// Take an accepted script, and a text with the same statements at the same places, but an empty
+/// one for each CREATE INDEX. That text is accepted too, and the two scripts differ in their CREATE
+/// INDEX statements alone. So the law above speaks of them.
+pub fn blanked_scripts_are_accepted()
+    ensures accepted { BlankedScriptsAreAccepted }
+{}
