@@ -1,5 +1,5 @@
 -- Tuples that are kept are of rows that are there.
-use Rattle.std.proofs.Common.{◌≡◌, ◌+◌, arith, inl, inr, refl, subst, zero, suc, ℕ, ℤ, Bool, true, false, List, [], ◌∷◌, Some, Ok, length, slice_get}
+use Rattle.std.proofs.Common.{◌≡◌, ◌+◌, arith, inl, inr, refl, subst, suc, ℕ, ℤ, Bool, true, false, List, [], ◌∷◌, Some, length, slice_get}
 use Rattle.std.specs.Prelude.{Option, is_some}
 use Rattle.mob_typed.specs.Selects.{TypedSelectParts, on_of}
 use Rattle.mob_typed.specs.Trees.{TypedTree}
