@@ -1,2 +1,12 @@
 mod AggregateValues
 mod ExpressionTypes
+mod Unplaced
+mod UnplacedGroups
+mod UnplacedAnswers
+mod BareLoads
+mod BareRuns
+mod IndexedScripts
+mod IndexExamples
+mod KeptTuples
+mod KeptExamples
+mod BlankedScripts

@@ -1,2 +1,5 @@
 pub mod AggregateValues
 pub mod ExpressionTypes
+pub mod IndexScripts
+pub mod KeptTuples
+pub mod BlankedScripts

@@ -2,3 +2,5 @@
 #![tactic(auto)]
 
 pub mod aggregates;
+pub mod indexes;
+pub mod kept;

@@ -4,15 +4,13 @@ use Rattle.mob_words.specs.declared.options.Settings.{Settings}
 use Rattle.mob_typed.specs.Selects.{TypedSelectParts}
 use Rattle.mob_typed.specs.Statements.{ScriptOut}
 use Rattle.mob_value.specs.declared.store.Store.{Store}
-use Rattle.mob_catalog.specs.Catalogue.{Catalogue, live_of, with_changed, with_deleted, without_rows}
+use Rattle.mob_catalog.specs.Catalogue.{Catalogue, live_of, live_rows, with_changed, with_deleted, without_rows}
 use Rattle.mob_catalog.specs.declared.catalog.TableHead.{TableHead}
 use Rattle.mob_meaning.specs.Scene.{scene}
-use Rattle.mob_tuples.specs.Kept.{AreKeptOfAny}
-use Rattle.mob_tuples.specs.Tuples.{AreTuples}
-use Rattle.mob_tuples.specs.Visits.{Joins, Keeps, Visit}
 use Rattle.mob_join.specs.Deleted.{first_rows}
-use Rattle.mob_join.specs.Outcomes.{HasOneKept}
-use Rattle.mob_join.specs.Query.{IsKept, IsMet, condition_at, conditions}
+use Rattle.mob_join.specs.KeptTuples.{AreThoseThatMeet}
+use Rattle.mob_join.specs.Query.{IsKept, IsMet, IsMetAt, condition_at, conditions}
+use Rattle.mob_join.proofs.KeptTuples.{those_once}
 use Rattle.mob_tail.specs.Answers.{IsAnswerOnKept}
 use Rattle.mob_load.specs.Loads.{Halt, LoadsScript, missing, refused, table_refused}
 use Rattle.mob_load.specs.declared.program.Program.{Program}
@@ -87,22 +85,16 @@ write_the_same one other differ input text h = other_text one other differ input
 
 -- ---- indexes
 
--- what WHERE keeps of all tuples of the tables, by the store and the rows that are there
-abbrev AreKeptOn : TypedSelectParts → ℤ → List (List ℕ) → Store → List TableHead → Type 0
-AreKeptOn select day kept store heads =
-    let M : Visit → Type 0 = λ visit. IsMet (condition_at select visit.on) (scene store select.from visit.tuple day) in
-    AreKeptOfAny (Keeps M) (AreTuples (Joins (conditions select) M (λ table begin rows. rows ≡ live_of heads table)) select.from []) kept
+-- the tuples on which WHERE is true, by the store and the rows that are there
+abbrev MeetOn : TypedSelectParts → ℤ → List (List ℕ) → Store → List TableHead → Type 0
+MeetOn select day kept store heads = AreThoseThatMeet (conditions select) (λ visit. IsMet (condition_at select visit.on) (scene store select.from visit.tuple day)) (live_of heads) select.from kept
 
-module _ (select : TypedSelectParts) (one other : Catalogue) (day : ℤ) (differ : DifferInIndexes one other) where
-  kept_on : (kept others : List (List ℕ)) → IsKept select one day (Ok kept) → IsKept select other day (Ok others) → IsKept select one day (Ok others)
-  kept_on kept others h k =
-      let there : AreKeptOn select day others other.store other.heads = k.0 in
-      (subst (λ (heads : List TableHead). AreKeptOn select day others one.store heads) (sym differ.heads) (subst (λ (store : Store). AreKeptOn select day others store other.heads) (sym differ.store) there), h.1)
-
-pub keep_the_same : HasOneKept → IndexesKeepTheSame
-keep_the_same once select one other day kept others differ h k =
-    let e = once select one day (Ok kept) (Ok others) h (kept_on select one other day differ kept others h k) in
-    cc e
+pub keep_the_same : IndexesKeepTheSame
+keep_the_same select one other day kept others differ h k =
+    let there : MeetOn select day others other.store other.heads = k.1 in
+    let here : MeetOn select day others one.store one.heads =
+    subst (λ (heads : List TableHead). MeetOn select day others one.store heads) (sym differ.heads) (subst (λ (store : Store). MeetOn select day others store other.heads) (sym differ.store) there) in
+    those_once (conditions select) (IsMetAt select one day) (live_rows one) select.from kept others h.1 here
 
 pub delete_the_same : IndexesKeepTheSame → IndexesDeleteTheSame
 delete_the_same keeps select one other day left others differ h k =
@@ -119,7 +111,7 @@ pub answer_the_same : OneAnswer → IndexesAnswerTheSame
 answer_the_same once select one other day rows others differ h k =
     let here : QueryAnswers select one day (Ok others) = (
       k.0,
-      kept_on select one other day differ h.0 k.0 h.1 k.1,
+      subst (λ kept. IsKept select one day (Ok kept)) (keep_the_same select one other day h.0 k.0 differ h.1 k.1) h.1,
       subst (λ (store : Store). IsAnswerOnKept select store day k.0 (Ok others)) (sym differ.store) k.2,
     ) in
     let e = once select one day (Ok rows) (Ok others) h here in

@@ -2,6 +2,4 @@ use Rattle.mob_shell.proofs.SameAnswers.{answer_the_same, delete_the_same, keep_
 use Rattle.mob_shell.proofs.laws.answers_know_no_index.Goals as goal
 
 pub returns : goal.returns
-returns c =
-    let kept = keep_the_same c.one_kept.ensures.outcome in
-    record { kept = kept; rows = answer_the_same c.one_answer.ensures.outcome; deleted = delete_the_same kept }
+returns c = record { kept = keep_the_same; rows = answer_the_same c.one_answer.ensures.outcome; deleted = delete_the_same keep_the_same }

@@ -1,0 +1,98 @@
+-- Scripts that differ in CREATE INDEX statements alone have the same answers.
+use Rattle.std.proofs.Common.{◌≡◌, ◌∙◌, refl, sym, ap, subst, ℕ, ℤ, List, [], ◌∷◌, ◌++◌, map, Ok}
+use Rattle.std.specs.List.{AllByRecursion, concat}
+use Rattle.mob_typed.specs.Statements.{ScriptOut, StatementOut, nothing, new_index, deletion, query, plan_of}
+use Rattle.mob_outside.specs.Told.{Contents}
+use Rattle.mob_accept.specs.Accepts.{IsAccepted}
+use Rattle.mob_accept.specs.Outcomes.{HasOneScript}
+use Rattle.mob_catalog.specs.Outcomes.{ConstantsHaveOneMeaning}
+use Rattle.mob_load.specs.Loads.{LoadedIsRead, LoadsScript, ProgramHasValues}
+use Rattle.mob_load.specs.Outcomes.{HasOneLoading}
+use Rattle.mob_load.specs.declared.program.Program.{Program}
+use Rattle.mob_tail.specs.Outcomes.{HasOneQueryAnswer}
+use Rattle.mob_statements.specs.Statements.{Ran}
+use Rattle.mob_shell.specs.Runs.{RunState, RunsStatement, StatementWrites, begin}
+use Rattle.mob_laws.specs.IndexScripts.{Answered, DifferInIndexStatements, HasNoExplain, IndexesChangeNoAnswer, IndexesWriteTheSame, IsNoExplain, WrittenIsAnswered, answer_in, unplaced_literal, without_indexes}
+use Rattle.mob_laws.proofs.BareLoads.{program_alike}
+use Rattle.mob_laws.proofs.BareRuns.{answered_alike}
+
+-- ---- the answers in what is written
+
+-- what a statement writes that is no EXPLAIN
+written_in : (day : ℤ) (s : RunState) (x : StatementOut) (text : List ℕ) → IsNoExplain x → StatementWrites day s x text → (rest : List (List ℕ)) → text ++ concat rest ≡ concat (answer_in x text ++ rest)
+written_in day s (query q) text none h rest = refl
+written_in day s (plan_of q) text none h rest = absurd none
+written_in day s (deletion q) text none h rest = ap (λ (t : List ℕ). t ++ concat rest) h
+written_in day s _ text none h rest = ap (λ (t : List ℕ). t ++ concat rest) h
+
+-- the answers of statements that ran, and their text where none of them is an EXPLAIN
+record HasAnswers (day : ℤ) (s : RunState) (xs : List StatementOut) (text : List ℕ) : Type 0 where
+  answers : List (List ℕ)
+  answered : Answered day s xs answers
+  whole : AllByRecursion IsNoExplain xs → text ≡ concat answers
+
+answers_of : (day : ℤ) (xs : List StatementOut) (s t : RunState) (text : List ℕ) → Ran (RunsStatement day) s xs t text → HasAnswers day s xs text
+answers_of day [] s t text h = record { answers = []; answered = refl; whole = λ none. h.1 }
+answers_of day (x ∷ xs) s t text h =
+    let rest : HasAnswers day h.0 xs h.2 = answers_of day xs h.0 t h.2 h.4 in
+    record {
+      answers = answer_in x h.1 ++ rest.answers;
+      answered = (h.0, h.1, rest.answers, h.3, rest.answered, refl);
+      whole = λ none. h.5 ∙ ap (λ (r : List ℕ). h.1 ++ r) (rest.whole none.1) ∙ written_in day s x h.1 none.0 h.3.writes rest.answers;
+    }
+
+-- without EXPLAIN, also with other CREATE INDEX statements
+none_bare : (xs : List StatementOut) → AllByRecursion IsNoExplain xs → AllByRecursion IsNoExplain (without_indexes xs)
+none_bare [] h = h
+none_bare (nothing ∷ xs) h = none_bare xs h.1
+none_bare (new_index n c name ∷ xs) h = none_bare xs h.1
+none_bare (plan_of q ∷ xs) h = absurd h.0
+none_bare (x ∷ xs) h = (tt, none_bare xs h.1)
+
+none_there : (xs : List StatementOut) → AllByRecursion IsNoExplain (without_indexes xs) → AllByRecursion IsNoExplain xs
+none_there [] h = h
+none_there (nothing ∷ xs) h = (tt, none_there xs h)
+none_there (new_index n c name ∷ xs) h = (tt, none_there xs h)
+none_there (plan_of q ∷ xs) h = absurd h.0
+none_there (x ∷ xs) h = (tt, none_there xs h.1)
+
+module _ (script : HasOneScript) where
+  no_explain : (bytes : List ℕ) (out : ScriptOut) → IsAccepted bytes out → HasNoExplain bytes → AllByRecursion IsNoExplain out.statements
+  no_explain bytes out accepted h = subst (λ (o : ScriptOut). AllByRecursion IsNoExplain o.statements) (script bytes h.out out h.accepted accepted) h.none
+
+  pub written_answered : WrittenIsAnswered
+  written_answered settings input text h =
+      let a : HasAnswers settings.epoch (begin h.program) h.out.statements text = answers_of settings.epoch h.out.statements (begin h.program) h.stands text h.ran in (
+        a.answers,
+        record { out = h.out; program = h.program; is = h.is; answered = a.answered },
+        λ none. a.whole (no_explain input.script h.out h.is.script none),
+      )
+
+  module _ (meaning : ConstantsHaveOneMeaning) (read : LoadedIsRead) (values : ProgramHasValues) (loading : HasOneLoading) (one : HasOneQueryAnswer) where
+    -- on one day, of accepted scripts over the same files
+    scripts_alike : (day : ℤ) (files : Contents) (out others : ScriptOut) (p q : Program) (a b : List (List ℕ)) → DifferInIndexStatements out others → LoadsScript day files out (Ok p) → LoadsScript day files others (Ok q) → Answered day (begin p) out.statements a → Answered day (begin q) others.statements b → a ≡ b
+    scripts_alike day files out others p q a b differ loads loaded h k =
+        let same : p ≡ q = program_alike meaning read values loading day files out others p q differ loads loaded in
+        let there : Answered day (begin p) others.statements b = subst (λ (r : Program). Answered day (begin r) others.statements b) (sym same) k in
+        answered_alike one day out.statements others.statements (begin p) a b differ.statements h there
+
+    pub change_no_answer : IndexesChangeNoAnswer
+    change_no_answer settings others workers one other differ a b h k =
+        let out : h.out ≡ differ.out = script one.script h.out differ.out h.is.script differ.first in
+        let second : k.out ≡ differ.others = script other.script k.out differ.others k.is.script differ.second in
+        let scripts : DifferInIndexStatements h.out k.out = record {
+          statements = ap (λ (o : ScriptOut). without_indexes o.statements) out ∙ differ.scripts.statements ∙ sym (ap (λ (o : ScriptOut). without_indexes o.statements) second);
+          literals = ap (λ (o : ScriptOut). map unplaced_literal o.consts) out ∙ differ.scripts.literals ∙ sym (ap (λ (o : ScriptOut). map unplaced_literal o.consts) second);
+        } in
+        let loads : LoadsScript settings.epoch one.files k.out (Ok k.program) = subst (λ (day : ℤ). LoadsScript day one.files k.out (Ok k.program)) (sym workers.epoch) (subst (λ (files : Contents). LoadsScript others.epoch files k.out (Ok k.program)) (sym differ.files) k.is.loads) in
+        let there : Answered settings.epoch (begin k.program) k.out.statements b = subst (λ (day : ℤ). Answered day (begin k.program) k.out.statements b) (sym workers.epoch) k.answered in
+        scripts_alike settings.epoch one.files h.out k.out h.program k.program a b scripts h.is.loads loads h.answered there
+
+    pub write_the_same : IndexesWriteTheSame
+    write_the_same settings others workers one other differ none text more h k =
+        let a = written_answered settings one text h in
+        let b = written_answered others other more k in
+        let plain : AllByRecursion IsNoExplain differ.out.statements = no_explain one.script differ.out differ.first none in
+        let bare : AllByRecursion IsNoExplain (without_indexes differ.others.statements) = subst (λ (ss : List StatementOut). AllByRecursion IsNoExplain ss) differ.scripts.statements (none_bare differ.out.statements plain) in
+        let alike : HasNoExplain other.script = record { out = differ.others; accepted = differ.second; none = none_there differ.others.statements bare } in
+        a.2 none ∙ ap concat (change_no_answer settings others workers one other differ a.0 b.0 a.1 b.1) ∙ sym (b.2 alike)

@@ -1,0 +1,150 @@
+-- Places change no group, and no value of an aggregate.
+use Rattle.std.proofs.Common.{◌≡◌, ◌∙◌, inl, inr, refl, subst, not, ℕ, ◌+◌, ℤ, Bool, List, [], ◌∷◌, ◌++◌, map, Option, Some, None, Ok}
+use Rattle.std.specs.Prelude.{Result, option_map}
+use Rattle.std.specs.List.{AllZip}
+use Rattle.mob_operators.specs.declared.aggregate.AggKind.{AggKind}
+use Rattle.mob_operators.specs.declared.aggregate.AggKind.TheVariants.{CountAll}
+use Rattle.mob_slice.specs.declared.formula.Formula.{Formula}
+use Rattle.mob_typed.specs.declared.typed.Agg.{Agg}
+use Rattle.mob_typed.specs.Trees.{TypedTree, typed, none, more}
+use Rattle.mob_typed.specs.Selects.{Output, TypedSelectParts}
+use Rattle.mob_value.specs.declared.value.Value.{Value}
+use Rattle.mob_value.specs.declared.store.Store.{Store}
+use Rattle.mob_literal.specs.Fields.{field_text}
+use Rattle.mob_meaning.specs.Evaluation.{Fault}
+use Rattle.mob_meaning.specs.Scene.{Scene, scene}
+use Rattle.mob_groups.specs.Groups.{groups_by}
+use Rattle.mob_tagg.specs.Rows.{IsItem, IsRowFault, IsTuple, earlier}
+use Rattle.mob_arrange.specs.Keyed.{Keyed}
+use Rattle.mob_tail.specs.GroupedAnswers.{Column, IsAddingTo, IsArgumentOf, IsArgumentOn, IsColumnValue, IsGroupRow, IsGroupedFault, columns_from, columns_of, key_value, keys_from, item_of}
+use Rattle.mob_tail.specs.Groups.{column_on, first_value, group_fields, groups_on, is_bare, same_group, same_texts}
+use Rattle.mob_laws.specs.IndexScripts.{unplaced, unplaced_aggregate, unplaced_key, unplaced_output, unplaced_select}
+use Rattle.mob_laws.proofs.Unplaced.{evaluated_bare, picked_same}
+
+-- ---- lists, one by one
+
+pub zip_mapped : {A B C : Type 0} (R : A → C → Type 0) (Q : B → C → Type 0) (f : A → B) → ((x : A) (y : C) → R x y → Q (f x) y) → (xs : List A) (ys : List C) → AllZip R xs ys → AllZip Q (map f xs) ys
+zip_mapped R Q f each [] [] h = h
+zip_mapped R Q f each [] (y ∷ ys) h = h
+zip_mapped R Q f each (x ∷ xs) [] h = h
+zip_mapped R Q f each (x ∷ xs) (y ∷ ys) h = (each x y h.0, zip_mapped R Q f each xs ys h.1)
+
+pub zip_carried : {A C : Type 0} (R Q : A → C → Type 0) → ((x : A) (y : C) → R x y → Q x y) → (xs : List A) (ys : List C) → AllZip R xs ys → AllZip Q xs ys
+zip_carried R Q each [] [] h = h
+zip_carried R Q each [] (y ∷ ys) h = h
+zip_carried R Q each (x ∷ xs) [] h = h
+zip_carried R Q each (x ∷ xs) (y ∷ ys) h = (each x y h.0, zip_carried R Q each xs ys h.1)
+
+-- ---- no fault of adding
+
+module _ {T I J V F : Type 0} (E : T → I → Result V F → Type 0) (A : I → List V → V → Option F → Type 0) (K : T → J → Result V F → Type 0) (B : J → List V → V → Option F → Type 0) (f : I → J)
+    (evaluated : (t : T) (i : I) (v : V) → E t i (Ok v) → K t (f i) (Ok v)) (added : (i : I) (vs : List V) (v : V) → A i vs v None → B (f i) vs v None) where
+  item_bare : (group : List T) (t : T) (i : I) → IsItem E A group t i None → IsItem K B group t (f i) None
+  item_bare group t i h = (
+    h.0,
+    evaluated t i h.0 h.1,
+    (h.2.0, zip_carried (λ u v. E u i (Ok v)) (λ u v. K u (f i) (Ok v)) (λ u v. evaluated u i v) group h.2.0 h.2.1, added i h.2.0 h.0 h.2.2),
+  )
+
+  items_bare : (group : List T) (t : T) (items : List I) → IsTuple E A group t items None → IsTuple K B group t (map f items) None
+  items_bare group t [] h = h
+  items_bare group t (i ∷ items) (inl h) = let none = h.2 in absurd cc
+  items_bare group t (i ∷ items) (inr h) = inr (item_bare group t i h.0, items_bare group t items h.1)
+
+  rows_bare : (same : T → T → Bool) (items : List I) (before ts : List T) → IsRowFault E A same items before ts None → IsRowFault K B same (map f items) before ts None
+  rows_bare same items before [] h = h
+  rows_bare same items before (t ∷ ts) (inl h) = let none = h.2 in absurd cc
+  rows_bare same items before (t ∷ ts) (inr h) = inr (items_bare (earlier same before t) t items h.0, rows_bare same items (before ++ t ∷ []) ts h.1)
+
+-- ---- columns
+
+abbrev unplaced_column : Column → Column
+unplaced_column c = (unplaced c.0, option_map unplaced_aggregate c.1)
+
+columns_same : (aggs : List (Option Agg)) (n : ℕ) (outputs : List Output) → map unplaced_column (columns_from aggs n outputs) ≡ columns_from (map (option_map unplaced_aggregate) aggs) n (map unplaced_output outputs)
+columns_same aggs n [] = refl
+columns_same aggs n (o ∷ os) = λ i. (unplaced o.0, picked_same unplaced_aggregate aggs n i) ∷ columns_same aggs (n + 1) os i
+
+column_same : (s : Scene) (e : TypedTree) → column_on s e ≡ column_on s (unplaced e)
+column_same s (typed o ty place none) = refl
+column_same s (typed o ty place (more e es)) = refl
+
+argument_kind : (kind : AggKind) (s : Scene) (e : TypedTree) (v : Value) → IsArgumentOf kind s e (Ok v) → IsArgumentOf kind s (unplaced e) (Ok v)
+argument_kind CountAll s e v h = h
+argument_kind _ s e v h = evaluated_bare s e v h
+
+abbrev at_place : ℕ → Formula → Fault
+at_place place formula = (place, formula)
+
+-- what is added without a fault has none at another place
+no_fault : (place : ℕ) (g : Option Formula) → None ≡ option_map (at_place place) g → None ≡ option_map (at_place 0) g
+no_fault place None h = refl
+no_fault place (Some x) h = absurd cc
+
+added_bare : (c : Column) (vs : List Value) (v : Value) → IsAddingTo c vs v None → IsAddingTo (unplaced_column c) vs v None
+added_bare (e, None) vs v h = h
+added_bare (e, Some agg) vs v h = (h.0, h.1, no_fault agg.place h.0 h.2)
+
+module _ (q : TypedSelectParts) (store : Store) (day : ℤ) where
+  abbrev bare : TypedSelectParts
+  bare = unplaced_select q
+
+  argument_bare : (t : List ℕ) (c : Column) (v : Value) → IsArgumentOn q store day t c (Ok v) → IsArgumentOn bare store day t (unplaced_column c) (Ok v)
+  argument_bare t (e, None) v h = h
+  argument_bare t (e, Some agg) v h = argument_kind agg.kind (scene store q.from t day) e v h
+
+  -- ---- groups
+
+  texts_same : (s : Scene) (gs : List TypedTree) → map (λ g. field_text day (column_on s g)) gs ≡ map (λ g. field_text day (column_on s g)) (map unplaced gs)
+  texts_same s [] = refl
+  texts_same s (g ∷ gs) = λ i. field_text day (column_same s g i) ∷ texts_same s gs i
+
+  fields_same : (t : List ℕ) → group_fields q store day t ≡ group_fields bare store day t
+  fields_same t = texts_same (scene store q.from t day) q.groups
+
+  empty_same : (gs : List TypedTree) → is_bare gs ≡ is_bare (map unplaced gs)
+  empty_same [] = refl
+  empty_same (g ∷ gs) = refl
+
+  pub groups_same : (kept : List (List ℕ)) → groups_on q store day kept ≡ groups_on bare store day kept
+  groups_same kept = λ i. groups_by (not (empty_same q.groups i)) same_texts (map (λ (t : List ℕ). (fields_same t i, t)) kept)
+
+  pub fault_bare : (kept : List (List ℕ)) → IsGroupedFault q store day kept None → IsGroupedFault bare store day kept None
+  fault_bare kept h =
+      let rows : IsRowFault (IsArgumentOn bare store day) IsAddingTo (same_group q store day) (map unplaced_column (columns_of q)) [] kept None =
+      rows_bare (IsArgumentOn q store day) IsAddingTo (IsArgumentOn bare store day) IsAddingTo unplaced_column argument_bare added_bare (same_group q store day) (columns_of q) [] kept h in
+      let columns : IsRowFault (IsArgumentOn bare store day) IsAddingTo (same_group q store day) (columns_of bare) [] kept None =
+      subst (λ (cs : List Column). IsRowFault (IsArgumentOn bare store day) IsAddingTo (same_group q store day) cs [] kept None) (columns_same q.aggs 0 q.items) rows in
+      let groups : same_group q store day ≡ same_group bare store day = λ i t u. same_texts (fields_same t i) (fields_same u i) in
+      subst (λ (same : List ℕ → List ℕ → Bool). IsRowFault (IsArgumentOn bare store day) IsAddingTo same (columns_of bare) [] kept None) groups columns
+
+  -- ---- rows of groups
+
+  first_same : (group : List (List ℕ)) (e : TypedTree) → first_value q store day group e ≡ first_value bare store day group (unplaced e)
+  first_same [] e = refl
+  first_same (t ∷ group) e = column_same (scene store q.from t day) e
+
+  column_bare : (group : List (List ℕ)) (c : Column) (v : Value) → IsColumnValue q store day group c v → IsColumnValue bare store day group (unplaced_column c) v
+  column_bare group (e, None) v h = h ∙ first_same group e
+  column_bare group (e, Some agg) v h = (
+    h.0,
+    zip_carried (λ t w. IsArgumentOn q store day t (e, Some agg) (Ok w)) (λ t w. IsArgumentOn bare store day t (unplaced_column (e, Some agg)) (Ok w)) (λ t w. argument_bare t (e, Some agg) w) group h.0 h.1,
+    h.2,
+  )
+
+  key_same : (group : List (List ℕ)) (values : List Value) (e : TypedTree) (o : Option ℕ) → key_value q store day group values e o ≡ key_value bare store day group values (unplaced e) o
+  key_same group values e None = first_same group e
+  key_same group values e (Some n) = refl
+
+  keys_same : (group : List (List ℕ)) (values : List Value) (n : ℕ) (keys : List (TypedTree × Bool)) → keys_from q store day group values n keys ≡ keys_from bare store day group values n (map unplaced_key keys)
+  keys_same group values n [] = refl
+  keys_same group values n (k ∷ keys) = λ i. key_same group values k.0 (item_of q.key_items n) i ∷ keys_same group values (n + 1) keys i
+
+  pub row_bare : (group : List (List ℕ)) (row : Keyed) → IsGroupRow q store day group row → IsGroupRow bare store day group row
+  row_bare group row h = record {
+    values = h.values;
+    made = subst (λ (cs : List Column). AllZip (IsColumnValue bare store day group) cs h.values) (columns_same q.aggs 0 q.items)
+        (zip_mapped (IsColumnValue q store day group) (IsColumnValue bare store day group) unplaced_column (column_bare group) (columns_of q) h.values h.made);
+    fields = h.fields;
+    keys = h.keys ∙ keys_same group h.values 0 q.keys;
+  }
