@@ -1,5 +1,5 @@
-/* The work of mob_bench by the rational numbers of GMP: the same operands, the same operations and the same checksum.
-   Its words are an operation, a kind of operands and a count. */
+/* The work of mob_bench by the rational numbers of GMP: the same operands, the same operations and
+   the same checksum. Its arguments are an operation, a kind of operands and a count. */
 #include <gmp.h>
 #include <stdint.h>
 #include <stdio.h>

@@ -1,5 +1,6 @@
-// Loaded into the program (LD_PRELOAD), it refuses the request for memory whose number stands in REFUSE, counted from 1, and counts the requests in the
-// first eight bytes of the file that COUNT names, whichever way the program ends. Requests of the C library itself count too.
+// The program loads it by LD_PRELOAD. It refuses the allocation whose number, from 1, is in REFUSE.
+// It counts the allocations in the first eight bytes of the file that COUNT names, whichever way
+// the program ends. Those of the C library count too.
 #define _GNU_SOURCE
 #include <dlfcn.h>
 #include <fcntl.h>
