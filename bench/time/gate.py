@@ -23,6 +23,7 @@ import resource
 import subprocess
 import sys
 import tempfile
+import textwrap
 import threading
 import time
 from collections import defaultdict
@@ -166,6 +167,10 @@ def write(measured):
         file.write(",\n".join(lines) + "\n  }\n}\n")
 
 
+def filled(text, indent=""):
+    return textwrap.fill(text, 100, subsequent_indent=indent, break_on_hyphens=False)
+
+
 def rounded(parts):
     return {kind: round(value) for kind, value in parts.items()}
 
@@ -200,10 +205,11 @@ class Measured:
 
     def head(self):
         run, loops = self.run, self.run["loops"]
-        return (f"{run['date']}, commit {run['commit']}, {run['kit']}, {run['processors']} "
-                f"processors: {run['outcome']}.\nThe reference loop took {self.loop:.3f} seconds, "
-                f"the mean of {len(loops)} from {min(loops):.2f} to {max(loops):.2f}.\n"
-                f"So a second of this run is {self.unit:.3f} budget seconds.")
+        return filled(
+            f"{run['date']}, commit {run['commit']}, {run['kit']}, {run['processors']} "
+            f"processors: {run['outcome']}. The reference loop took {self.loop:.3f} seconds, "
+            f"the mean of {len(loops)} from {min(loops):.2f} to {max(loops):.2f}. "
+            f"So a second of this run is {self.unit:.3f} budget seconds.")
 
     def sums(self):
         """The whole in minutes."""
@@ -241,7 +247,7 @@ class Measured:
             high = [f"`{crate}` {seconds:.0f}" for seconds, crate in self.of_kind(kind)
                     if seconds > LIMITS[kind]]
             if high:
-                lines.append(f"- {kind}, above {LIMITS[kind]}: " + ", ".join(high))
+                lines.append(filled(f"- {kind}, above {LIMITS[kind]}: " + ", ".join(high), "  "))
         return lines or ["- nothing"]
 
     def page(self):
