@@ -5,6 +5,7 @@
     bench/time/gate.py page                 print the part of docs/GATE.md between its two marks
     bench/time/gate.py all                  print every crate, the most expensive first
     bench/time/gate.py above CRATE          print the sums of a crate and of all crates above it
+    bench/time/gate.py loop                 print the seconds of the reference loop
 
 `run` clones the commit that is checked out into FOLDER and keeps it there (without FOLDER it takes
 a temporary folder). There it runs `rt ci` from nothing, with its output in LOG (gate.log if none is
@@ -43,19 +44,17 @@ MEASURED = f"{TOP}/bench/time/gate.json"
 
 def loop():
     """The reference loop: the processor seconds of five million products."""
-    begun, total = time.thread_time(), 0
+    begun, total = time.process_time(), 0
     for number in range(5_000_000):
         total += number * number
-    return time.thread_time() - begun
+    return time.process_time() - begun
 
 
 def loop_until(ended, times):
-    """Times the reference loop once a minute, and once more at the end."""
-    while True:
-        times.append(loop())
-        if ended.wait(BETWEEN_LOOPS):
-            times.append(loop())
-            return
+    """Times the reference loop once a minute, each time in a process of its own."""
+    while not ended.is_set():
+        times.append(float(said(sys.executable, os.path.abspath(__file__), "loop")))
+        ended.wait(BETWEEN_LOOPS)
 
 
 def arguments_of(process):
@@ -150,7 +149,7 @@ def run(log, folder):
         "commit": said("git", "-C", TOP, "rev-parse", "HEAD")[:8],
         "kit": said("rt", "version").split("\n")[0], "outcome": outcome,
         "processors": len(os.sched_getaffinity(0)), "clock": clock,
-        "used": used.ru_utime + used.ru_stime, "loops": loops, "crates": crates,
+        "used": used.ru_utime + used.ru_stime - sum(loops), "loops": loops, "crates": crates,
     })
     return gate.returncode
 
@@ -294,10 +293,13 @@ def above(crate):
 def main():
     words = sys.argv[1:]
     if words[:1] == ["run"] and len(words) <= 3:
-        log, folder = (words[1:] + ["gate.log", None])[:2] if len(words) < 3 else words[1:]
+        log, folder = (words[1:] + ["gate.log", None][len(words) - 1 :])
         status = run(log, folder)
         print(Measured().page())
         return status
+    if words == ["loop"]:
+        print(loop())
+        return 0
     if words in (["page"], ["all"]):
         print(getattr(Measured(), words[0])())
         return 0
