@@ -90,6 +90,8 @@ def main():
         (status, whole, note), most = run(program, workers, shim, 0)
         if status != 0 or note:
             sys.exit(f"with all its memory the run ends with status {status}: {note!r}")
+        if most == 0:
+            sys.exit("no allocation was seen: take a built program, not that of ./try")
         print(f"{most} allocations", flush=True)
         parts = fronts(whole) if os.path.basename(program) == "mobsql" else [b""]
 
