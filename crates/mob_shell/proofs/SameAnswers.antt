@@ -1,5 +1,5 @@
 -- Workers and indexes change no answer.
-use Rattle.std.proofs.Common.{◌≡◌, ◌∙◌, ap, sym, subst, inl, inr, take, ℕ, ℤ, List, [], Option, Some, None, Ok, Err}
+use Rattle.std.proofs.Common.{◌≡◌, ◌∙◌, ap, sym, subst, inl, inr, take, ℕ, ℤ, List, Option, Some, None, Ok, Err}
 use Rattle.mob_words.specs.declared.options.Settings.{Settings}
 use Rattle.mob_typed.specs.Selects.{TypedSelectParts}
 use Rattle.mob_typed.specs.Statements.{ScriptOut}
