@@ -81,7 +81,7 @@ def public_functions(crate, path, lines):
 
 
 def cited(path, functions):
-    """The definitions that clauses of these functions cite, as pairs of crate/specs/FILE and name."""
+    """The definitions that clauses of these functions cite: pairs of crate/specs/FILE and name."""
     homes = {}
     for crate, module, names in IMPORT.findall(text_of(path)):
         if module.split(".")[0] not in ("declared", "contracts"):
@@ -113,7 +113,8 @@ def table(crates, definitions, laws):
     for crate in crates:
         places = sorted(it for it in definitions if it.startswith(f"{crate}/"))
         files = [(it, f"crates/{it}.antt", definitions[it]) for it in places]
-        files += [(it, f"crates/{it}", laws[it]) for it in sorted(laws) if it.startswith(f"{crate}/")]
+        places = sorted(it for it in laws if it.startswith(f"{crate}/"))
+        files += [(it, f"crates/{it}", laws[it]) for it in places]
         for place, path, names in files:
             listed = ", ".join(f"`{name}`" for name in sorted(names))
             rows.append(f"| [`{place}`](../{path}) | {first_sentence(path)} | {listed} |\n")

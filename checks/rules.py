@@ -108,7 +108,7 @@ def names_are_defined_once():
                 crates.setdefault(name, set()).add(crate)
     for name, defining in sorted(crates.items()):
         if len(defining) > 1:
-            yield f"twice {name}: defined in {' '.join(sorted(defining))}"
+            yield f"twice {name} {' '.join(sorted(defining))}: each defines it"
 
 
 def files_have_heads():
