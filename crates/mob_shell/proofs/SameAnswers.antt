@@ -23,7 +23,7 @@ use Rattle.mob_shell.specs.Ending.{IsDue}
 use Rattle.mob_shell.specs.Inputs.{FilesBy, Input, ScriptBy}
 use Rattle.mob_shell.specs.Program.{IsHalted, IsProgram, ProgramWrites, StopsWith}
 use Rattle.mob_shell.specs.Runs.{RunsStatement, Stops, begin}
-use Rattle.mob_shell.specs.SameAnswers.{DifferInIndexes, DifferInWorkers, IndexesAnswerTheSame, IndexesDeleteTheSame, IndexesKeepTheSame, WorkersEndTheSame, WorkersReadTheSame, WorkersWriteTheSame}
+use Rattle.mob_shell.specs.SameAnswers.{DifferInWorkers, IndexesAnswerTheSame, IndexesDeleteTheSame, IndexesKeepTheSame, WorkersEndTheSame, WorkersReadTheSame, WorkersWriteTheSame}
 use Rattle.mob_statements.specs.Statements.{Ran}
 use Rattle.mob_shell.specs.StepOutcomes.{OneAnswer}
 
