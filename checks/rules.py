@@ -55,7 +55,7 @@ LAYERS, USES = read_crates()
 
 
 def libraries_are_listed():
-    """Lowest layer first, and no library that the crate and its wrong bodies do not name."""
+    """Lowest layer first, and no library that neither the crate nor a wrong body names."""
     seen = set()
     for crate, libraries in USES.items():
         paths = sources(crate, "src", "specs", "proofs")
@@ -162,7 +162,8 @@ def wrong_bodies_are_few():
         if len(paths) > MORE_WRONG_BODIES.get(crate, WRONG_BODIES):
             yield f"bodies {crate}: it has {len(paths)} wrong bodies"
         for path in paths:
-            for library in set(re.findall(r"\b(mob_\w+)::", text_of(path))) - set(USES[crate]):
+            named = set(re.findall(r"\b(mob_\w+)::", text_of(path)))
+            for library in named - set(USES[crate]):
                 yield f"bodies {path}: it names {library}, which crates.txt does not list"
 
 
