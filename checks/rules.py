@@ -156,7 +156,7 @@ def clauses_have_names():
 
 
 def wrong_bodies_are_few():
-    """A crate has few wrong bodies, and lists the libraries that these name."""
+    """A crate has few wrong bodies. Each can be tried: the crate has what its new text names."""
     for crate in USES:
         paths = sorted(glob.glob(f"crates/{crate}/must-fail/*.edit"))
         if len(paths) > MORE_WRONG_BODIES.get(crate, WRONG_BODIES):
