@@ -1,5 +1,6 @@
 //! What holds of every list and text. No code runs here.
 
+use crate::fault::Fault;
 use crate::items::Items;
 use crate::text::Text;
 use std::marker::{Send, Sync};
@@ -11,4 +12,9 @@ pub fn crosses_threads<T: Send + Sync>() {}
 pub fn containers_cross_threads<T: Send + Sync>() {
     crosses_threads::<Items<T>>();
     crosses_threads::<Text>();
+}
+
+/// Faults of a cause that crosses threads cross threads.
+pub fn faults_cross_threads<C: Send + Sync>() {
+    crosses_threads::<Fault<C>>();
 }
