@@ -9,12 +9,13 @@ use Rattle.mob_span.specs.Meets.{PieceOf}
 use Rattle.mob_slice.specs.Course.{IsCourse}
 use Rattle.mob_slice.specs.Look.{IsLookFault}
 use Rattle.mob_slice.specs.Sides.{SideOf, side_at, side_parts, at_ends, HasValues}
-use Rattle.mob_slice.specs.Entries.{Entry, IsFirst, OnFormula, operator_fault}
+use Rattle.mob_list.specs.Faults.{OnCause}
+use Rattle.mob_slice.specs.Entries.{Entry, IsFirst}
 use Rattle.mob_slice.specs.declared.slice.Slice.{Slice}
 use Rattle.mob_slice.specs.declared.formula.Formula.{Formula}
 use Rattle.mob_slice.specs.declared.formula.Formula.TheVariants.{F2}
-use Rattle.mob_slice.specs.declared.formula.LookFault.{LookFault}
-use Rattle.mob_slice.specs.declared.formula.LookFault.TheVariants.{Passed, NoMemory}
+use Rattle.mob_list.specs.declared.fault.Fault.{Fault}
+use Rattle.mob_list.specs.declared.fault.Fault.TheVariants.{Because, NoMemory}
 use Rattle.mob_slice.proofs.Cuts.{all_both, all_first, all_second}
 use Rattle.mob_arith.specs.Summed.{IsTermwise}
 use Rattle.mob_arith.specs.Termwise.{entries_at_ends}
@@ -57,12 +58,12 @@ module _ {A X B Y : Type 0} (value : A → Ratio → Ratio → Ratio → X) (lin
   abbrev entries : List Entry
   entries = entries_at_ends value lines value' lines' parts p
 
-  pub left_fails : (copies : Bool) (f : LookFault) → IsLookFault copies lefts f → OnFormula (λ f. IsFirst entries (Some f)) (operator_fault f)
-  left_fails copies (Passed f) h = inr (λ k. h.1 (all_first lefts rights k), ap Some h.0)
+  pub left_fails : (copies : Bool) (f : Fault Formula) → IsLookFault copies lefts f → OnCause (λ f. IsFirst entries (Some f)) f
+  left_fails copies (Because f) h = inr (λ k. h.1 (all_first lefts rights k), ap Some h.0)
   left_fails copies NoMemory h = tt
 
-  pub right_fails : (copies : Bool) (f : LookFault) → IsLookFault copies rights f → OnFormula (λ f. IsFirst entries (Some f)) (operator_fault f)
-  right_fails copies (Passed f) h = inr (λ k. h.1 (all_second lefts rights k), ap Some h.0)
+  pub right_fails : (copies : Bool) (f : Fault Formula) → IsLookFault copies rights f → OnCause (λ f. IsFirst entries (Some f)) f
+  right_fails copies (Because f) h = inr (λ k. h.1 (all_second lefts rights k), ap Some h.0)
   right_fails copies NoMemory h = tt
 
   module _ (fl : AllFit lefts) (fr : AllFit rights) where

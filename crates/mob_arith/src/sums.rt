@@ -1,6 +1,6 @@
 //! Sums, differences and multiples of numbers over time, on every course whose values can be added.
 //!
-//! `Passed` names the formula of the first entry that has a part that does not fit: on each piece
+//! The fault names the formula of the first entry that has a part that does not fit: on each piece
 //! that the operands share, F1 at its ends, then F2 there.
 
 ghost use Rattle.std.specs.Prelude.{◌≡◌, ◌≢◌, true, ◌||◌, IfOk, option_map, pos};
@@ -14,10 +14,11 @@ ghost use Rattle.mob_slice.specs.Sides.{operand_of, has_slices, given_at, pieces
 ghost use Rattle.mob_slice.specs.Entries.{IsJudged};
 ghost use Rattle.mob_arith.specs.Termwise.{entries_at_ends};
 
+use mob_list::fault::Fault;
 use crate::summed::Summed;
 use crate::termwise::{Difference, Multiple, Quotient, Scaling, Sum, by_terms};
 use mob_frac::Frac;
-use mob_slice::{Line, Moving, OpFault, Operand, Steady};
+use mob_slice::{Line, Moving, Operand, Steady, Formula};
 use std::alloc::Global;
 
 /// The sum of two operands at each instant. None exactly where at no instant both have a value.
@@ -25,7 +26,7 @@ pub fn plus<C: Summed + Drop>(
     alloc: Global,
     a: Operand<'_, C>,
     b: Operand<'_, C>,
-) -> Result<Option<Moving<C>>, OpFault>
+) -> Result<Option<Moving<C>>, Fault<Formula>>
 where
     C::Base: Drop,
     requires moving { (has_slices (operand_of a) || has_slices (operand_of b)) ≡ true }
@@ -41,7 +42,7 @@ pub fn minus<C: Summed + Drop>(
     alloc: Global,
     a: Operand<'_, C>,
     b: Operand<'_, C>,
-) -> Result<Option<Moving<C>>, OpFault>
+) -> Result<Option<Moving<C>>, Fault<Formula>>
 where
     C::Base: Drop,
     requires moving { (has_slices (operand_of a) || has_slices (operand_of b)) ≡ true }
@@ -57,7 +58,7 @@ pub fn times<C: Summed + Drop>(
     alloc: Global,
     a: Operand<'_, C>,
     b: Operand<'_, Steady<Frac>>,
-) -> Result<Option<Moving<C>>, OpFault>
+) -> Result<Option<Moving<C>>, Fault<Formula>>
 where
     C::Base: Drop,
     requires moving { (has_slices (operand_of a) || has_slices (operand_of b)) ≡ true }
@@ -73,7 +74,7 @@ pub fn times_step<C: Summed + Drop>(
     alloc: Global,
     a: &Moving<Steady<Frac>>,
     b: &Moving<C>,
-) -> Result<Option<Moving<C>>, OpFault>
+) -> Result<Option<Moving<C>>, Fault<Formula>>
 where
     C::Base: Drop,
     ensures value { IfOk result (λ r. IsPointwise C.value_of (λ k x. C.multiplied x k) (value_at steady_value a.now) (value_at C.value_of b.now) r) }
@@ -87,7 +88,7 @@ pub fn times_const<C: Summed + Drop>(
     alloc: Global,
     a: &Moving<C>,
     k: &Frac,
-) -> Result<Moving<C>, OpFault>
+) -> Result<Moving<C>, Fault<Formula>>
 where
     C::Base: Drop,
     ensures value { IfOk result (λ v. (t : Ratio) → value_at C.value_of v t ≡ option_map (λ x. C.multiplied x k.now) (value_at C.value_of a.now t)) }
@@ -103,7 +104,7 @@ where
 }
 
 /// A number that changes evenly, divided by one number other than 0, at each of its instants.
-pub fn over_const(alloc: Global, a: &Moving<Line>, k: &Frac) -> Result<Moving<Line>, OpFault>
+pub fn over_const(alloc: Global, a: &Moving<Line>, k: &Frac) -> Result<Moving<Line>, Fault<Formula>>
     requires divides { k.now ≢ whole (pos 0) }
     ensures value { IfOk result (λ v. (t : Ratio) → value_at line_value_of v t ≡ option_map (λ x. x /ℚ k.now) (value_at line_value_of a.now t)) }
     ensures first { IsJudged (flat_map (entries_at_ends line_value_of line_parts_of steady_value steady_parts quotient_parts) (pieces (Slices a.now) (Base k.now))) result }

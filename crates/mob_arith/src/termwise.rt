@@ -15,13 +15,12 @@ ghost use Rattle.mob_arith.specs.Operations.{quotient_of};
 ghost use Rattle.mob_arith.specs.Summed.{IsTermwise};
 ghost use Rattle.mob_arith.specs.Termwise.{entries_at_ends};
 
+use mob_list::fault::Fault;
 use crate::summed::Summed;
 use mob_frac::Frac;
 use mob_lift::{lift, listed};
 use mob_normal::normal;
-use mob_slice::{
-    Course, Formula, Line, Moving, OpFault, Operand, Passed, Piece, Slice, Steady, operator_fault,
-};
+use mob_slice::{Course, Formula, Line, Moving, Operand, Piece, Slice, Steady};
 use mob_sync::Pieces;
 use std::alloc::Global;
 
@@ -33,8 +32,8 @@ pub trait Termwise<A: Course, B: Course, D: Course> {
     /// What has to fit for it.
     ghost parts: { A.Base → B.Base → List Ratio };
 
-    /// The result. `Passed` names F2, exactly where a part does not fit.
-    fn apply(a: &A::Base, b: &B::Base) -> Result<D::Base, Passed>
+    /// The result. The fault names F2, exactly where a part does not fit.
+    fn apply(a: &A::Base, b: &B::Base) -> Result<D::Base, Formula>
         ensures result { IsComputed F2 (parts a.now b.now) (op a.now b.now) result };
 
     ghost law: { (c : A) (d : B) (lower upper : Ratio) → IsTermwise A.value_of A.start_of A.end_of B.value_of B.start_of B.end_of D.value_of D.can_make D.make op c d lower upper };
@@ -48,7 +47,7 @@ impl<C: Summed> Termwise<C, C, C> for Sum {
 
     ghost parts = { λ x y. sum_parts (C.number x) (C.number y) };
 
-    fn apply(a: &C::Base, b: &C::Base) -> Result<C::Base, Passed> {
+    fn apply(a: &C::Base, b: &C::Base) -> Result<C::Base, Formula> {
         C::sum(a, b)
     }
 
@@ -63,7 +62,7 @@ impl<C: Summed> Termwise<C, C, C> for Difference {
 
     ghost parts = { λ x y. difference_parts (C.number x) (C.number y) };
 
-    fn apply(a: &C::Base, b: &C::Base) -> Result<C::Base, Passed> {
+    fn apply(a: &C::Base, b: &C::Base) -> Result<C::Base, Formula> {
         C::difference(a, b)
     }
 
@@ -78,7 +77,7 @@ impl<C: Summed> Termwise<C, Steady<Frac>, C> for Multiple {
 
     ghost parts = { λ x k. product_parts (C.number x) k };
 
-    fn apply(a: &C::Base, b: &Frac) -> Result<C::Base, Passed> {
+    fn apply(a: &C::Base, b: &Frac) -> Result<C::Base, Formula> {
         C::scaled(a, b)
     }
 
@@ -93,7 +92,7 @@ impl<C: Summed> Termwise<Steady<Frac>, C, C> for Scaling {
 
     ghost parts = { λ k x. product_parts (C.number x) k };
 
-    fn apply(a: &Frac, b: &C::Base) -> Result<C::Base, Passed> {
+    fn apply(a: &Frac, b: &C::Base) -> Result<C::Base, Formula> {
         C::scaled(b, a)
     }
 
@@ -108,7 +107,7 @@ impl Termwise<Line, Steady<Frac>, Line> for Quotient {
 
     ghost parts = { quotient_parts };
 
-    fn apply(a: &Frac, b: &Frac) -> Result<Frac, Passed> {
+    fn apply(a: &Frac, b: &Frac) -> Result<Frac, Formula> {
         divided(a, b)
     }
 
@@ -116,7 +115,7 @@ impl Termwise<Line, Steady<Frac>, Line> for Quotient {
 }
 
 // The quotient of two numbers. (The one by 0, which nobody asks for, is 0.)
-fn divided(a: &Frac, b: &Frac) -> Result<Frac, Passed>
+fn divided(a: &Frac, b: &Frac) -> Result<Frac, Formula>
     ensures result { IsComputed F2 (quotient_parts a.now b.now) (quotient_of a.now b.now) result }
 {
     if b.is_zero() {
@@ -124,9 +123,7 @@ fn divided(a: &Frac, b: &Frac) -> Result<Frac, Passed>
     }
     match a.div(b) {
         Ok(value) => Ok(value),
-        Err(_) => Err(Passed {
-            formula: Formula::F2,
-        }),
+        Err(_) => Err(Formula::F2),
     }
 }
 
@@ -134,7 +131,7 @@ fn divided(a: &Frac, b: &Frac) -> Result<Frac, Passed>
 fn course_on<A: Course + Drop, B: Course + Drop, D: Course + Drop, O: Termwise<A, B, D>>(
     left: &Slice<A>,
     right: &Slice<B>,
-) -> Result<D, Passed>
+) -> Result<D, Formula>
 where
     A::Base: Drop,
     B::Base: Drop,
@@ -150,7 +147,7 @@ where
 fn on_piece<A: Course + Drop, B: Course + Drop, D: Course + Drop, O: Termwise<A, B, D>>(
     alloc: Global,
     piece: &Piece<'_, A, B>,
-) -> Result<Vec<Slice<D>>, OpFault>
+) -> Result<Vec<Slice<D>>, Fault<Formula>>
 where
     A::Base: Drop,
     B::Base: Drop,
@@ -160,15 +157,15 @@ where
 {
     let left = match piece.left.on(alloc, &piece.span) {
         Ok(left) => left,
-        Err(fault) => return Err(operator_fault(fault)),
+        Err(fault) => return Err(fault),
     };
     let right = match piece.right.on(alloc, &piece.span) {
         Ok(right) => right,
-        Err(fault) => return Err(operator_fault(fault)),
+        Err(fault) => return Err(fault),
     };
     let course = match course_on::<A, B, D, O>(&left, &right) {
         Ok(course) => course,
-        Err(Passed { formula }) => return Err(OpFault::Passed { formula }),
+        Err(formula) => return Err(Fault::Because(formula)),
     };
     // A call of a method tells the proof what holds of every span.
     let _ = piece.span.lower();
@@ -186,7 +183,7 @@ fn lifted<A: Course + Drop, B: Course + Drop, D: Course + Drop, O: Termwise<A, B
     alloc: Global,
     a: Operand<'_, A>,
     b: Operand<'_, B>,
-) -> Result<Vec<Slice<D>>, OpFault>
+) -> Result<Vec<Slice<D>>, Fault<Formula>>
 where
     A::Base: Drop,
     B::Base: Drop,
@@ -198,7 +195,7 @@ where
     lift(
         alloc,
         Pieces::new(a, b),
-        |piece: &Piece<'_, A, B>| -> Result<Vec<Slice<D>>, OpFault>
+        |piece: &Piece<'_, A, B>| -> Result<Vec<Slice<D>>, Fault<Formula>>
             requires holds { HoldsPiece A.start_of A.end_of B.start_of B.end_of (piece_of piece.now) }
             ensures given { IsGiven D.value_of D.start_of D.end_of (λ v. v.items) (on_sides A.value_of B.value_of O.op (piece_of piece.now)) piece.now.span (entries_at_ends A.value_of A.parts_of B.value_of B.parts_of O.parts (piece_of piece.now)) result }
         { on_piece::<A, B, D, O>(alloc, piece) },
@@ -208,13 +205,13 @@ where
 /// The operation on two operands at each instant at which both have a value. None exactly where
 /// there is no such instant.
 ///
-/// `Passed` names the formula of the first entry that has a part that does not fit: on each piece
+/// The fault names the formula of the first entry that has a part that does not fit: on each piece
 /// that the operands share, F1 at its ends, then F2 there.
 pub fn by_terms<A: Course + Drop, B: Course + Drop, D: Course + Drop, O: Termwise<A, B, D>>(
     alloc: Global,
     a: Operand<'_, A>,
     b: Operand<'_, B>,
-) -> Result<Option<Moving<D>>, OpFault>
+) -> Result<Option<Moving<D>>, Fault<Formula>>
 where
     A::Base: Drop,
     B::Base: Drop,
@@ -226,6 +223,6 @@ where
     let slices = lifted::<A, B, D, O>(alloc, a, b)?;
     match normal(alloc, slices) {
         Ok(value) => Ok(value),
-        Err(_) => Err(OpFault::NoMemory),
+        Err(_) => Err(Fault::NoMemory),
     }
 }

@@ -5,7 +5,8 @@ ghost use Rattle.mob_slice.specs.Sides.{HasValues, HoldsPiece, HoldsSide, at_end
 ghost use Rattle.mob_slice.specs.declared.formula.Formula.TheVariants.{F1};
 ghost use Rattle.mob_cells.specs.Gaps.{end_gaps, entries_of_ends};
 
-use mob_slice::{Compared, Course, Gaps, LookFault, Passed, Piece, Side, Slice};
+use mob_list::fault::Fault;
+use mob_slice::{Compared, Course, Gaps, Piece, Side, Slice, Formula};
 use mob_span::Span;
 use std::alloc::Global;
 
@@ -23,7 +24,7 @@ fn on_piece_of<C: Course>(
     alloc: Global,
     side: &Side<'_, C>,
     span: &Span,
-) -> Result<Slice<C>, Passed>
+) -> Result<Slice<C>, Formula>
 where
     C::Base: Drop,
     requires moves { C.STEADY ≡ false }
@@ -32,20 +33,20 @@ where
 {
     match side.on(alloc, span) {
         Ok(slice) => Ok(slice),
-        Err(LookFault::Passed { formula }) => Err(Passed { formula }),
-        Err(LookFault::NoMemory) => unreachable!(),
+        Err(Fault::Because(formula)) => Err(formula),
+        Err(Fault::NoMemory) => unreachable!(),
     }
 }
 
 /// The gaps of two operands at the ends of a piece, for courses that are not steady. It takes no
 /// memory.
 ///
-/// `Passed` names the formula of the first entry that does not fit: F1 at the ends of the piece,
+/// The fault names the formula of the first entry that does not fit: F1 at the ends of the piece,
 /// then F2, the gaps there.
 pub fn gaps_at_ends<C: Compared + Drop>(
     alloc: Global,
     piece: &Piece<'_, C, C>,
-) -> Result<EndGaps, Passed>
+) -> Result<EndGaps, Formula>
 where
     C::Base: Drop,
     requires moves { C.STEADY ≡ false }

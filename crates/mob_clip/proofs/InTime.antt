@@ -18,20 +18,18 @@ use Rattle.mob_slice.specs.Sides.{at_ends, HasValues}
 use Rattle.mob_slice.specs.Cut.{slice_value, slice_parts}
 use Rattle.mob_slice.specs.Lines.{plane_value_of, plane_parts_of}
 use Rattle.mob_slice.specs.PlaneLaws.{plane_laws}
-use Rattle.mob_slice.specs.Entries.{IsFirst, OnFormula}
+use Rattle.mob_list.specs.Faults.{OnCause}
+use Rattle.mob_slice.specs.Entries.{IsFirst}
 use Rattle.mob_slice.specs.declared.slice.Slice.{Slice}
 use Rattle.mob_plane.specs.declared.point.Point.{Point}
 use Rattle.mob_slice.specs.declared.line.PlaneLine.{PlaneLine}
 use Rattle.mob_slice.specs.declared.formula.Formula.{Formula}
-use Rattle.mob_slice.specs.declared.formula.OpFault.{OpFault}
-use Rattle.mob_slice.specs.declared.formula.OpFault.TheVariants.{Passed, NoMemory}
-use Rattle.mob_slice.specs.declared.formula.LookFault.{LookFault}
-use Rattle.mob_slice.specs.declared.formula.LookFault.TheVariants.{Passed as LookPassed, NoMemory as LookNoMemory}
+use Rattle.mob_list.specs.declared.fault.Fault.{Fault}
+use Rattle.mob_list.specs.declared.fault.Fault.TheVariants.{Because, NoMemory}
 use Rattle.mob_slice.proofs.Cuts.{all_both, all_first, all_second}
 use Rattle.mob_cells.specs.Cells.{AreCells}
 use Rattle.mob_lifted.specs.OnPiece.{AreKeptOn, IsKeptBy}
 use Rattle.mob_cells.specs.Restricted.{kept_value}
-use Rattle.mob_slice.specs.Entries.{operator_fault}
 use Rattle.mob_lifted.specs.Piecewise.{AreGivenInOrder}
 use Rattle.mob_cells.proofs.Restricting.{all_kept}
 use Rattle.mob_lifted.proofs.OnOnePiece.{kept_same, kept_behind}
@@ -187,32 +185,32 @@ module _ (s : Slice PlaneLine) (sound : IsSound (λ c. c.from) (λ c. c.to) s) w
     abbrev pub wanted : Ratio → Option Point
     wanted t = kept_value want (in_space space (slice_value plane_value_of s t) && has T t) (slice_value plane_value_of s t)
 
-    pub none_shared : {V : Type 0} (items : V → List (Slice PlaneLine)) (q : Result V OpFault) → has_instant (meet_of s.span T) ≡ false → MatchResult q (λ v. AreAllOrNothing s (same_bool want false) (Some s.span) (items v)) (λ e. e ≡ NoMemory) → IsKeptBy plane_value_of (λ c. c.from) (λ c. c.to) items wanted s.span (entries_in_time (Some T) space s) q
+    pub none_shared : {V : Type 0} (items : V → List (Slice PlaneLine)) (q : Result V (Fault Formula)) → has_instant (meet_of s.span T) ≡ false → MatchResult q (λ v. AreAllOrNothing s (same_bool want false) (Some s.span) (items v)) (λ e. e ≡ NoMemory) → IsKeptBy plane_value_of (λ c. c.from) (λ c. c.to) items wanted s.span (entries_in_time (Some T) space s) q
     none_shared items (Ok v) n h = (kept_same plane_value_of (λ c. c.from) (λ c. c.to) (λ t. kept_value want false (slice_value plane_value_of s t)) wanted s.span (items v) (λ t k. ap (λ b. kept_value want b (slice_value plane_value_of s t)) (nowhere (in_space space (slice_value plane_value_of s t)) (has T t) (out t k))) h, rw n refl)
       where
         out : (t : Ratio) → has s.span t ≡ true → has T t ≡ false
         out t k = sym (ap (λ z. z && has T t) k) ∙ (meet_none s.span T).0 n t
     none_shared items (Err e) n h = rw h tt
 
-    pub cut_fails : (copies : Bool) (m : SpanOf) (f : LookFault) → m ≡ meet_of s.span T → has_instant m ≡ true → IsLookFault copies (at_ends (slice_parts plane_parts_of s) m) f → OnFormula (λ g. IsFirst (entries_in_time (Some T) space s) (Some g)) (operator_fault f)
-    cut_fails copies m (LookPassed f) e k h = rw (subst (λ z. has_instant z ≡ true) e k) (inr (subst (λ z. ¬ AllFit (at_ends (slice_parts plane_parts_of s) z)) e h.1, ap Some h.0))
-    cut_fails copies m LookNoMemory e k h = tt
+    pub cut_fails : (copies : Bool) (m : SpanOf) (f : Fault Formula) → m ≡ meet_of s.span T → has_instant m ≡ true → IsLookFault copies (at_ends (slice_parts plane_parts_of s) m) f → OnCause (λ g. IsFirst (entries_in_time (Some T) space s) (Some g)) f
+    cut_fails copies m (Because f) e k h = rw (subst (λ z. has_instant z ≡ true) e k) (inr (subst (λ z. ¬ AllFit (at_ends (slice_parts plane_parts_of s) z)) e h.1, ap Some h.0))
+    cut_fails copies m NoMemory e k h = tt
 
     behind : (m : SpanOf) (r : Option Formula) → m ≡ meet_of s.span T → has_instant m ≡ true → AllFit (at_ends (slice_parts plane_parts_of s) m) → IsFirst (entries_of_space space s m) r → IsFirst (entries_in_time (Some T) space s) r
     behind m r e k fits h = rw (subst (λ z. has_instant z ≡ true) e k) (inl (subst (λ z. AllFit (at_ends (slice_parts plane_parts_of s) z)) e fits, subst (λ z. IsFirst (entries_of_space space s z) r) e h))
 
-    pub space_fails : (m : SpanOf) (f : OpFault) → m ≡ meet_of s.span T → has_instant m ≡ true → AllFit (at_ends (slice_parts plane_parts_of s) m) → OnFormula (λ g. IsFirst (entries_of_space space s m) (Some g)) f → OnFormula (λ g. IsFirst (entries_in_time (Some T) space s) (Some g)) f
-    space_fails m (Passed f) e k fits h = behind m (Some f) e k fits h
+    pub space_fails : (m : SpanOf) (f : Fault Formula) → m ≡ meet_of s.span T → has_instant m ≡ true → AllFit (at_ends (slice_parts plane_parts_of s) m) → OnCause (λ g. IsFirst (entries_of_space space s m) (Some g)) f → OnCause (λ g. IsFirst (entries_in_time (Some T) space s) (Some g)) f
+    space_fails m (Because f) e k fits h = behind m (Some f) e k fits h
     space_fails m NoMemory e k fits h = tt
 
-    pub time_kept : {V : Type 0} (items : V → List (Slice PlaneLine)) (q : Result V OpFault) (m : SpanOf) (middle : List (Slice PlaneLine)) → m ≡ meet_of s.span T → has_instant m ≡ true → AllFit (at_ends (slice_parts plane_parts_of s) m)
+    pub time_kept : {V : Type 0} (items : V → List (Slice PlaneLine)) (q : Result V (Fault Formula)) (m : SpanOf) (middle : List (Slice PlaneLine)) → m ≡ meet_of s.span T → has_instant m ≡ true → AllFit (at_ends (slice_parts plane_parts_of s) m)
         → AreKeptOn plane_value_of (λ c. c.from) (λ c. c.to) (λ t. kept_value want (in_space space (slice_value plane_value_of s t)) (slice_value plane_value_of s t)) m middle → IsFirst (entries_of_space space s m) None
         → MatchResult q (λ v. AreAround s want m middle (items v)) (λ e. e ≡ NoMemory) → IsKeptBy plane_value_of (λ c. c.from) (λ c. c.to) items wanted s.span (entries_in_time (Some T) space s) q
     time_kept items (Ok v) m middle e k fits g first h = (around_kept s m (subst (λ z. is_inside s.span z ≡ true) (sym e) (meet_left s.span T)) k want T space (λ t. ap (λ z. has z t) e ∙ meet_has s.span T t) middle (items v) g h, behind m None e k fits first)
     time_kept items (Err f) m middle e k fits g first h = rw h tt
 
 -- a box without time
-pub timeless : {V : Type 0} (items : V → List (Slice PlaneLine)) (s : Slice PlaneLine) (want : Bool) (b : BoxOf) (space : Option Area) (r : SpanOf) (q : Result V OpFault) → r ≡ s.span → space ≡ b.space → b.time ≡ None
+pub timeless : {V : Type 0} (items : V → List (Slice PlaneLine)) (s : Slice PlaneLine) (want : Bool) (b : BoxOf) (space : Option Area) (r : SpanOf) (q : Result V (Fault Formula)) → r ≡ s.span → space ≡ b.space → b.time ≡ None
     → IsKeptBy plane_value_of (λ c. c.from) (λ c. c.to) items (λ t. kept_value want (in_space space (slice_value plane_value_of s t)) (slice_value plane_value_of s t)) r (entries_of_space space s r) q
     → IsKeptBy plane_value_of (λ c. c.from) (λ c. c.to) items (λ t. kept_value want (in_box b t (slice_value plane_value_of s t)) (slice_value plane_value_of s t)) s.span (entries_of_box b s) q
 timeless items s want b space r q i e n m = kept_behind plane_value_of (λ c. c.from) (λ c. c.to) items (λ t. kept_value want (in_space space (slice_value plane_value_of s t)) (slice_value plane_value_of s t)) (λ t. kept_value want (in_box b t (slice_value plane_value_of s t)) (slice_value plane_value_of s t)) s.span (entries_of_box b s) (entries_of_space space s s.span) q

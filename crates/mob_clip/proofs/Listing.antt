@@ -6,8 +6,8 @@ use Rattle.std.proofs.Common.{ap, sym, ◌∙◌, subst, append_assoc, append-ni
 use Rattle.mob_ratio.specs.Ratio.{Ratio}
 use Rattle.mob_frac.specs.Formula.{AllFit}
 use Rattle.mob_slice.specs.declared.formula.Formula.{Formula}
-use Rattle.mob_slice.specs.declared.formula.OpFault.{OpFault}
-use Rattle.mob_slice.specs.declared.formula.OpFault.TheVariants.{Passed, NoMemory}
+use Rattle.mob_list.specs.declared.fault.Fault.{Fault}
+use Rattle.mob_list.specs.declared.fault.Fault.TheVariants.{Because, NoMemory}
 use Rattle.mob_slice.proofs.Cuts.{all_both, all_first, all_second}
 
 -- the parts of a list that fit where those of the rest do
@@ -55,6 +55,6 @@ module _ {A B : Type 0} (f : A → B) (parts : A → List Ratio) where
   mapping_end all rest out e m = (all_made out (map f rest) (map f all) (ap (map f) e) m.made, checking_end parts all rest e m.checked)
 
 -- why some parts failed says why all did
-pub fault_of_all : (formula : Formula) (p q : List Ratio) (f : OpFault) → IsPartFault formula p f → ((¬ AllFit p) → ¬ AllFit q) → IsPartFault formula q f
-fault_of_all formula p q (Passed f) h k = (h.0, k h.1)
+pub fault_of_all : (formula : Formula) (p q : List Ratio) (f : Fault Formula) → IsPartFault formula p f → ((¬ AllFit p) → ¬ AllFit q) → IsPartFault formula q f
+fault_of_all formula p q (Because f) h k = (h.0, k h.1)
 fault_of_all formula p q NoMemory h k = tt

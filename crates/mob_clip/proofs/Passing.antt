@@ -20,8 +20,8 @@ use Rattle.mob_slice.specs.Cut.{slice_value, slice_parts}
 use Rattle.mob_slice.specs.Lines.{plane_value_of, plane_parts_of}
 use Rattle.mob_slice.specs.declared.slice.Slice.{Slice}
 use Rattle.mob_slice.specs.declared.line.PlaneLine.{PlaneLine}
-use Rattle.mob_slice.specs.declared.formula.OpFault.{OpFault}
-use Rattle.mob_slice.specs.declared.formula.OpFault.TheVariants.{NoMemory}
+use Rattle.mob_list.specs.declared.fault.Fault.{Fault}
+use Rattle.mob_list.specs.declared.fault.Fault.TheVariants.{NoMemory}
 use Rattle.mob_slice.proofs.Cuts.{all_both, all_first, all_second}
 use Rattle.mob_lifted.specs.OnPiece.{AreKeptOn}
 use Rattle.mob_lifted.proofs.OnOnePiece.{kept_same}
@@ -32,6 +32,7 @@ use Rattle.mob_clip.specs.declared.steps.Change.{Change}
 use Rattle.mob_clip.specs.declared.steps.Steps.{Steps}
 use Rattle.mob_clip.specs.Steps.{step_at, steps_at, ChangesFit}
 use Rattle.mob_clip.specs.Pieces.{is_known_in, some_span, left_span, right_span, left_piece, right_piece, IsOnSlice, AreAllOrNothing}
+use Rattle.mob_slice.specs.declared.formula.Formula.{Formula}
 
 -- ---- a span before and behind an instant
 -- t is before r, or is r where it is included
@@ -296,7 +297,7 @@ module _ (s : Slice PlaneLine) (want : Bool) (steps : Steps Tally) where
   pub passing_end : (rest : Option SpanOf) (now : Tally) (later : List (Change Tally)) (keeps : Bool) (out all v : List (Slice PlaneLine)) → later ≡ [] → keeps ≡ same_bool want (is_known_in now) → all ≡ out ++ v → AreAllOrNothing s keeps rest v → IsPassing rest now later out → AreKeptOn plane_value_of (λ k. k.from) (λ k. k.to) wanted s.span all
   passing_end rest now later keeps out all v e k n h m = finished s wanted rest keeps out all v n h (λ t i. keeps_is keeps now t k (m.same t i ∙ ap (λ z. step_at now z t) e)) m.left
 
-  pub passing_ends : {V : Type 0} (items : V → List (Slice PlaneLine)) (result : Result V OpFault) (rest : Option SpanOf) (now : Tally) (later : List (Change Tally)) (keeps : Bool) (out : List (Slice PlaneLine)) → later ≡ [] → keeps ≡ same_bool want (is_known_in now) → IsPassing rest now later out
+  pub passing_ends : {V : Type 0} (items : V → List (Slice PlaneLine)) (result : Result V (Fault Formula)) (rest : Option SpanOf) (now : Tally) (later : List (Change Tally)) (keeps : Bool) (out : List (Slice PlaneLine)) → later ≡ [] → keeps ≡ same_bool want (is_known_in now) → IsPassing rest now later out
       → MatchResult result (λ all. (v : List (Slice PlaneLine)) × (items all ≡ out ++ v) × AreAllOrNothing s keeps rest v) (λ e. e ≡ NoMemory) → MatchResult result (λ all. AreKeptOn plane_value_of (λ k. k.from) (λ k. k.to) wanted s.span (items all)) (λ e. e ≡ NoMemory)
   passing_ends items (Ok all) rest now later keeps out e k m h = passing_end rest now later keeps out (items all) h.0 e k h.1 h.2 m
   passing_ends items (Err f) rest now later keeps out e k m h = h

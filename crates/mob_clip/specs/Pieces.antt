@@ -10,13 +10,14 @@ use Rattle.mob_slice.specs.Sides.{at_ends}
 use Rattle.mob_slice.specs.Cut.{slice_value, slice_parts}
 use Rattle.mob_slice.specs.Lines.{plane_value_of, plane_parts_of}
 use Rattle.mob_slice.specs.Entries.{Entry}
-use Rattle.mob_slice.specs.declared.formula.OpFault.{OpFault}
+use Rattle.mob_list.specs.declared.fault.Fault.{Fault}
 use Rattle.mob_slice.specs.declared.slice.Slice.{Slice}
 use Rattle.mob_slice.specs.declared.line.PlaneLine.{PlaneLine}
 use Rattle.mob_lifted.specs.OnPiece.{AreKeptOn, IsKeptBy}
 use Rattle.mob_cells.specs.Restricted.{kept_where}
 use Rattle.mob_plane.specs.declared.point.Point.{Point}
 use Rattle.mob_plane.specs.declared.edges.Tally.{Tally}
+use Rattle.mob_slice.specs.declared.formula.Formula.{Formula}
 
 -- the point is inside the polygon, by what is known of it
 abbrev pub is_known_in : Tally → Bool
@@ -61,5 +62,5 @@ abbrev pub AreKeptInPlane : Bool → (Ratio → Point → Bool) → Slice PlaneL
 AreKeptInPlane want meets s r v = AreKeptOn plane_value_of (λ c. c.from) (λ c. c.to) (kept_where plane_value_of want meets s) r v
 
 -- so is an answer where every entry fits; else it is the formula of the first that does not
-abbrev pub IsKeptInPlane : Bool → (Ratio → Point → Bool) → Slice PlaneLine → SpanOf → List Entry → Result (Vec (Slice PlaneLine) Global) OpFault → Type 0
+abbrev pub IsKeptInPlane : Bool → (Ratio → Point → Bool) → Slice PlaneLine → SpanOf → List Entry → Result (Vec (Slice PlaneLine) Global) (Fault Formula) → Type 0
 IsKeptInPlane want meets s r entries result = IsKeptBy plane_value_of (λ c. c.from) (λ c. c.to) (λ v. v.items) (kept_where plane_value_of want meets s) r entries result

@@ -13,10 +13,11 @@ ghost use Rattle.mob_stbox.specs.Areas.{in_area};
 ghost use Rattle.mob_clip.specs.Areas.{area_parts, sides_of, area_ends, in_area_by, entries_of_area, ends_of_sides};
 ghost use Rattle.mob_clip.specs.Pieces.{IsKeptInPlane};
 
+use mob_list::fault::Fault;
 use mob_cells::{Ends, Test, kept};
 use mob_frac::{Frac, Overflow};
 use mob_plane::Point;
-use mob_slice::{Course, Formula, OpFault, PlaneLine, Slice};
+use mob_slice::{Course, Formula, PlaneLine, Slice};
 use mob_span::Span;
 use mob_stbox::Area;
 use std::alloc::{AllocError, Global};
@@ -48,22 +49,18 @@ fn to_sides(area: &Area, p: &Point) -> Result<Sides, Overflow>
 }
 
 // The linear functions by whose signs a point on the way from `p` to `q` is in the area.
-fn functions(alloc: Global, area: &Area, p: &Point, q: &Point) -> Result<Vec<Ends>, OpFault>
+fn functions(alloc: Global, area: &Area, p: &Point, q: &Point) -> Result<Vec<Ends>, Fault<Formula>>
     ensures functions { IsMadeBy F2 (area_parts area.now p.now ++ area_parts area.now q.now) (λ v. v.items ≡ area_ends area.now p.now q.now) result }
 {
     let Ok(from) = to_sides(area, p) else {
-        return Err(OpFault::Passed {
-            formula: Formula::F2,
-        });
+        return Err(Fault::Because(Formula::F2));
     };
     let Ok(to) = to_sides(area, q) else {
-        return Err(OpFault::Passed {
-            formula: Formula::F2,
-        });
+        return Err(Fault::Because(Formula::F2));
     };
     match functions_of(alloc, &from, &to) {
         Ok(functions) => Ok(functions),
-        Err(_) => Err(OpFault::NoMemory),
+        Err(_) => Err(Fault::NoMemory),
     }
 }
 
@@ -120,7 +117,7 @@ pub fn in_area_on(
     part: &Slice<PlaneLine>,
     area: &Area,
     want: bool,
-) -> Result<Vec<Slice<PlaneLine>>, OpFault>
+) -> Result<Vec<Slice<PlaneLine>>, Fault<Formula>>
     requires holds { IsSound (λ c. c.from) (λ c. c.to) slice.now × (is_inside slice.now.span part.now.span ≡ true) }
     requires ends { AllFit (at_ends (slice_parts plane_parts_of slice.now) part.now.span) }
     requires part { HasValues plane_value_of (λ c. c.from) (λ c. c.to) (slice_value plane_value_of slice.now) part.now.span part.now }

@@ -15,11 +15,12 @@ ghost use Rattle.mob_stbox.specs.Boxes.{in_box, in_space};
 ghost use Rattle.mob_clip.specs.Boxes.{entries_of_space, entries_of_box, entries_in_time, AreAround, front_span, back_span};
 ghost use Rattle.mob_clip.specs.Pieces.{some_span, IsKeptInPlane};
 
+use mob_list::fault::Fault;
 use crate::areas::in_area_on;
 use crate::pieces::piece_on;
 use mob_cells::{Restriction, append, listed, restricted};
 use mob_normal::normal;
-use mob_slice::{Moving, OpFault, PlaneLine, Slice, cut, operator_fault};
+use mob_slice::{Moving, PlaneLine, Slice, cut, Formula};
 use mob_span::{Span, same_bool};
 use mob_stbox::{Area, StBox};
 use std::alloc::Global;
@@ -32,7 +33,7 @@ fn in_space_on(
     part: Slice<PlaneLine>,
     space: &Option<Area>,
     want: bool,
-) -> Result<Vec<Slice<PlaneLine>>, OpFault>
+) -> Result<Vec<Slice<PlaneLine>>, Fault<Formula>>
     requires holds { IsSound (λ c. c.from) (λ c. c.to) slice.now × (is_inside slice.now.span part.span ≡ true) }
     requires ends { AllFit (at_ends (slice_parts plane_parts_of slice.now) part.span) }
     requires part { HasValues plane_value_of (λ c. c.from) (λ c. c.to) (slice_value plane_value_of slice.now) part.span part }
@@ -76,10 +77,10 @@ fn around(
     part: &Span,
     middle: Vec<Slice<PlaneLine>>,
     want: bool,
-) -> Result<Vec<Slice<PlaneLine>>, OpFault>
+) -> Result<Vec<Slice<PlaneLine>>, Fault<Formula>>
     requires holds { IsSound (λ c. c.from) (λ c. c.to) slice.now × (is_inside slice.now.span part.now ≡ true) }
     requires ends { AllFit (at_ends (slice_parts plane_parts_of slice.now) part.now) }
-    ensures around { MatchResult result (λ v. AreAround slice.now want part.now middle.items v.items) (λ e. e ≡ OpFault.NoMemory) }
+    ensures around { MatchResult result (λ v. AreAround slice.now want part.now middle.items v.items) (λ e. e ≡ Fault.NoMemory) }
 {
     // A call of a method tells the proof what holds of every span.
     let _ = part.lower();
@@ -94,11 +95,11 @@ fn around(
     };
     match append(&mut out, middle) {
         Ok(()) => {}
-        Err(_) => return Err(OpFault::NoMemory),
+        Err(_) => return Err(Fault::NoMemory),
     }
     match append(&mut out, more) {
         Ok(()) => {}
-        Err(_) => return Err(OpFault::NoMemory),
+        Err(_) => return Err(Fault::NoMemory),
     }
     Ok(out)
 }
@@ -110,7 +111,7 @@ fn in_time_on(
     time: &Span,
     space: &Option<Area>,
     want: bool,
-) -> Result<Vec<Slice<PlaneLine>>, OpFault>
+) -> Result<Vec<Slice<PlaneLine>>, Fault<Formula>>
     requires sound { IsSound (λ c. c.from) (λ c. c.to) slice.now }
     ensures kept { IsKeptInPlane want (λ t p. in_space space.now p && has time.now t) slice.now slice.now.span (entries_in_time (Some time.now) space.now slice.now) result }
 {
@@ -120,7 +121,7 @@ fn in_time_on(
     };
     let part = match cut(alloc, slice, &shared) {
         Ok(part) => part,
-        Err(fault) => return Err(operator_fault(fault)),
+        Err(fault) => return Err(fault),
     };
     let middle = match in_space_on(alloc, slice, part, space, want) {
         Ok(middle) => middle,
@@ -166,7 +167,7 @@ impl<'a> Restriction<PlaneLine> for ToBox<'a> {
         alloc: Global,
         slice: &Slice<PlaneLine>,
         want: bool,
-    ) -> Result<Vec<Slice<PlaneLine>>, OpFault> {
+    ) -> Result<Vec<Slice<PlaneLine>>, Fault<Formula>> {
         let space = space_of(self.to);
         match self.to.time() {
             Some(time) => in_time_on(alloc, slice, time, &space, want),
@@ -181,28 +182,28 @@ fn to_box(
     a: &Moving<PlaneLine>,
     b: &StBox,
     want: bool,
-) -> Result<Option<Moving<PlaneLine>>, OpFault>
+) -> Result<Option<Moving<PlaneLine>>, Fault<Formula>>
     ensures value { IfOk result (λ r. IsRestricted plane_value_of want (in_box b.now) a.now r) }
     ensures first { IsJudged (flat_map (entries_of_box b.now) a.now) result }
 {
     let slices = restricted::<PlaneLine, ToBox<'_>>(alloc, a.slices(), &ToBox { to: b }, want)?;
     match normal(alloc, slices) {
         Ok(value) => Ok(value),
-        Err(_) => Err(OpFault::NoMemory),
+        Err(_) => Err(Fault::NoMemory),
     }
 }
 
 /// The moving point at the instants at which it is in the box. None exactly where there is no such
 /// instant.
 ///
-/// `Passed` names the formula of the first entry that has a part that does not fit: on each slice
+/// The fault names the formula of the first entry that has a part that does not fit: on each slice
 /// that shares an instant with the time of the box F1 at the ends of what they share, then F2, the
 /// differences to the sides there, then F3, their roots, then F1 at these roots.
 pub fn at_box(
     alloc: Global,
     a: &Moving<PlaneLine>,
     b: &StBox,
-) -> Result<Option<Moving<PlaneLine>>, OpFault>
+) -> Result<Option<Moving<PlaneLine>>, Fault<Formula>>
     ensures value { IfOk result (λ r. IsRestricted plane_value_of true (in_box b.now) a.now r) }
     ensures first { IsJudged (flat_map (entries_of_box b.now) a.now) result }
 {
@@ -212,12 +213,12 @@ pub fn at_box(
 /// The moving point at the instants at which it is not in the box. None exactly where there is no
 /// such instant.
 ///
-/// `Passed` is that of `at_box`: the formulas are the same, whatever is left.
+/// The fault is that of `at_box`: the formulas are the same, whatever is left.
 pub fn minus_box(
     alloc: Global,
     a: &Moving<PlaneLine>,
     b: &StBox,
-) -> Result<Option<Moving<PlaneLine>>, OpFault>
+) -> Result<Option<Moving<PlaneLine>>, Fault<Formula>>
     ensures value { IfOk result (λ r. IsRestricted plane_value_of false (in_box b.now) a.now r) }
     ensures first { IsJudged (flat_map (entries_of_box b.now) a.now) result }
 {

@@ -11,11 +11,12 @@ ghost use Rattle.mob_slice.specs.declared.line.PlaneLine.{PlaneLine as PlaneLine
 ghost use Rattle.mob_clip.specs.Steps.{steps_at, ChangesFit};
 ghost use Rattle.mob_clip.specs.Pieces.{is_known_in, some_span, left_span, right_span, IsOnSlice, AreAllOrNothing, IsPushedBefore, AreKeptInPlane};
 
+use mob_list::fault::Fault;
 use crate::steps::Steps;
 use mob_cells::{append, listed};
 use mob_frac::Frac;
 use mob_plane::{Tally, is_in};
-use mob_slice::{OpFault, PlaneLine, Slice, cut, operator_fault};
+use mob_slice::{PlaneLine, Slice, cut, Formula};
 use mob_span::{Span, same_bool};
 use std::alloc::Global;
 
@@ -25,10 +26,10 @@ pub fn piece_on(
     slice: &Slice<PlaneLine>,
     piece: Option<Span>,
     keeps: bool,
-) -> Result<Vec<Slice<PlaneLine>>, OpFault>
+) -> Result<Vec<Slice<PlaneLine>>, Fault<Formula>>
     requires sound { IsSound (λ c. c.from) (λ c. c.to) slice.now }
     requires holds { IsOnSlice slice.now piece }
-    ensures whole { MatchResult result (λ v. AreAllOrNothing slice.now keeps piece v.items) (λ e. e ≡ OpFault.NoMemory) }
+    ensures whole { MatchResult result (λ v. AreAllOrNothing slice.now keeps piece v.items) (λ e. e ≡ Fault.NoMemory) }
 {
     let span = match piece {
         Some(span) => span,
@@ -36,7 +37,7 @@ pub fn piece_on(
     };
     match cut(alloc, slice, &span) {
         Ok(part) => listed(alloc, part, keeps),
-        Err(fault) => Err(operator_fault(fault)),
+        Err(fault) => Err(fault),
     }
 }
 
@@ -72,11 +73,11 @@ fn push_before(
     r: &Frac,
     included: bool,
     keeps: bool,
-) -> Result<Option<Span>, OpFault>
+) -> Result<Option<Span>, Fault<Formula>>
     requires sound { IsSound (λ c. c.from) (λ c. c.to) slice.now }
     requires holds { IsOnSlice slice.now piece }
     requires fits { AllFit (slice_parts plane_parts_of slice.now r.now) }
-    ensures pushed { MatchResult result (IsPushedBefore slice.now keeps piece r.now included out.old.items out.new.items) (λ e. e ≡ OpFault.NoMemory) }
+    ensures pushed { MatchResult result (IsPushedBefore slice.now keeps piece r.now included out.old.items out.new.items) (λ e. e ≡ Fault.NoMemory) }
 {
     let span = match piece {
         Some(span) => span,
@@ -87,7 +88,7 @@ fn push_before(
         Err(fault) => return Err(fault),
     };
     if append(out, more).is_err() {
-        return Err(OpFault::NoMemory);
+        return Err(Fault::NoMemory);
     }
     Ok(right_of(&span, r, included))
 }
@@ -99,10 +100,10 @@ fn finish(
     out: Vec<Slice<PlaneLine>>,
     piece: Option<Span>,
     keeps: bool,
-) -> Result<Vec<Slice<PlaneLine>>, OpFault>
+) -> Result<Vec<Slice<PlaneLine>>, Fault<Formula>>
     requires sound { IsSound (λ c. c.from) (λ c. c.to) slice.now }
     requires holds { IsOnSlice slice.now piece }
-    ensures all { MatchResult result (λ all. (v : List (SliceOf PlaneLineOf)) × (all.items ≡ out.items ++ v) × AreAllOrNothing slice.now keeps piece v) (λ e. e ≡ OpFault.NoMemory) }
+    ensures all { MatchResult result (λ all. (v : List (SliceOf PlaneLineOf)) × (all.items ≡ out.items ++ v) × AreAllOrNothing slice.now keeps piece v) (λ e. e ≡ Fault.NoMemory) }
 {
     let mut all = out;
     let more = match piece_on(alloc, slice, piece, keeps) {
@@ -111,7 +112,7 @@ fn finish(
     };
     match append(&mut all, more) {
         Ok(()) => Ok(all),
-        Err(_) => Err(OpFault::NoMemory),
+        Err(_) => Err(Fault::NoMemory),
     }
 }
 
@@ -129,10 +130,10 @@ pub fn kept_on(
     slice: &Slice<PlaneLine>,
     steps: &Steps<Tally>,
     want: bool,
-) -> Result<Vec<Slice<PlaneLine>>, OpFault>
+) -> Result<Vec<Slice<PlaneLine>>, Fault<Formula>>
     requires sound { IsSound (λ c. c.from) (λ c. c.to) slice.now }
     requires fit { ChangesFit (slice_parts plane_parts_of slice.now) steps.now.changes.items }
-    ensures kept { MatchResult result (λ v. AreKeptInPlane want (λ t p. is_known_in (steps_at steps.now t)) slice.now slice.now.span v.items) (λ e. e ≡ OpFault.NoMemory) }
+    ensures kept { MatchResult result (λ v. AreKeptInPlane want (λ t p. is_known_in (steps_at steps.now t)) slice.now slice.now.span v.items) (λ e. e ≡ Fault.NoMemory) }
 {
     let mut out = Vec::new(alloc);
     let mut rest = Some(slice.span);

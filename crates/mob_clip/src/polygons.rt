@@ -10,6 +10,7 @@ ghost use Rattle.mob_plane.specs.Membership.{inside};
 ghost use Rattle.mob_clip.specs.Polygons.{is_inside_edges, entries_of_edges, entries_of_polygon, IsEverInside};
 ghost use Rattle.mob_clip.specs.Pieces.{IsKeptInPlane};
 
+use mob_list::fault::Fault;
 use crate::edges::edges_of;
 use crate::membership::membership;
 use crate::pieces::kept_on;
@@ -17,7 +18,7 @@ use crate::roots::placed_on;
 use mob_cells::{Restriction, restricted};
 use mob_normal::normal;
 use mob_plane::{Point, Polygon};
-use mob_slice::{Moving, OpFault, PlaneLine, Slice};
+use mob_slice::{Moving, PlaneLine, Slice, Formula};
 use std::alloc::Global;
 
 // What is left of a slice, where being inside the edges has the wanted truth value.
@@ -26,7 +27,7 @@ fn edges_on(
     slice: &Slice<PlaneLine>,
     edges: &[(Point, Point)],
     want: bool,
-) -> Result<Vec<Slice<PlaneLine>>, OpFault>
+) -> Result<Vec<Slice<PlaneLine>>, Fault<Formula>>
     requires sound { IsSound (λ c. c.from) (λ c. c.to) slice.now }
     ensures kept { IsKeptInPlane want (λ t p. is_inside_edges edges.now p) slice.now slice.now.span (entries_of_edges edges.now slice.now) result }
 {
@@ -36,7 +37,7 @@ fn edges_on(
     };
     let steps = match membership(alloc, &slice.span, placed.as_slice()) {
         Ok(steps) => steps,
-        Err(_) => return Err(OpFault::NoMemory),
+        Err(_) => return Err(Fault::NoMemory),
     };
     kept_on(alloc, slice, &steps, want)
 }
@@ -57,7 +58,7 @@ impl<'a> Restriction<PlaneLine> for ToEdges<'a> {
         alloc: Global,
         slice: &Slice<PlaneLine>,
         want: bool,
-    ) -> Result<Vec<Slice<PlaneLine>>, OpFault> {
+    ) -> Result<Vec<Slice<PlaneLine>>, Fault<Formula>> {
         edges_on(alloc, slice, self.edges, want)
     }
 }
@@ -69,7 +70,7 @@ fn to_edges(
     a: &Moving<PlaneLine>,
     edges: &[(Point, Point)],
     want: bool,
-) -> Result<Option<Moving<PlaneLine>>, OpFault>
+) -> Result<Option<Moving<PlaneLine>>, Fault<Formula>>
     ensures value { IfOk result (λ r. IsRestricted plane_value_of want (λ t x. is_inside_edges edges.now x) a.now r) }
     ensures first { IsJudged (flat_map (entries_of_edges edges.now) a.now) result }
 {
@@ -77,7 +78,7 @@ fn to_edges(
     let slices = restricted::<PlaneLine, ToEdges<'_>>(alloc, a.slices(), &by, want)?;
     match normal(alloc, slices) {
         Ok(value) => Ok(value),
-        Err(_) => Err(OpFault::NoMemory),
+        Err(_) => Err(Fault::NoMemory),
     }
 }
 
@@ -87,13 +88,13 @@ fn to_polygon(
     a: &Moving<PlaneLine>,
     p: &Polygon,
     want: bool,
-) -> Result<Option<Moving<PlaneLine>>, OpFault>
+) -> Result<Option<Moving<PlaneLine>>, Fault<Formula>>
     ensures value { IfOk result (λ r. IsRestricted plane_value_of want (λ t x. inside p.now x) a.now r) }
     ensures first { IsJudged (flat_map (entries_of_polygon p.now) a.now) result }
 {
     let edges = match edges_of(alloc, p.rings()) {
         Ok(edges) => edges,
-        Err(_) => return Err(OpFault::NoMemory),
+        Err(_) => return Err(Fault::NoMemory),
     };
     to_edges(alloc, a, edges.as_slice(), want)
 }
@@ -101,7 +102,7 @@ fn to_polygon(
 /// The moving point at the instants at which it is inside the polygon or on its boundary
 /// (MobilityDB's `atGeometry`). None exactly where there is no such instant.
 ///
-/// `Passed` names the formula of the first entry that has a part that does not fit: on each slice
+/// The fault names the formula of the first entry that has a part that does not fit: on each slice
 /// F2, the differences of the positions at its two ends to the points of the rings, then F4, their
 /// turns with the edges, then F3, the roots of all of these, then F1 at these roots, whatever is
 /// left there.
@@ -109,7 +110,7 @@ pub fn at_polygon(
     alloc: Global,
     a: &Moving<PlaneLine>,
     p: &Polygon,
-) -> Result<Option<Moving<PlaneLine>>, OpFault>
+) -> Result<Option<Moving<PlaneLine>>, Fault<Formula>>
     ensures value { IfOk result (λ r. IsRestricted plane_value_of true (λ t x. inside p.now x) a.now r) }
     ensures first { IsJudged (flat_map (entries_of_polygon p.now) a.now) result }
 {
@@ -119,12 +120,12 @@ pub fn at_polygon(
 /// The moving point at the instants at which it is outside the polygon and not on its boundary
 /// (MobilityDB's `minusGeometry`). None exactly where there is no such instant.
 ///
-/// `Passed` is that of `at_polygon`: the formulas are the same, whatever is left.
+/// The fault is that of `at_polygon`: the formulas are the same, whatever is left.
 pub fn minus_polygon(
     alloc: Global,
     a: &Moving<PlaneLine>,
     p: &Polygon,
-) -> Result<Option<Moving<PlaneLine>>, OpFault>
+) -> Result<Option<Moving<PlaneLine>>, Fault<Formula>>
     ensures value { IfOk result (λ r. IsRestricted plane_value_of false (λ t x. inside p.now x) a.now r) }
     ensures first { IsJudged (flat_map (entries_of_polygon p.now) a.now) result }
 {
@@ -134,9 +135,9 @@ pub fn minus_polygon(
 /// Whether the moving point is inside the polygon or on its boundary at some rational instant at
 /// which it is defined (MobilityDB's `eIntersects`).
 ///
-/// `Passed` is that of `at_polygon`: the formulas of all slices are asked for, also behind an
+/// The fault is that of `at_polygon`: the formulas of all slices are asked for, also behind an
 /// instant that settles the answer.
-pub fn ever_inside(alloc: Global, a: &Moving<PlaneLine>, p: &Polygon) -> Result<bool, OpFault>
+pub fn ever_inside(alloc: Global, a: &Moving<PlaneLine>, p: &Polygon) -> Result<bool, Fault<Formula>>
     ensures value { IfOk result (λ b. IsTrue b ↔ IsEverInside p.now a.now) }
     ensures first { IsJudged (flat_map (entries_of_polygon p.now) a.now) result }
 {

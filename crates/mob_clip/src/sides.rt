@@ -8,10 +8,11 @@ ghost use Rattle.mob_clip.specs.Sides.{point_parts, to_point, beside_parts, besi
 ghost use Rattle.mob_clip.specs.Known.{IsKnown};
 ghost use Rattle.mob_slice.specs.declared.formula.Formula.TheVariants.{F2, F4};
 
+use mob_list::fault::Fault;
 use mob_cells::Ends;
 use mob_frac::{Frac, Overflow};
 use mob_plane::Point;
-use mob_slice::{Formula, OpFault};
+use mob_slice::Formula;
 use std::alloc::{AllocError, Global};
 
 /// The differences of a point on its way to another point, by coordinate.
@@ -148,7 +149,7 @@ pub fn besides(
     edges: &[(Point, Point)],
     p: &Point,
     q: &Point,
-) -> Result<Vec<Beside>, OpFault>
+) -> Result<Vec<Beside>, Fault<Formula>>
     ensures made { IsMadeBy F2 (flat_map (beside_parts p.now q.now) edges.now) (λ v. v.items ≡ map (beside p.now q.now) edges.now) result }
 {
     let mut out = Vec::new(alloc);
@@ -157,9 +158,7 @@ pub fn besides(
         let next = match with_differences(p, q, edge, &known) {
             Ok(next) => next,
             Err(_) => {
-                return Err(OpFault::Passed {
-                    formula: Formula::F2,
-                });
+                return Err(Fault::Because(Formula::F2));
             }
         };
         known = Some(Known {
@@ -168,7 +167,7 @@ pub fn besides(
         });
         match add(&mut out, next) {
             Ok(()) => {}
-            Err(_) => return Err(OpFault::NoMemory),
+            Err(_) => return Err(Fault::NoMemory),
         }
     }
     Ok(out)
@@ -180,7 +179,7 @@ pub fn turned(
     edges: &[Beside],
     p: &Point,
     q: &Point,
-) -> Result<Vec<EdgeEnds>, OpFault>
+) -> Result<Vec<EdgeEnds>, Fault<Formula>>
     requires known { AllByRecursion (IsBeside p.now q.now) edges.now }
     ensures made { IsMadeBy F4 (flat_map (λ b. turning_parts p.now q.now b.edge) edges.now) (λ v. v.items ≡ map (with_turn p.now q.now) edges.now) result }
 {
@@ -189,9 +188,7 @@ pub fn turned(
         let turn = match turning(p, q, beside) {
             Ok(turn) => turn,
             Err(_) => {
-                return Err(OpFault::Passed {
-                    formula: Formula::F4,
-                });
+                return Err(Fault::Because(Formula::F4));
             }
         };
         let next = EdgeEnds {
@@ -203,7 +200,7 @@ pub fn turned(
         };
         match add(&mut out, next) {
             Ok(()) => {}
-            Err(_) => return Err(OpFault::NoMemory),
+            Err(_) => return Err(Fault::NoMemory),
         }
     }
     Ok(out)

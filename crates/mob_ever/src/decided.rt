@@ -9,7 +9,7 @@ ghost use Rattle.mob_lift.specs.Sometime.{IsEver, IsAlways};
 
 use crate::piece::piece_meets;
 use mob_lift::either;
-use mob_slice::{Compared, Operand, Passed, Rel};
+use mob_slice::{Compared, Operand, Rel, Formula};
 use mob_sync::Pieces;
 use std::alloc::Global;
 
@@ -32,7 +32,7 @@ fn sometime<C: Compared + Drop>(
     b: Operand<'_, C>,
     rel: Rel,
     want: bool,
-) -> Result<Option<bool>, Passed>
+) -> Result<Option<bool>, Formula>
 where
     C::Base: Drop,
     requires asked { MayAsk C.ordered rel }
@@ -56,7 +56,7 @@ where
 /// MobilityDB's ever comparisons). None exactly where there is no such instant. An order relation
 /// is asked only of values that have an order. It takes no memory.
 ///
-/// `Passed` names the formula of the first entry that has a part that does not fit: on each piece
+/// The fault names the formula of the first entry that has a part that does not fit: on each piece
 /// that the operands share F1 at its ends, then F2, the gaps there, also on pieces behind one that
 /// has settled the answer. Steady courses have no formula, and there is an answer always.
 pub fn ever<C: Compared + Drop>(
@@ -64,7 +64,7 @@ pub fn ever<C: Compared + Drop>(
     a: Operand<'_, C>,
     b: Operand<'_, C>,
     rel: Rel,
-) -> Result<Option<bool>, Passed>
+) -> Result<Option<bool>, Formula>
 where
     C::Base: Drop,
     requires asked { MayAsk C.ordered rel }
@@ -80,13 +80,13 @@ where
 /// signs; MobilityDB's always comparisons). None exactly where there is no such instant. An order
 /// relation is asked only of values that have an order. It takes no memory.
 ///
-/// `Passed` is that of `ever`.
+/// The fault is that of `ever`.
 pub fn always<C: Compared + Drop>(
     alloc: Global,
     a: Operand<'_, C>,
     b: Operand<'_, C>,
     rel: Rel,
-) -> Result<Option<bool>, Passed>
+) -> Result<Option<bool>, Formula>
 where
     C::Base: Drop,
     requires asked { MayAsk C.ordered rel }

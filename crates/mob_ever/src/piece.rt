@@ -7,7 +7,7 @@ ghost use Rattle.mob_ever.specs.Met.{piece_meets};
 
 use crate::taken::gaps_meet;
 use mob_cells::gaps_at_ends;
-use mob_slice::{Compared, Passed, Piece, Rel};
+use mob_slice::{Compared, Piece, Rel, Formula};
 use std::alloc::Global;
 
 // Whether the comparison has the wanted truth value at some instant of the piece, of courses that
@@ -17,7 +17,7 @@ fn lines_meet<C: Compared + Drop>(
     piece: &Piece<'_, C, C>,
     rel: Rel,
     want: bool,
-) -> Result<bool, Passed>
+) -> Result<bool, Formula>
 where
     C::Base: Drop,
     requires moves { C.STEADY ≡ false }
@@ -33,14 +33,14 @@ where
 
 /// Whether the comparison has the wanted truth value at some instant of the piece.
 ///
-/// `Passed` names the formula of the first entry that does not fit: F1 at the ends of the piece,
+/// The fault names the formula of the first entry that does not fit: F1 at the ends of the piece,
 /// then F2, the gaps there.
 pub fn piece_meets<C: Compared + Drop>(
     alloc: Global,
     piece: &Piece<'_, C, C>,
     rel: Rel,
     want: bool,
-) -> Result<bool, Passed>
+) -> Result<bool, Formula>
 where
     C::Base: Drop,
     requires asked { MayAsk C.ordered rel }

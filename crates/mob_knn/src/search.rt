@@ -46,7 +46,7 @@ fn look<L: Ledger>(
         Ok(None) => Ok(()),
         Err(passed) => Err(NearFault::Passed {
             row,
-            formula: passed.formula,
+            formula: passed,
         }),
     }
 }

@@ -10,8 +10,8 @@ use Rattle.mob_slice.specs.Entries.{Entry, IsFirst}
 use Rattle.mob_slice.specs.declared.slice.Slice.{Slice}
 use Rattle.mob_slice.specs.declared.steady.Steady.{Steady}
 use Rattle.mob_slice.specs.declared.formula.Formula.{Formula}
-use Rattle.mob_slice.specs.declared.formula.OpFault.{OpFault}
-use Rattle.mob_slice.specs.declared.formula.OpFault.TheVariants.{Passed, NoMemory}
+use Rattle.mob_list.specs.declared.fault.Fault.{Fault}
+use Rattle.mob_list.specs.declared.fault.Fault.TheVariants.{Because, NoMemory}
 use Rattle.mob_lifted.specs.OnPiece.{AreKeptOn, IsKeptBy}
 
 -- the slice that has one value on a span
@@ -35,7 +35,7 @@ module _ {C B : Type 0} (value : C → Ratio → Ratio → Ratio → B) (start e
   kept_same f g r v e h = record { ordered = h.ordered; inside = h.inside; values = λ t i. h.values t i ∙ e t i }
 
   -- the same values under another name, behind other entries
-  pub kept_behind : {V : Type 0} (items : V → List (Slice C)) (f g : Ratio → Option B) (r : SpanOf) (before after : List Entry) (q : Result V OpFault) → ((t : Ratio) → has r t ≡ true → f t ≡ g t) → ((o : Option Formula) → IsFirst after o → IsFirst before o) → IsKeptBy value start end items f r after q → IsKeptBy value start end items g r before q
+  pub kept_behind : {V : Type 0} (items : V → List (Slice C)) (f g : Ratio → Option B) (r : SpanOf) (before after : List Entry) (q : Result V (Fault Formula)) → ((t : Ratio) → has r t ≡ true → f t ≡ g t) → ((o : Option Formula) → IsFirst after o → IsFirst before o) → IsKeptBy value start end items f r after q → IsKeptBy value start end items g r before q
   kept_behind items f g r before after (Ok v) e h m = (kept_same f g r (items v) e m.0, h None m.1)
-  kept_behind items f g r before after (Err (Passed x)) e h m = h (Some x) m
+  kept_behind items f g r before after (Err (Because x)) e h m = h (Some x) m
   kept_behind items f g r before after (Err NoMemory) e h m = tt

@@ -7,8 +7,8 @@ use Rattle.mob_span.specs.Pieces.{piece_at}
 use Rattle.mob_slice.specs.Pieces.{AreInside}
 use Rattle.mob_slice.specs.declared.slice.Slice.{Slice}
 use Rattle.mob_slice.specs.declared.formula.Formula.{Formula}
-use Rattle.mob_slice.specs.declared.formula.OpFault.{OpFault}
-use Rattle.mob_slice.specs.declared.formula.OpFault.TheVariants.{Passed}
+use Rattle.mob_list.specs.declared.fault.Fault.{Fault}
+use Rattle.mob_list.specs.declared.fault.Fault.TheVariants.{Because}
 
 -- the slices are those that were given for each piece, in order
 abbrev pub AreGivenInOrder : {P D V : Type 0} → (V → List (Slice D)) → (P → V → Type 0) → List P → List (Slice D) → Type 0
@@ -33,13 +33,13 @@ IsFirstFailure gives fails [] = ⊥
 IsFirstFailure {P} {V} gives fails (p ∷ pieces) = fails p ⊎ ((v : V) × gives p v × IsFirstFailure gives fails pieces)
 
 -- what a call gives on a piece that it may be given
-abbrev pub GivesFit : {P V : Type 0} → (P → Type 0) → (P → Result V OpFault → Type 0) → P → V → Type 0
+abbrev pub GivesFit : {P V : Type 0} → (P → Type 0) → (P → Result V (Fault Formula) → Type 0) → P → V → Type 0
 GivesFit fits returns p v = fits p × returns p (Ok v)
 
 -- the call names the formula there
-abbrev pub PassesFit : {P V : Type 0} → (P → Type 0) → (P → Result V OpFault → Type 0) → Formula → P → Type 0
-PassesFit fits returns formula p = fits p × returns p (Err (Passed formula))
+abbrev pub PassesFit : {P V : Type 0} → (P → Type 0) → (P → Result V (Fault Formula) → Type 0) → Formula → P → Type 0
+PassesFit fits returns formula p = fits p × returns p (Err (Because formula))
 
 -- on each piece that it may be given the call gives ordered slices that lie in the piece
-abbrev pub AnswersInside : {P D B V : Type 0} → (D → B) → (D → B) → (P → SpanOf) → (V → List (Slice D)) → (P → Type 0) → (P → Result V OpFault → Type 0) → Type 0
+abbrev pub AnswersInside : {P D B V : Type 0} → (D → B) → (D → B) → (P → SpanOf) → (V → List (Slice D)) → (P → Type 0) → (P → Result V (Fault Formula) → Type 0) → Type 0
 AnswersInside {P} {D} {B} {V} start end span items fits returns = (p : P) (v : V) → has_instant (span p) ≡ true → fits p → returns p (Ok v) → IsOrdered start end (items v) × AreInside (span p) (items v)

@@ -11,7 +11,6 @@ use Rattle.mob_span.specs.Pieces.{PiecesAreClear}
 use Rattle.mob_span.proofs.SpanLemmas.{some_instant}
 use Rattle.mob_slice.specs.Sides.{OperandOf, pieces, given_at, has_slices}
 use Rattle.mob_slice.specs.Lines.{plane_value_of}
-use Rattle.mob_slice.specs.declared.formula.Passed.{Passed}
 use Rattle.mob_slice.specs.declared.line.PlaneLine.{PlaneLine}
 use Rattle.mob_lift.specs.Sometime.{HaveCommon, IsEver}
 use Rattle.mob_lift.proofs.PieceAt.{no_common, common_by}
@@ -19,6 +18,7 @@ use Rattle.mob_quadratic.proofs.Convex.{square_le}
 use Rattle.mob_near.specs.Distances.{distance_squared, are_within}
 use Rattle.mob_near.specs.Entries.{PointPiece}
 use Rattle.mob_near.specs.Legs.{are_some}
+use Rattle.mob_slice.specs.declared.formula.Formula.{Formula}
 
 -- ---- a common instant
 -- the first step of a walk tells whether there is a piece
@@ -46,7 +46,7 @@ module _ (d : Ratio) (left right : Ratio → Option Point) where
   never_within false r h k e = subst (IsEver (are_within d) left right) (sym e) (λ m. true≢false (sym (h.1 m)))
 
   -- without a common instant there is no answer
-  pub none_within : (b : Bool) (r : Result (Option Bool) Passed) (f : Passed) → IsTrue b ↔ HaveCommon left right → r ≡ cond b (Err f) (Ok None) → IfOk r (IsEver (are_within d) left right)
+  pub none_within : (b : Bool) (r : Result (Option Bool) Formula) (f : Formula) → IsTrue b ↔ HaveCommon left right → r ≡ cond b (Err f) (Ok None) → IfOk r (IsEver (are_within d) left right)
   none_within true r f h e = subst (λ z. IfOk z (IsEver (are_within d) left right)) (sym e) tt
   none_within false r f h e = subst (λ z. IfOk z (IsEver (are_within d) left right)) (sym e) (λ m. true≢false (sym (h.1 m)))
 
@@ -65,7 +65,7 @@ module _ (d : Ratio) (left right : Ratio → Option Point) where
   )
 
   -- two points are within a distance where the squares stand so
-  pub within_by_squares : (s : Ratio) (r : Result (Option Bool) Passed) → before d nil ≡ false → s ≡ d *ℚ d → IfOk r (IsEver (λ x y. up_to (distance_squared x y) s) left right) → IfOk r (IsEver (are_within d) left right)
+  pub within_by_squares : (s : Ratio) (r : Result (Option Bool) Formula) → before d nil ≡ false → s ≡ d *ℚ d → IfOk r (IsEver (λ x y. up_to (distance_squared x y) s) left right) → IfOk r (IsEver (are_within d) left right)
   within_by_squares s (Ok v) h e k = ever_within_by s v h e k
   within_by_squares s (Err f) h e k = tt
 

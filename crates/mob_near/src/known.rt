@@ -14,9 +14,10 @@ ghost use Rattle.mob_slice.specs.Lines.{plane_value_of, plane_parts_of};
 ghost use Rattle.mob_slice.specs.declared.formula.Formula.TheVariants.{F1};
 ghost use Rattle.mob_near.specs.Distances.{length_squared};
 
+use mob_list::fault::Fault;
 use mob_frac::{Frac, Overflow};
 use mob_plane::Point;
-use mob_slice::{Course, Formula, LookFault, Passed, PlaneLine, Slice};
+use mob_slice::{Course, Formula, PlaneLine, Slice};
 use mob_sync::are_alike;
 use std::alloc::Global;
 use std::marker::Model;
@@ -127,14 +128,14 @@ fn found_again(found: &Option<Found>, slice: &Slice<PlaneLine>, t: &Frac) -> Opt
 }
 
 // The point of a slice at an instant strictly inside, as it is kept.
-fn found_on(alloc: Global, slice: &Slice<PlaneLine>, t: &Frac) -> Result<Found, Passed>
+fn found_on(alloc: Global, slice: &Slice<PlaneLine>, t: &Frac) -> Result<Found, Formula>
     requires inside { has slice.now.span t.now ≡ true }
     ensures value { IsComputed F1 (slice_parts plane_parts_of slice.now t.now) (record { slice = slice.now; at = t.now; point = slice_value plane_value_of slice.now t.now }) result }
 {
     let point = match slice.course.at(alloc, &slice.span, t) {
         Ok(point) => point,
-        Err(LookFault::Passed { formula }) => return Err(Passed { formula }),
-        Err(LookFault::NoMemory) => unreachable!(),
+        Err(Fault::Because(formula)) => return Err(formula),
+        Err(Fault::NoMemory) => unreachable!(),
     };
     Ok(Found {
         slice: Slice {
@@ -152,7 +153,7 @@ fn point_within(
     slice: &Slice<PlaneLine>,
     t: &Frac,
     found: &mut Option<Found>,
-) -> Result<Point, Passed>
+) -> Result<Point, Formula>
     requires inside { has slice.now.span t.now ≡ true }
     ensures value { IsComputed F1 (slice_parts plane_parts_of slice.now t.now) (slice_value plane_value_of slice.now t.now) result }
 {
@@ -169,13 +170,13 @@ fn point_within(
 }
 
 /// The point of a slice at an instant of its span, or its limit at an end that the span leaves out.
-/// `Passed` names F1, exactly where a part of it does not fit.
+/// The fault names F1, exactly where a part of it does not fit.
 pub fn point_at(
     alloc: Global,
     slice: &Slice<PlaneLine>,
     t: &Frac,
     found: &mut Option<Found>,
-) -> Result<Point, Passed>
+) -> Result<Point, Formula>
     requires after { up_to slice.now.span.lower t.now ≡ true }
     requires until { up_to t.now slice.now.span.upper ≡ true }
     ensures value { IsComputed F1 (slice_parts plane_parts_of slice.now t.now) (slice_value plane_value_of slice.now t.now) result }

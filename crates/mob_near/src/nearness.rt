@@ -17,7 +17,7 @@ use crate::piece::{piece_approach, piece_reaches};
 use mob_frac::Frac;
 use mob_lift::either;
 use mob_plane::smaller;
-use mob_slice::{Formula, Operand, Passed, PlaneLine};
+use mob_slice::{Formula, Operand, PlaneLine};
 use mob_sync::Pieces;
 use std::alloc::Global;
 
@@ -42,13 +42,11 @@ fn never(shared: bool) -> Option<bool>
 }
 
 // The square of a distance does not fit, where a piece asks for it.
-fn passed_where(shared: bool) -> Result<Option<bool>, Passed>
+fn passed_where(shared: bool) -> Result<Option<bool>, Formula>
     ensures value { result ≡ cond shared (Err (record { formula = F6 })) (Ok None) }
 {
     if shared {
-        return Err(Passed {
-            formula: Formula::F6,
-        });
+        return Err(Formula::F6);
     }
     Ok(None)
 }
@@ -60,7 +58,7 @@ fn ever_reaches(
     a: Operand<'_, PlaneLine>,
     b: Operand<'_, PlaneLine>,
     square: &Frac,
-) -> Result<Option<bool>, Passed>
+) -> Result<Option<bool>, Formula>
     requires moving { (has_slices (operand_of a) || has_slices (operand_of b)) ≡ true }
     requires square { up_to nil square.now ≡ true }
     ensures value { IfOk result (IsEver (λ x y. up_to (distance_squared x y) square.now) (given_at plane_value_of (operand_of a.entry)) (given_at plane_value_of (operand_of b.entry))) }
@@ -83,7 +81,7 @@ fn ever_reaches(
 /// does not. For a distance below 0 the answer is false. None exactly where there is no such
 /// instant. It takes no memory.
 ///
-/// `Passed` names the formula of the first entry that has a part that does not fit: on each piece
+/// The fault names the formula of the first entry that has a part that does not fit: on each piece
 /// that the two share F6, `d·d`, then F1, the points at its ends, F2, their difference there by
 /// coordinate, F6, the squares of its length, and F5, the nearest point between, also on pieces
 /// behind one that has settled the answer. A distance below 0 has no formula.
@@ -92,7 +90,7 @@ pub fn ever_within(
     a: Operand<'_, PlaneLine>,
     b: Operand<'_, PlaneLine>,
     d: &Frac,
-) -> Result<Option<bool>, Passed>
+) -> Result<Option<bool>, Formula>
     requires moving { (has_slices (operand_of a) || has_slices (operand_of b)) ≡ true }
     ensures value { IfOk result (IsEver (are_within d.now) (given_at plane_value_of (operand_of a.entry)) (given_at plane_value_of (operand_of b.entry))) }
     ensures first { IsDecided (entries_of_within d.now (pieces (operand_of a.entry) (operand_of b.entry))) result }
@@ -121,12 +119,12 @@ fn nearest_of(found: Option<Frac>, here: Frac) -> Frac
 /// approached, at an end that is left out. None exactly where there is no such instant. It takes no
 /// memory. (MobilityDB's `nearestApproachDistance` has the distance, which may be irrational.)
 ///
-/// `Passed` is that of `ever_within`, without the square of a distance.
+/// The fault is that of `ever_within`, without the square of a distance.
 pub fn approach_squared(
     alloc: Global,
     a: Operand<'_, PlaneLine>,
     b: Operand<'_, PlaneLine>,
-) -> Result<Option<Frac>, Passed>
+) -> Result<Option<Frac>, Formula>
     requires moving { (has_slices (operand_of a) || has_slices (operand_of b)) ≡ true }
     ensures value { IfOk result (IsApproach (given_at plane_value_of (operand_of a.entry)) (given_at plane_value_of (operand_of b.entry))) }
     ensures first { IsDecided (flat_map entries_of_approach (pieces (operand_of a.entry) (operand_of b.entry))) result }

@@ -6,12 +6,12 @@ use Rattle.mob_outcome.specs.declared.fault.EvalFault.TheVariants as eval
 use Rattle.mob_value.specs.declared.held.Held.{Held}
 use Rattle.mob_value.specs.Held.{held}
 use Rattle.mob_slice.specs.declared.formula.Formula.{Formula}
-use Rattle.mob_slice.specs.declared.formula.OpFault.{OpFault}
-use Rattle.mob_slice.specs.declared.formula.OpFault.TheVariants.{Passed, NoMemory}
+use Rattle.mob_list.specs.declared.fault.Fault.{Fault}
+use Rattle.mob_list.specs.declared.fault.Fault.TheVariants.{Because, NoMemory}
 
 -- the fault of an operator at a place
-abbrev pub fault_of : ℕ → OpFault → EvalFault
-fault_of place (Passed formula) = eval.Passed place formula
+abbrev pub fault_of : ℕ → Fault Formula → EvalFault
+fault_of place (Because formula) = eval.Passed place formula
 fault_of place NoMemory = eval.NoMemory
 
 -- what holds of the place and formula of a fault; a failed allocation says nothing

@@ -25,8 +25,8 @@ use Rattle.mob_slice.specs.Entries.{IsFirst, IsJudged}
 use Rattle.mob_slice.specs.declared.slice.Slice.{Slice}
 use Rattle.mob_slice.specs.declared.formula.Formula.{Formula}
 use Rattle.mob_slice.specs.declared.formula.Formula.TheVariants.{F1}
-use Rattle.mob_slice.specs.declared.formula.OpFault.{OpFault}
-use Rattle.mob_slice.specs.declared.formula.OpFault.TheVariants.{Passed, NoMemory}
+use Rattle.mob_list.specs.declared.fault.Fault.{Fault}
+use Rattle.mob_list.specs.declared.fault.Fault.TheVariants.{Because, NoMemory}
 use Rattle.mob_slice.proofs.Cuts.{all_both, all_first, all_second}
 use Rattle.mob_lifted.proofs.Options.{none_some}
 use Rattle.mob_cells.specs.Restricted.{where_wanted, AreRestricted}
@@ -80,9 +80,9 @@ module _ {C : Type 0} (parts : C → Ratio → Ratio → Ratio → List Ratio) w
   first_fails (p ∷ ps) n = ⊎_elim (λ m. inl (m, first_fails ps (λ k. n (m, k)))) (λ m. inr (m, refl)) (parts_or (at_ends (slice_parts parts p.left) p.span))
 
   -- cuts that fit together are judged alike
-  judged_alike : {V : Type 0} (ps qs : List (PieceOf (Slice C) SpanOf)) (r : Result V OpFault) → (CutsFit ps → CutsFit qs) → (CutsFit qs → CutsFit ps) → IsJudged (flat_map (entry_of_cut parts) ps) r → IsJudged (flat_map (entry_of_cut parts) qs) r
+  judged_alike : {V : Type 0} (ps qs : List (PieceOf (Slice C) SpanOf)) (r : Result V (Fault Formula)) → (CutsFit ps → CutsFit qs) → (CutsFit qs → CutsFit ps) → IsJudged (flat_map (entry_of_cut parts) ps) r → IsJudged (flat_map (entry_of_cut parts) qs) r
   judged_alike ps qs (Ok v) f g h = none_first qs (f (cuts_fit ps h))
-  judged_alike ps qs (Err (Passed e)) f g h = let m = one_fails ps e h in subst (λ o. IsFirst (flat_map (entry_of_cut parts) qs) o) (sym m.0) (first_fails qs (λ k. m.1 (g k)))
+  judged_alike ps qs (Err (Because e)) f g h = let m = one_fails ps e h in subst (λ o. IsFirst (flat_map (entry_of_cut parts) qs) o) (sym m.0) (first_fails qs (λ k. m.1 (g k)))
   judged_alike ps qs (Err NoMemory) f g h = tt
 
   -- the cuts of one slice, at the ends of what it shares with each span
@@ -129,7 +129,7 @@ module _ {C B : Type 0} {steady copies : Bool} {value : C → Ratio → Ratio �
 
   -- The remainders that a set leaves of the time of a value cut it where the set does. So what is
   -- judged by the ones is judged by the other.
-  pub judged_by_set : {V : Type 0} (v : List (Slice C)) (spans remainders : List SpanOf) (h : SpanOf) (r : Result V OpFault) → AllByRecursion (λ s. is_inside h s.span ≡ true) v → has_instant h ≡ true → IsSpanSet spans → remainders ≡ remainders_of h spans
+  pub judged_by_set : {V : Type 0} (v : List (Slice C)) (spans remainders : List SpanOf) (h : SpanOf) (r : Result V (Fault Formula)) → AllByRecursion (λ s. is_inside h s.span ≡ true) v → has_instant h ≡ true → IsSpanSet spans → remainders ≡ remainders_of h spans
       → IsJudged (flat_map (entry_of_cut parts) (shared_pieces (λ s. s.span) (λ r. r) v remainders)) r → IsJudged (flat_map (entry_of_cut parts) (shared_pieces (λ s. s.span) (λ r. r) v spans)) r
   judged_by_set v spans remainders h r a i o e j =
       judged_alike parts (shared_pieces (λ s. s.span) (λ r. r) v (remainders_of h spans)) (shared_pieces (λ s. s.span) (λ r. r) v spans) r

@@ -11,9 +11,10 @@ ghost use Rattle.mob_lift.specs.Given.{IsGiven};
 ghost use Rattle.mob_cells.specs.Restricted.{IsRestricted, AreRestricted};
 ghost use Rattle.mob_restrict.specs.Cuts.{entry_of_cut};
 
+use mob_list::fault::Fault;
 use mob_lift::{lift, listed};
 use mob_normal::normal;
-use mob_slice::{Course, Moving, OpFault, Slice, cut, operator_fault};
+use mob_slice::{Course, Moving, Slice, cut, Formula};
 use mob_span::{Met, SharedPieces, Span, SpanSet, remainders, whole};
 use std::alloc::Global;
 
@@ -21,7 +22,7 @@ use std::alloc::Global;
 fn on_met<C: Course + Drop>(
     alloc: Global,
     met: &Met<'_, Slice<C>, Span>,
-) -> Result<Vec<Slice<C>>, OpFault>
+) -> Result<Vec<Slice<C>>, Fault<Formula>>
 where
     C::Base: Drop,
     requires holds { HoldsMet C.start_of C.end_of (met_of met.now) }
@@ -29,7 +30,7 @@ where
 {
     match cut(alloc, met.left, &met.span) {
         Ok(slice) => listed(alloc, slice),
-        Err(fault) => Err(operator_fault(fault)),
+        Err(fault) => Err(fault),
     }
 }
 
@@ -38,7 +39,7 @@ fn within<C: Course + Drop>(
     alloc: Global,
     a: &Moving<C>,
     spans: &[Span],
-) -> Result<Vec<Slice<C>>, OpFault>
+) -> Result<Vec<Slice<C>>, Fault<Formula>>
 where
     C::Base: Drop,
     requires order { PiecesAreClear (λ r. r) spans.now }
@@ -48,7 +49,7 @@ where
     lift(
         alloc,
         SharedPieces::new(a.slices(), spans),
-        |met: &Met<'_, Slice<C>, Span>| -> Result<Vec<Slice<C>>, OpFault>
+        |met: &Met<'_, Slice<C>, Span>| -> Result<Vec<Slice<C>>, Fault<Formula>>
             requires holds { HoldsMet C.start_of C.end_of (met_of met.now) }
             ensures given { IsGiven C.value_of C.start_of C.end_of (λ v. v.items) (slice_value C.value_of met.now.left.now) met.now.span (entry_of_cut C.parts_of (met_of met.now)) result }
         { on_met::<C>(alloc, met) },
@@ -60,7 +61,7 @@ fn inside<C: Course + Drop>(
     alloc: Global,
     a: &Moving<C>,
     when: &SpanSet,
-) -> Result<Vec<Slice<C>>, OpFault>
+) -> Result<Vec<Slice<C>>, Fault<Formula>>
 where
     C::Base: Drop,
     ensures slices { IfOk result (λ all. AreRestricted C.value_of C.start_of C.end_of true (λ t x. in_some when.now t) a.now all.items) }
@@ -74,7 +75,7 @@ fn outside<C: Course + Drop>(
     alloc: Global,
     a: &Moving<C>,
     when: &SpanSet,
-) -> Result<Vec<Slice<C>>, OpFault>
+) -> Result<Vec<Slice<C>>, Fault<Formula>>
 where
     C::Base: Drop,
     ensures slices { IfOk result (λ all. AreRestricted C.value_of C.start_of C.end_of false (λ t x. in_some when.now t) a.now all.items) }
@@ -89,20 +90,20 @@ where
     let _ = time.lower();
     match remainders(alloc, &time, spans) {
         Ok(left) => within(alloc, a, left.as_slice()),
-        Err(_) => Err(OpFault::NoMemory),
+        Err(_) => Err(Fault::NoMemory),
     }
 }
 
 /// The temporal value at the instants of the set (MobilityDB's `atTime`). None exactly where no
 /// instant is left.
 ///
-/// `Passed` names F1, exactly where a part of it does not fit at an end of what a slice and a span
+/// The fault names F1, exactly where a part of it does not fit at an end of what a slice and a span
 /// of the set share.
 pub fn at_time<C: Course + Drop>(
     alloc: Global,
     a: &Moving<C>,
     when: &SpanSet,
-) -> Result<Option<Moving<C>>, OpFault>
+) -> Result<Option<Moving<C>>, Fault<Formula>>
 where
     C::Base: Drop,
     ensures value { IfOk result (λ r. IsRestricted C.value_of true (λ t x. in_some when.now t) a.now r) }
@@ -111,20 +112,20 @@ where
     let slices = inside(alloc, a, when)?;
     match normal(alloc, slices) {
         Ok(value) => Ok(value),
-        Err(_) => Err(OpFault::NoMemory),
+        Err(_) => Err(Fault::NoMemory),
     }
 }
 
 /// The temporal value at the instants that are not of the set (MobilityDB's `minusTime`). None
 /// exactly where no instant is left.
 ///
-/// `Passed` names F1, exactly where `at_time` passes it: the cuts of the one are those of the
+/// The fault names F1, exactly where `at_time` passes it: the cuts of the one are those of the
 /// other.
 pub fn minus_time<C: Course + Drop>(
     alloc: Global,
     a: &Moving<C>,
     when: &SpanSet,
-) -> Result<Option<Moving<C>>, OpFault>
+) -> Result<Option<Moving<C>>, Fault<Formula>>
 where
     C::Base: Drop,
     ensures value { IfOk result (λ r. IsRestricted C.value_of false (λ t x. in_some when.now t) a.now r) }
@@ -133,6 +134,6 @@ where
     let slices = outside(alloc, a, when)?;
     match normal(alloc, slices) {
         Ok(value) => Ok(value),
-        Err(_) => Err(OpFault::NoMemory),
+        Err(_) => Err(Fault::NoMemory),
     }
 }

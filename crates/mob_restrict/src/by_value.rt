@@ -7,10 +7,11 @@ ghost use Rattle.mob_cells.specs.Kept.{IsKeptWhere};
 ghost use Rattle.mob_cells.specs.Restricted.{IsRestricted};
 ghost use Rattle.mob_restrict.specs.Values.{entries_of_value};
 
+use mob_list::fault::Fault;
 use mob_cells::{ByGaps, Restriction, gap_functions, kept, restricted};
 use mob_lift::listed;
 use mob_normal::normal;
-use mob_slice::{Compared, Course, Moving, OpFault, Rel, Slice, cut, operator_fault};
+use mob_slice::{Compared, Course, Moving, Rel, Slice, cut, Formula};
 use mob_span::same_bool;
 use std::alloc::Global;
 
@@ -20,7 +21,7 @@ fn on_lines<C: Compared + Drop>(
     slice: &Slice<C>,
     value: &C::Base,
     want: bool,
-) -> Result<Vec<Slice<C>>, OpFault>
+) -> Result<Vec<Slice<C>>, Fault<Formula>>
 where
     C::Base: Drop,
     requires moves { C.STEADY ≡ false }
@@ -53,7 +54,7 @@ fn on_steps<C: Compared + Drop>(
     slice: &Slice<C>,
     value: &C::Base,
     want: bool,
-) -> Result<Vec<Slice<C>>, OpFault>
+) -> Result<Vec<Slice<C>>, Fault<Formula>>
 where
     C::Base: Drop,
     requires steady { C.STEADY ≡ true }
@@ -66,7 +67,7 @@ where
     }
     match cut(alloc, slice, &slice.span) {
         Ok(part) => listed(alloc, part),
-        Err(fault) => Err(operator_fault(fault)),
+        Err(fault) => Err(fault),
     }
 }
 
@@ -89,7 +90,7 @@ where
         alloc: Global,
         slice: &Slice<C>,
         want: bool,
-    ) -> Result<Vec<Slice<C>>, OpFault> {
+    ) -> Result<Vec<Slice<C>>, Fault<Formula>> {
         if C::STEADY {
             return on_steps::<C>(alloc, slice, self.value, want);
         }
@@ -103,7 +104,7 @@ fn to_value<C: Compared + Drop>(
     a: &Moving<C>,
     value: &C::Base,
     want: bool,
-) -> Result<Option<Moving<C>>, OpFault>
+) -> Result<Option<Moving<C>>, Fault<Formula>>
 where
     C::Base: Drop,
     ensures value { IfOk result (λ r. IsRestricted C.value_of want (λ t x. C.relation Eq x value.now) a.now r) }
@@ -112,21 +113,21 @@ where
     let slices = restricted::<C, ToValue<'_, C>>(alloc, a.slices(), &ToValue { value }, want)?;
     match normal(alloc, slices) {
         Ok(value) => Ok(value),
-        Err(_) => Err(OpFault::NoMemory),
+        Err(_) => Err(Fault::NoMemory),
     }
 }
 
 /// The temporal value at the instants at which it is that value (MobilityDB's `atValues`). None
 /// exactly where there is no such instant.
 ///
-/// `Passed` names the formula of the first entry that has a part that does not fit: on each slice
+/// The fault names the formula of the first entry that has a part that does not fit: on each slice
 /// F2, the gaps to that value at its ends, then F3, their roots, then F1 at these roots. Steady
 /// courses have no formula.
 pub fn at_value<C: Compared + Drop>(
     alloc: Global,
     a: &Moving<C>,
     value: &C::Base,
-) -> Result<Option<Moving<C>>, OpFault>
+) -> Result<Option<Moving<C>>, Fault<Formula>>
 where
     C::Base: Drop,
     ensures value { IfOk result (λ r. IsRestricted C.value_of true (λ t x. C.relation Eq x value.now) a.now r) }
@@ -138,12 +139,12 @@ where
 /// The temporal value at the instants at which it is not that value (MobilityDB's `minusValues`).
 /// None exactly where there is no such instant.
 ///
-/// `Passed` is that of `at_value`: the formulas are the same, whatever is left.
+/// The fault is that of `at_value`: the formulas are the same, whatever is left.
 pub fn minus_value<C: Compared + Drop>(
     alloc: Global,
     a: &Moving<C>,
     value: &C::Base,
-) -> Result<Option<Moving<C>>, OpFault>
+) -> Result<Option<Moving<C>>, Fault<Formula>>
 where
     C::Base: Drop,
     ensures value { IfOk result (λ r. IsRestricted C.value_of false (λ t x. C.relation Eq x value.now) a.now r) }

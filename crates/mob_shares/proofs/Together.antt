@@ -19,8 +19,8 @@ use Rattle.mob_slice.specs.declared.part.One.{One}
 use Rattle.mob_slice.specs.declared.part.Pair.{Pair}
 use Rattle.mob_slice.specs.declared.formula.Formula.{Formula}
 use Rattle.mob_slice.specs.declared.formula.Formula.TheVariants.{F1}
-use Rattle.mob_slice.specs.declared.formula.OpFault.{OpFault}
-use Rattle.mob_slice.specs.declared.formula.OpFault.TheVariants.{Passed}
+use Rattle.mob_list.specs.declared.fault.Fault.{Fault}
+use Rattle.mob_list.specs.declared.fault.Fault.TheVariants.{Because}
 use Rattle.mob_slice.proofs.Cuts.{all_both, all_first, all_second}
 use Rattle.mob_slice.proofs.LookUps.{value_by}
 use Rattle.mob_lifted.specs.Piecewise.{AreGivenInOrder, IsPiecewise, IsFirstFailure}
@@ -43,7 +43,7 @@ use Rattle.mob_shares.proofs.Walked.{Walk, step_of}
 pub pair_fit : {C B : Type 0} (start end : C → B) (p : Pair C C) → HoldsShare start end (share_of (Both p)) → IsPairFit start end start end p
 pair_fit start end p h = record { in_left = h.0.1; in_right = h.1.1; left = h.0.0; right = h.1.0 }
 
-module _ {C B V : Type 0} (value : C → Ratio → Ratio → Ratio → B) (start end : C → B) (parts : C → Ratio → Ratio → Ratio → List Ratio) (items : V → List (Slice C)) (returns : Pair C C → Result V OpFault → Type 0) (gives : Share C → V → Type 0)
+module _ {C B V : Type 0} (value : C → Ratio → Ratio → Ratio → B) (start end : C → B) (parts : C → Ratio → Ratio → Ratio → List Ratio) (items : V → List (Slice C)) (returns : Pair C C → Result V (Fault Formula) → Type 0) (gives : Share C → V → Type 0)
     (gave : (p : Share C) (x : V) → gives p x → HoldsShare start end (share_of p) × IsShareGiven value start end parts items returns p (Ok x)) where
   -- the value of cuts at an instant
   abbrev cut_value : List (CutOf (Slice C)) → Ratio → Option B
@@ -139,15 +139,15 @@ module _ {C B V : Type 0} (value : C → Ratio → Ratio → Ratio → B) (start
     cuts_right v w (Both p) x e i g a = at_behind At w p.span p.right.now (next_heads v w (share_of (Both p)) e).1 (pair_right p (answered_both p x g i).0) a
 
     module _ (f : Formula) (fails : Share C → Type 0)
-        (failed : (p : Share C) → fails p → HoldsShare start end (share_of p) × IsShareGiven value start end parts items returns p (Err (Passed f)))
-        (judged : (p : Pair C C) → HoldsShare start end (share_of (Both p)) → returns p (Err (Passed f)) → ((f ≡ F1) × (¬ AllFit (piece_parts parts (pair_of p)))) ⊎ AllFit (piece_parts parts (pair_of p))) where
+        (failed : (p : Share C) → fails p → HoldsShare start end (share_of p) × IsShareGiven value start end parts items returns p (Err (Because f)))
+        (judged : (p : Pair C C) → HoldsShare start end (share_of (Both p)) → returns p (Err (Because f)) → ((f ≡ F1) × (¬ AllFit (piece_parts parts (pair_of p)))) ⊎ AllFit (piece_parts parts (pair_of p))) where
       abbrev Refused : List (PieceOf (Slice C) (Slice C)) → Type 0
       Refused ps = IsFirstFailure Answered (IsRefused start end parts returns f) ps
 
-      alone_fails : (o : One C) → IsShareGiven value start end parts items returns (Left o) (Err (Passed f)) → (f ≡ F1) × (¬ AllFit (at_ends (slice_parts parts o.slice.now) o.span))
+      alone_fails : (o : One C) → IsShareGiven value start end parts items returns (Left o) (Err (Because f)) → (f ≡ F1) × (¬ AllFit (at_ends (slice_parts parts o.slice.now) o.span))
       alone_fails o h = ⊎_elim (λ m. none_some f (sym m.1)) (λ m. (same_some m.1, m.0)) h
 
-      fails_left : (v w : List (CutOf (Slice C))) (o : One C) → PiecesAreClear cut_span w → AtCuts At v → next_share v w ≡ Some (share_of (Left o)) → IsShareGiven value start end parts items returns (Left o) (Err (Passed f)) → Refused (shared_cuts v w)
+      fails_left : (v w : List (CutOf (Slice C))) (o : One C) → PiecesAreClear cut_span w → AtCuts At v → next_share v w ≡ Some (share_of (Left o)) → IsShareGiven value start end parts items returns (Left o) (Err (Because f)) → Refused (shared_cuts v w)
       fails_left v w o k a e h =
           let bad = alone_fails o h in
           let ends = left_ends At v w k a o.span o.slice.now e in
@@ -156,7 +156,7 @@ module _ {C B V : Type 0} (value : C → Ratio → Ratio → Ratio → B) (start
           (λ m. subst Refused (sym m.3) (inl (inl (bad.0, λ all. bad.1 (all_both (slice_parts parts o.slice.now o.span.lower) (slice_parts parts o.slice.now o.span.upper) ends.0 (subst (λ z. At o.slice.now z) m.4 (all_first (slice_parts parts o.slice.now m.0.lower) (slice_parts parts o.slice.now m.0.upper) (all_first (at_ends (slice_parts parts o.slice.now) m.0) (at_ends (slice_parts parts m.1) m.0) all))))))))
           ends.1
 
-      fails_right : (v w : List (CutOf (Slice C))) (o : One C) → PiecesAreClear cut_span v → AtCuts At w → next_share v w ≡ Some (share_of (Right o)) → IsShareGiven value start end parts items returns (Right o) (Err (Passed f)) → Refused (shared_cuts v w)
+      fails_right : (v w : List (CutOf (Slice C))) (o : One C) → PiecesAreClear cut_span v → AtCuts At w → next_share v w ≡ Some (share_of (Right o)) → IsShareGiven value start end parts items returns (Right o) (Err (Because f)) → Refused (shared_cuts v w)
       fails_right v w o k a e h =
           let bad = alone_fails o h in
           let ends = right_ends At v w k a o.span o.slice.now e in
@@ -165,7 +165,7 @@ module _ {C B V : Type 0} (value : C → Ratio → Ratio → Ratio → B) (start
           (λ m. subst Refused (sym m.3) (inl (inl (bad.0, λ all. bad.1 (all_both (slice_parts parts o.slice.now o.span.lower) (slice_parts parts o.slice.now o.span.upper) ends.0 (subst (λ z. At o.slice.now z) m.4 (all_first (slice_parts parts o.slice.now m.0.lower) (slice_parts parts o.slice.now m.0.upper) (all_second (at_ends (slice_parts parts m.1) m.0) (at_ends (slice_parts parts o.slice.now) m.0) all))))))))
           ends.1
 
-      fails_both : (p : Pair C C) (rest : List (PieceOf (Slice C) (Slice C))) → HoldsShare start end (share_of (Both p)) → returns p (Err (Passed f)) → Refused (pair_of p ∷ rest)
+      fails_both : (p : Pair C C) (rest : List (PieceOf (Slice C) (Slice C))) → HoldsShare start end (share_of (Both p)) → returns p (Err (Because f)) → Refused (pair_of p ∷ rest)
       fails_both p rest h r = ⊎_elim (λ m. inl (inl m)) (λ m. inl (inr (m, (p, refl, pair_fit start end p h, r)))) (judged p h r)
 
       -- the first piece of the walk on which a call was refused makes the first shared piece that
@@ -174,7 +174,7 @@ module _ {C B V : Type 0} (value : C → Ratio → Ratio → Ratio → B) (start
       refused_from [] s t can l r y h = absurd h
       refused_from (p ∷ xs) s t can l r y h = ⊎_elim (λ m. first p y.1 (step_of s y.0 p can y.1) (failed p m)) (λ m. later p m.0 m.1 y.1 (step_of s y.0 p can y.1) (λ a b. refused_from xs y.0 t (step_of s y.0 p can y.1).clear a b y.2 m.2)) h
         where
-          first : (p : Share C) → IsShared s p y.0 → IsStep (rest_of s.lefts) (rest_of s.rights) (share_of p) (rest_of y.0.lefts) (rest_of y.0.rights) → HoldsShare start end (share_of p) × IsShareGiven value start end parts items returns p (Err (Passed f)) → Refused (shared_cuts (rest_of s.lefts) (rest_of s.rights))
+          first : (p : Share C) → IsShared s p y.0 → IsStep (rest_of s.lefts) (rest_of s.rights) (share_of p) (rest_of y.0.lefts) (rest_of y.0.rights) → HoldsShare start end (share_of p) × IsShareGiven value start end parts items returns p (Err (Because f)) → Refused (shared_cuts (rest_of s.lefts) (rest_of s.rights))
           first (Left o) i step k = fails_left (rest_of s.lefts) (rest_of s.rights) o can.1 l i.next k.1
           first (Right o) i step k = fails_right (rest_of s.lefts) (rest_of s.rights) o can.0 r i.next k.1
           first (Both p) i step k = subst Refused (sym step.shared) (fails_both p (shared_cuts (rest_of y.0.lefts) (rest_of y.0.rights)) k.0 k.1)
@@ -190,7 +190,7 @@ module _ {C B V : Type 0} (value : C → Ratio → Ratio → Ratio → B) (start
               behind_it (Both p) x g i h = inr (x, answered_both p x g i, h)
 
 -- Of all of two values.
-module _ {C B V : Type 0} {steady copies : Bool} {value : C → Ratio → Ratio → Ratio → B} {start end : C → B} {can_make : B → B → Type 0} {make : B → B → C} {continues : C → C → Ratio → Ratio → Ratio → Bool} {parts : C → Ratio → Ratio → Ratio → List Ratio} (laws : IsCourse steady copies value start end can_make make continues parts) (items : V → List (Slice C)) (returns : Pair C C → Result V OpFault → Type 0) (gives : Share C → V → Type 0)
+module _ {C B V : Type 0} {steady copies : Bool} {value : C → Ratio → Ratio → Ratio → B} {start end : C → B} {can_make : B → B → Type 0} {make : B → B → C} {continues : C → C → Ratio → Ratio → Ratio → Bool} {parts : C → Ratio → Ratio → Ratio → List Ratio} (laws : IsCourse steady copies value start end can_make make continues parts) (items : V → List (Slice C)) (returns : Pair C C → Result V (Fault Formula) → Type 0) (gives : Share C → V → Type 0)
     (gave : (p : Share C) (x : V) → gives p x → HoldsShare start end (share_of p) × IsShareGiven value start end parts items returns p (Ok x))
     (s : Shares C) (v w : List (Slice C)) (can : CanShare s) (left : rest_of s.lefts ≡ wholes (λ s. s.span) v) (right : rest_of s.rights ≡ wholes (λ s. s.span) w) where
   shared_is : shared_cuts (rest_of s.lefts) (rest_of s.rights) ≡ shared_pieces (λ s. s.span) (λ s. s.span) v w
@@ -217,8 +217,8 @@ module _ {C B V : Type 0} {steady copies : Bool} {value : C → Ratio → Ratio 
         }
 
     pub first_refused : (f : Formula) (fails : Share C → Type 0)
-        → ((p : Share C) → fails p → HoldsShare start end (share_of p) × IsShareGiven value start end parts items returns p (Err (Passed f)))
-        → ((p : Pair C C) → HoldsShare start end (share_of (Both p)) → returns p (Err (Passed f)) → ((f ≡ F1) × (¬ AllFit (piece_parts parts (pair_of p)))) ⊎ AllFit (piece_parts parts (pair_of p)))
+        → ((p : Share C) → fails p → HoldsShare start end (share_of p) × IsShareGiven value start end parts items returns p (Err (Because f)))
+        → ((p : Pair C C) → HoldsShare start end (share_of (Both p)) → returns p (Err (Because f)) → ((f ≡ F1) × (¬ AllFit (piece_parts parts (pair_of p)))) ⊎ AllFit (piece_parts parts (pair_of p)))
         → ((ps : List (Share C)) × (t : Shares C) × Yields GivesShare s ps t × IsFirstFailure gives fails ps) → IsFirstRefused start end parts returns v w f
     first_refused f fails failed judged h =
         subst (λ z. IsFirstFailure {V = V} (λ q x. AllFit (piece_parts parts q) × IsAnswered start end returns q (Ok x)) (IsRefused start end parts returns f) z) shared_is

@@ -6,9 +6,10 @@ ghost use Rattle.mob_slice.specs.Lines.{NumbersAreStraight, PointsAreStraight};
 ghost use Rattle.mob_slice.specs.Wholes.{ContinuesAsOne, TwoInstantsFix};
 
 use crate::{
-    Course, Formula, Gaps, Line, LookFault, Moving, One, OpFault, Operand, Pair, Passed, Piece,
-    PlaneLine, Rel, Side, Slice, Steady,
+    Course, Formula, Gaps, Line, Moving, One, Operand, Pair, Piece, PlaneLine, Rel, Side, Slice,
+    Steady,
 };
+use mob_list::fault::Fault;
 use mob_list::laws::crosses_threads;
 use std::marker::{Send, Sync};
 
@@ -64,9 +65,7 @@ pub fn faults_cross_threads() {
     crosses_threads::<Rel>();
     crosses_threads::<Gaps>();
     crosses_threads::<Formula>();
-    crosses_threads::<Passed>();
-    crosses_threads::<LookFault>();
-    crosses_threads::<OpFault>();
+    crosses_threads::<Fault<Formula>>();
 }
 
 /// Steady courses over what crosses threads cross threads.

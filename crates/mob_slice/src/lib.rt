@@ -24,7 +24,7 @@ mod steady;
 pub use comparison::{Compared, Gaps, Ranked, Rel};
 pub use course::Course;
 pub use course::base_value::BaseValue;
-pub use formula::{Formula, LookFault, OpFault, Passed, operator_fault};
+pub use formula::Formula;
 pub use line::{Line, PlaneLine};
 pub use moving::Moving;
 pub use operand::Operand;

@@ -1,10 +1,10 @@
 -- What is known of the formula that a fault names.
-use Rattle.mob_slice.specs.Entries.{OnFormula}
+use Rattle.mob_list.specs.Faults.{OnCause}
 use Rattle.mob_slice.specs.declared.formula.Formula.{Formula}
-use Rattle.mob_slice.specs.declared.formula.OpFault.{OpFault}
-use Rattle.mob_slice.specs.declared.formula.OpFault.TheVariants.{Passed, NoMemory}
+use Rattle.mob_list.specs.declared.fault.Fault.{Fault}
+use Rattle.mob_list.specs.declared.fault.Fault.TheVariants.{Because, NoMemory}
 
 -- what holds of each formula that is named holds of the fault
-pub on_formula : (P Q : Formula → Type 0) (e : OpFault) → ((f : Formula) → P f → Q f) → OnFormula P e → OnFormula Q e
-on_formula P Q (Passed f) h k = h f k
+pub on_formula : (P Q : Formula → Type 0) (e : Fault Formula) → ((f : Formula) → P f → Q f) → OnCause P e → OnCause Q e
+on_formula P Q (Because f) h k = h f k
 on_formula P Q NoMemory h k = tt

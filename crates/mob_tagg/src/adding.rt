@@ -14,12 +14,13 @@ ghost use Rattle.mob_arith.specs.Termwise.{entries_at_ends};
 ghost use Rattle.mob_tagg.specs.United.{AreUnited};
 ghost use Rattle.mob_tagg.specs.Sums.{IsSumGiven, steady_on};
 
+use mob_list::fault::Fault;
 use crate::again::{Last, cut_again, keep, summed, summed_again};
 use crate::taking::{either, merged, normal_of};
 use mob_arith::Summed;
 use mob_frac::Frac;
 use mob_lift::single;
-use mob_slice::{Course, Moving, OpFault, Pair, Slice, Steady, cut, operator_fault};
+use mob_slice::{Course, Moving, Pair, Slice, Steady, cut, Formula};
 use std::alloc::{AllocError, Global};
 use std::cell::Cell;
 
@@ -29,7 +30,7 @@ fn sum_on<C: Summed + Drop>(
     alloc: Global,
     pair: &Pair<'_, C, C>,
     memo: &Cell<Option<Last<C>>>,
-) -> Result<Slice<C>, OpFault>
+) -> Result<Slice<C>, Fault<Formula>>
 where
     C::Base: Drop,
     requires fit { IsPairFit C.start_of C.end_of C.start_of C.end_of pair.now }
@@ -38,11 +39,11 @@ where
     let last = memo.replace(None);
     let left = match cut(alloc, pair.left, &pair.span) {
         Ok(left) => left,
-        Err(fault) => return Err(operator_fault(fault)),
+        Err(fault) => return Err(fault),
     };
     let right = match cut_again(alloc, pair.right, &pair.span, &last) {
         Ok(right) => right,
-        Err(fault) => return Err(operator_fault(fault)),
+        Err(fault) => return Err(fault),
     };
     let from = match summed_again(alloc, left.course.start(), right.course.start(), &last) {
         Ok(from) => from,
@@ -63,13 +64,13 @@ where
 
 /// The sum of two values where both are defined, and the one that is where one is.
 ///
-/// `Passed` names the formula of the first entry of the sum of the two that has a part that does
+/// The fault names the formula of the first entry of the sum of the two that has a part that does
 /// not fit: on each piece that they share, F1 at its ends, then F2 there.
 pub fn add_in<C: Summed + Drop>(
     alloc: Global,
     total: &Moving<C>,
     v: &Moving<C>,
-) -> Result<Moving<C>, OpFault>
+) -> Result<Moving<C>, Fault<Formula>>
 where
     C::Base: Drop,
     ensures value { IfOk result (λ r. AreUnited C.value_of C.added total.now v.now r) }
@@ -80,7 +81,7 @@ where
         alloc,
         total,
         v,
-        |pair: &Pair<'_, C, C>| -> Result<Slice<C>, OpFault>
+        |pair: &Pair<'_, C, C>| -> Result<Slice<C>, Fault<Formula>>
             requires fit { IsPairFit C.start_of C.end_of C.start_of C.end_of pair.now }
             ensures given { IsSumGiven C.value_of C.start_of C.end_of C.parts_of C.number C.added pair.now result }
         { sum_on::<C>(alloc, pair, &memo) },
@@ -123,8 +124,8 @@ pub fn ones_of<C: Course>(alloc: Global, a: &Moving<C>) -> Result<Moving<Steady<
 fn and_on(
     alloc: Global,
     pair: &Pair<'_, Steady<bool>, Steady<bool>>,
-) -> Result<Vec<Slice<Steady<bool>>>, OpFault>
-    ensures one { MatchResult result (λ v. v.items ≡ steady_on both_hold pair.now ∷ []) (λ e. e ≡ OpFault.NoMemory) }
+) -> Result<Vec<Slice<Steady<bool>>>, Fault<Formula>>
+    ensures one { MatchResult result (λ v. v.items ≡ steady_on both_hold pair.now ∷ []) (λ e. e ≡ Fault.NoMemory) }
 {
     let value = pair.left.course.value && pair.right.course.value;
     single(alloc, pair.span, value)
@@ -142,8 +143,8 @@ pub fn and_in(
         alloc,
         total,
         v,
-        |pair: &Pair<'_, Steady<bool>, Steady<bool>>| -> Result<Vec<Slice<Steady<bool>>>, OpFault>
-            ensures one { MatchResult result (λ v. v.items ≡ steady_on both_hold pair.now ∷ []) (λ e. e ≡ OpFault.NoMemory) }
+        |pair: &Pair<'_, Steady<bool>, Steady<bool>>| -> Result<Vec<Slice<Steady<bool>>>, Fault<Formula>>
+            ensures one { MatchResult result (λ v. v.items ≡ steady_on both_hold pair.now ∷ []) (λ e. e ≡ Fault.NoMemory) }
         { and_on(alloc, pair) },
     ) {
         Ok(value) => Ok(value),
@@ -155,8 +156,8 @@ pub fn and_in(
 fn or_on(
     alloc: Global,
     pair: &Pair<'_, Steady<bool>, Steady<bool>>,
-) -> Result<Vec<Slice<Steady<bool>>>, OpFault>
-    ensures one { MatchResult result (λ v. v.items ≡ steady_on one_holds pair.now ∷ []) (λ e. e ≡ OpFault.NoMemory) }
+) -> Result<Vec<Slice<Steady<bool>>>, Fault<Formula>>
+    ensures one { MatchResult result (λ v. v.items ≡ steady_on one_holds pair.now ∷ []) (λ e. e ≡ Fault.NoMemory) }
 {
     let value = pair.left.course.value || pair.right.course.value;
     single(alloc, pair.span, value)
@@ -174,8 +175,8 @@ pub fn or_in(
         alloc,
         total,
         v,
-        |pair: &Pair<'_, Steady<bool>, Steady<bool>>| -> Result<Vec<Slice<Steady<bool>>>, OpFault>
-            ensures one { MatchResult result (λ v. v.items ≡ steady_on one_holds pair.now ∷ []) (λ e. e ≡ OpFault.NoMemory) }
+        |pair: &Pair<'_, Steady<bool>, Steady<bool>>| -> Result<Vec<Slice<Steady<bool>>>, Fault<Formula>>
+            ensures one { MatchResult result (λ v. v.items ≡ steady_on one_holds pair.now ∷ []) (λ e. e ≡ Fault.NoMemory) }
         { or_on(alloc, pair) },
     ) {
         Ok(value) => Ok(value),

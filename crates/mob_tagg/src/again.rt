@@ -12,9 +12,10 @@ ghost use Rattle.mob_sync.specs.Alike.{AreAlike};
 ghost use Rattle.mob_tagg.specs.Last.{IsLast};
 ghost use Rattle.mob_tagg.specs.Sums.{IsSumOf};
 
+use mob_list::fault::Fault;
 use mob_arith::Summed;
 use mob_frac::Frac;
-use mob_slice::{Course, LookFault, OpFault, Slice, cut_from, limit};
+use mob_slice::{Course, Slice, cut_from, limit, Formula};
 use mob_span::Span;
 use mob_sync::are_alike;
 use std::alloc::Global;
@@ -80,7 +81,7 @@ fn limit_from<C: Summed + Drop>(
     slice: &Slice<C>,
     t: &Frac,
     ends: &Ends<C>,
-) -> Result<C::Base, LookFault>
+) -> Result<C::Base, Fault<Formula>>
 where
     C::Base: Drop,
     requires after { up_to slice.now.span.lower t.now ≡ true }
@@ -93,7 +94,7 @@ where
     }
     match C::copy_base(alloc, ends.right.course.end()) {
         Ok(value) => Ok(value),
-        Err(_) => Err(LookFault::NoMemory),
+        Err(_) => Err(Fault::NoMemory),
     }
 }
 
@@ -103,7 +104,7 @@ fn limit_again<C: Summed + Drop>(
     slice: &Slice<C>,
     t: &Frac,
     last: &Option<Last<C>>,
-) -> Result<C::Base, LookFault>
+) -> Result<C::Base, Fault<Formula>>
 where
     C::Base: Drop,
     requires after { up_to slice.now.span.lower t.now ≡ true }
@@ -122,7 +123,7 @@ pub fn cut_again<C: Summed + Drop>(
     slice: &Slice<C>,
     span: &Span,
     last: &Option<Last<C>>,
-) -> Result<Slice<C>, LookFault>
+) -> Result<Slice<C>, Fault<Formula>>
 where
     C::Base: Drop,
     requires holds { IsSound C.start_of C.end_of slice.now × (is_inside slice.now.span span.now ≡ true) }
@@ -135,14 +136,12 @@ where
 }
 
 /// The sum of two values.
-pub fn summed<C: Summed>(x: &C::Base, y: &C::Base) -> Result<C::Base, OpFault>
+pub fn summed<C: Summed>(x: &C::Base, y: &C::Base) -> Result<C::Base, Fault<Formula>>
     ensures sum { IsSumOf C.added C.number x.now y.now result }
 {
     match C::sum(x, y) {
         Ok(sum) => Ok(sum),
-        Err(passed) => Err(OpFault::Passed {
-            formula: passed.formula,
-        }),
+        Err(passed) => Err(Fault::Because(passed)),
     }
 }
 
@@ -152,7 +151,7 @@ fn summed_from<C: Summed>(
     x: &C::Base,
     y: &C::Base,
     ends: &Ends<C>,
-) -> Result<C::Base, OpFault>
+) -> Result<C::Base, Fault<Formula>>
 where
     requires last { IsLast C.value_of C.end_of C.parts_of C.number C.added ends.now }
     ensures sum { IsSumOf C.added C.number x.now y.now result }
@@ -165,7 +164,7 @@ where
     }
     match C::copy_base(alloc, ends.sum.end()) {
         Ok(sum) => Ok(sum),
-        Err(_) => Err(OpFault::NoMemory),
+        Err(_) => Err(Fault::NoMemory),
     }
 }
 
@@ -175,7 +174,7 @@ pub fn summed_again<C: Summed>(
     x: &C::Base,
     y: &C::Base,
     last: &Option<Last<C>>,
-) -> Result<C::Base, OpFault>
+) -> Result<C::Base, Fault<Formula>>
     ensures sum { IsSumOf C.added C.number x.now y.now result }
 {
     match last {

@@ -1,7 +1,7 @@
 -- A group with one more tuple.
 use Rattle.std.specs.Prelude.{◌≡◌, ◌⊎◌, Bool, true, false, ℕ, ℤ, List, [], ◌∷◌, Option, Some, None, Result, Ok, Err, cond, map}
 use Rattle.std.specs.List.{AllZip, position_or_len}
-use Rattle.mob_slice.specs.declared.formula.OpFault.TheVariants.{Passed}
+use Rattle.mob_list.specs.declared.fault.Fault.TheVariants.{Because}
 use Rattle.mob_typed.specs.declared.typed.Agg.{Agg}
 use Rattle.mob_typed.specs.Selects.{TypedSelectParts}
 use Rattle.mob_typed.specs.Trees.{TypedTree, typed_of}
@@ -28,7 +28,7 @@ column_seen c = (typed_of c.expression.now, c.agg)
 -- an aggregate with one more tuple, or its fault there
 abbrev pub IsAggregateOn : Scene → TypedTree → Agg → State → Result State Fault → Type 0
 IsAggregateOn s e agg before (Ok x) = (w : Value) × IsArgumentOf agg.kind s e (Ok w) × IsStateWith (leaves_out agg.kind w) agg.kind agg.ty before w (Ok x)
-IsAggregateOn s e agg before (Err f) = IsArgumentOf agg.kind s e (Err f) ⊎ ((w : Value) × IsArgumentOf agg.kind s e (Ok w) × (f.0 ≡ agg.place) × IsStateWith (leaves_out agg.kind w) agg.kind agg.ty before w (Err (Passed f.1)))
+IsAggregateOn s e agg before (Err f) = IsArgumentOf agg.kind s e (Err f) ⊎ ((w : Value) × IsArgumentOf agg.kind s e (Ok w) × (f.0 ≡ agg.place) × IsStateWith (leaves_out agg.kind w) agg.kind agg.ty before w (Err (Because f.1)))
 
 -- a column that is no aggregate with one more tuple: its value on the first tuple, and then what
 -- was held before

@@ -15,7 +15,6 @@ use crate::columns::{Column, argument_on, column_on};
 use crate::state::{State, nothing_yet, state_in, value_of};
 use mob_eval::{Held, View, fault_at};
 use mob_outcome::fault::EvalFault;
-use mob_slice::OpFault;
 use mob_tuples::Tuple;
 use mob_typed::{Agg, TExpr};
 use mob_value::Value;
@@ -45,7 +44,7 @@ fn argument_in(
     state: &mut State,
 ) -> Result<(), EvalFault>
     ensures value { IfOk result (λ _. IsStateWith (leaves_out agg.kind (held argument.entry)) agg.kind agg.ty state.old (held argument.entry) (Ok state.new)) }
-    ensures fault { IfErr result (OnPassed (λ f. (f.0 ≡ agg.place) × IsStateWith (leaves_out agg.kind (held argument.entry)) agg.kind agg.ty state.old (held argument.entry) (Err (OpFault.Passed f.1)))) }
+    ensures fault { IfErr result (OnPassed (λ f. (f.0 ≡ agg.place) × IsStateWith (leaves_out agg.kind (held argument.entry)) agg.kind agg.ty state.old (held argument.entry) (Err (Fault.Because f.1)))) }
 {
     let more = state_in(alloc, agg, state, argument.get());
     drop(argument);

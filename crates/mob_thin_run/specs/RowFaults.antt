@@ -3,14 +3,14 @@ use Rattle.std.specs.Prelude.{◌≡◌, ◌∷◌, [], ℕ}
 use Rattle.mob_trips.specs.declared.ending.Ending.{Ending}
 use Rattle.mob_trips.specs.declared.ending.Ending.TheVariants as end
 use Rattle.mob_slice.specs.declared.formula.Formula.{Formula}
-use Rattle.mob_slice.specs.declared.formula.OpFault.{OpFault}
-use Rattle.mob_slice.specs.declared.formula.OpFault.TheVariants as trip
+use Rattle.mob_list.specs.declared.fault.Fault.{Fault}
+use Rattle.mob_list.specs.declared.fault.Fault.TheVariants as trip
 use Rattle.mob_thin_run.specs.declared.rows.RowFault.{RowFault}
 use Rattle.mob_thin_run.specs.declared.rows.RowFault.TheVariants.{Passed, NoMemory}
 
 -- the fault of a row for that of its trip
-abbrev pub thin_row_fault : ℕ → OpFault → RowFault
-thin_row_fault row (trip.Passed formula) = Passed row formula
+abbrev pub thin_row_fault : ℕ → Fault Formula → RowFault
+thin_row_fault row (trip.Because formula) = Passed row formula
 thin_row_fault row trip.NoMemory = NoMemory
 
 -- out of memory names none

@@ -4,11 +4,13 @@ ghost use Rattle.std.specs.List.{AllZip, AllByRecursion};
 ghost use Rattle.csv.specs.Records.{AllText};
 ghost use Rattle.mob_ratio.specs.Order.{up_to};
 ghost use Rattle.mob_ratio.specs.Sign.{nil};
-ghost use Rattle.mob_slice.specs.Entries.{IsJudged, OnFormula};
+ghost use Rattle.mob_list.specs.Faults.{OnCause};
+ghost use Rattle.mob_slice.specs.Entries.{IsJudged};
 ghost use Rattle.mob_literal.specs.Fields.{field_text};
 ghost use Rattle.mob_thin_run.specs.ThinRows.{IsThinValue, IsThinRecord, IsThinText, OnTests, PassesFirst, RowTestsFit, RowTestPasses};
 ghost use Rattle.mob_thin_run.specs.RowFaults.{OnRowFault, thin_row_fault};
 
+use mob_list::fault::Fault;
 use mob_frac::Frac;
 use mob_list::items::Items;
 use mob_list::text::Text;
@@ -16,7 +18,7 @@ use mob_literal::write_field;
 use mob_records::records_text;
 use mob_scalar::Epoch;
 use mob_simplify::thin;
-use mob_slice::{Formula, OpFault};
+use mob_slice::Formula;
 use mob_value::{Rows, Value};
 use std::alloc::{AllocError, Global};
 
@@ -46,7 +48,7 @@ impl From<AllocError> for RowFault {
 }
 
 // The value with a trip simplified.
-fn thinned(alloc: Global, value: &Value, d: &Frac) -> Result<Value, OpFault>
+fn thinned(alloc: Global, value: &Value, d: &Frac) -> Result<Value, Fault<Formula>>
     requires not_negative { up_to nil d.now ≡ true }
     ensures thin { IfOk result (λ thin. IsThinValue d.now value.now thin) }
     ensures first { OnTests d.now value.now (λ tests. IsJudged tests result) }
@@ -55,23 +57,23 @@ fn thinned(alloc: Global, value: &Value, d: &Frac) -> Result<Value, OpFault>
         Value::MovingPoint(trip) => Ok(Value::MovingPoint(thin(alloc, trip, d)?)),
         _ => match value.copy(alloc) {
             Ok(copy) => Ok(copy),
-            Err(_) => Err(OpFault::NoMemory),
+            Err(_) => Err(Fault::NoMemory),
         },
     }
 }
 
 // The row with each trip simplified.
-fn thinned_row(alloc: Global, row: &[Value], d: &Frac) -> Result<Items<Value>, OpFault>
+fn thinned_row(alloc: Global, row: &[Value], d: &Frac) -> Result<Items<Value>, Fault<Formula>>
     requires not_negative { up_to nil d.now ≡ true }
     ensures thin { IfOk result (AllZip (IsThinValue d.now) row.now) }
     ensures fit { IfOk result (λ thin. RowTestsFit d.now row.now) }
-    ensures first { IfErr result (OnFormula (RowTestPasses d.now row.now)) }
+    ensures first { IfErr result (OnCause (RowTestPasses d.now row.now)) }
 {
     let mut thin = Items::new(alloc);
     for value in row {
         let next = thinned(alloc, value, d)?;
         if thin.push(next).is_err() {
-            return Err(OpFault::NoMemory);
+            return Err(Fault::NoMemory);
         }
     }
     Ok(thin)
@@ -105,26 +107,26 @@ fn thin_fields(
     row: &[Value],
     d: &Frac,
     epoch: &Epoch,
-) -> Result<Items<Text>, OpFault>
+) -> Result<Items<Text>, Fault<Formula>>
     requires not_negative { up_to nil d.now ≡ true }
     ensures fields { IfOk result (IsThinRecord d.now epoch.now row.now) }
     ensures fit { IfOk result (λ fields. RowTestsFit d.now row.now) }
-    ensures first { IfErr result (OnFormula (RowTestPasses d.now row.now)) }
+    ensures first { IfErr result (OnCause (RowTestPasses d.now row.now)) }
 {
     let thin = thinned_row(alloc, row, d)?;
     match fields_of(alloc, thin.as_slice(), epoch) {
         Ok(fields) => Ok(fields),
-        Err(_) => Err(OpFault::NoMemory),
+        Err(_) => Err(Fault::NoMemory),
     }
 }
 
 // The fault of a row with so many rows before it.
-fn thin_row_fault(row: u32, fault: OpFault) -> RowFault
+fn thin_row_fault(row: u32, fault: Fault<Formula>) -> RowFault
     ensures same { result ≡ thin_row_fault row fault }
 {
     match fault {
-        OpFault::Passed { formula } => RowFault::Passed { row, formula },
-        OpFault::NoMemory => RowFault::NoMemory,
+        Fault::Because(formula) => RowFault::Passed { row, formula },
+        Fault::NoMemory => RowFault::NoMemory,
     }
 }
 

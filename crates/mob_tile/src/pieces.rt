@@ -15,6 +15,7 @@ ghost use Rattle.mob_cells.specs.Roots.{IsLevel, roots, roots_parts};
 ghost use Rattle.mob_tile.specs.Edges.{t_edges, differences, cuts_of, edge_of, edges_parts, entry_of_values, entries_of_slice};
 ghost use Rattle.mob_tile.specs.Pieces.{least_of, greatest_of, HasOneTile, Reaches, IsInItsTile, ArePiecesOf, ArePieces, AreTileCells, IsPushed};
 
+use mob_list::fault::Fault;
 use crate::cells::cells_at;
 use crate::cuts::{differences, roots_of, times};
 use crate::grid::Grid;
@@ -22,7 +23,7 @@ use mob_cells::{Ends, append};
 use mob_frac::Frac;
 use mob_grid::{Tile, TileRange};
 use mob_plane::{Point, greater, smaller};
-use mob_slice::{OpFault, PlaneLine, Ranked, Slice, cut, operator_fault};
+use mob_slice::{PlaneLine, Ranked, Slice, cut, Formula};
 use mob_span::Span;
 use std::alloc::{AllocError, Global};
 use std::cmp::Ordering;
@@ -68,7 +69,7 @@ fn edges_of(
     grid: &Grid,
     range: &TileRange,
     slice: &Slice<PlaneLine>,
-) -> Result<Edges, OpFault>
+) -> Result<Edges, Fault<Formula>>
     requires sound { IsSound (λ c. c.from) (λ c. c.to) slice.now }
     requires reaches { Reaches grid.now range.now slice.now }
     ensures made { IsMadeBy F2 (edges_parts grid.now slice.now) (λ e. (e.functions.items ≡ differences grid.now slice.now) × (e.times.items ≡ map (edge_of grid.now.width) (t_edges grid.now slice.now))) result }
@@ -92,13 +93,13 @@ fn edges_of(
     };
     match append(&mut functions, more) {
         Ok(()) => {}
-        Err(_) => return Err(OpFault::NoMemory),
+        Err(_) => return Err(Fault::NoMemory),
     }
     Ok(Edges { functions, times })
 }
 
 // Where the slice is cut.
-fn cuts_on(alloc: Global, span: &Span, edges: Edges) -> Result<Vec<Frac>, OpFault>
+fn cuts_on(alloc: Global, span: &Span, edges: Edges) -> Result<Vec<Frac>, Fault<Formula>>
     requires level { AllByRecursion (IsLevel span.now) edges.functions.items }
     ensures made { IsMadeBy F3 (roots_parts span.now edges.functions.items) (λ v. v.items ≡ roots span.now edges.functions.items ++ edges.times.items) result }
 {
@@ -109,7 +110,7 @@ fn cuts_on(alloc: Global, span: &Span, edges: Edges) -> Result<Vec<Frac>, OpFaul
     };
     match append(&mut cuts, times) {
         Ok(()) => Ok(cuts),
-        Err(_) => Err(OpFault::NoMemory),
+        Err(_) => Err(Fault::NoMemory),
     }
 }
 
@@ -158,7 +159,7 @@ fn piece_on(
     range: &TileRange,
     slice: &Slice<PlaneLine>,
     cell: &Span,
-) -> Result<Piece, OpFault>
+) -> Result<Piece, Fault<Formula>>
     requires holds { IsSound (λ c. c.from) (λ c. c.to) slice.now × (is_inside slice.now.span cell.now ≡ true) }
     requires reaches { Reaches grid.now range.now slice.now }
     requires one { HasOneTile grid.now slice.now cell.now }
@@ -166,7 +167,7 @@ fn piece_on(
 {
     let part = match cut(alloc, slice, cell) {
         Ok(part) => part,
-        Err(fault) => return Err(operator_fault(fault)),
+        Err(fault) => return Err(fault),
     };
     let tile = grid.tile_at(
         range,
@@ -184,7 +185,7 @@ fn push_piece(
     range: &TileRange,
     slice: &Slice<PlaneLine>,
     cell: &Span,
-) -> Result<(), OpFault>
+) -> Result<(), Fault<Formula>>
     requires holds { IsSound (λ c. c.from) (λ c. c.to) slice.now × (is_inside slice.now.span cell.now ≡ true) }
     requires reaches { Reaches grid.now range.now slice.now }
     requires one { HasOneTile grid.now slice.now cell.now }
@@ -196,7 +197,7 @@ fn push_piece(
     };
     match out.push(piece) {
         Ok(()) => Ok(()),
-        Err(_) => Err(OpFault::NoMemory),
+        Err(_) => Err(Fault::NoMemory),
     }
 }
 
@@ -207,7 +208,7 @@ fn pieces_at(
     range: &TileRange,
     slice: &Slice<PlaneLine>,
     cells: &[Span],
-) -> Result<Vec<Piece>, OpFault>
+) -> Result<Vec<Piece>, Fault<Formula>>
     requires sound { IsSound (λ c. c.from) (λ c. c.to) slice.now }
     requires reaches { Reaches grid.now range.now slice.now }
     requires cells { AreTileCells grid.now slice.now (cuts_of grid.now slice.now) cells.now }
@@ -229,7 +230,7 @@ fn on_slice(
     grid: &Grid,
     range: &TileRange,
     slice: &Slice<PlaneLine>,
-) -> Result<Vec<Piece>, OpFault>
+) -> Result<Vec<Piece>, Fault<Formula>>
     requires sound { IsSound (λ c. c.from) (λ c. c.to) slice.now }
     requires reaches { Reaches grid.now range.now slice.now }
     ensures pieces { IsMadeByAll (entries_of_slice grid.now slice.now) (λ v. ArePiecesOf grid.now slice.now v.items) result }
@@ -247,19 +248,19 @@ fn on_slice(
     };
     let cells = match cells_of(alloc, grid, slice, cuts) {
         Ok(cells) => cells,
-        Err(_) => return Err(OpFault::NoMemory),
+        Err(_) => return Err(Fault::NoMemory),
     };
     pieces_at(alloc, grid, range, slice, cells.as_slice())
 }
 
-/// The pieces of all slices, in order of time. `Passed` names the first formula of a slice that has
+/// The pieces of all slices, in order of time. The fault names the first formula of a slice that has
 /// a part that does not fit.
 pub fn pieces_of(
     alloc: Global,
     grid: &Grid,
     range: &TileRange,
     slices: &[Slice<PlaneLine>],
-) -> Result<Vec<Piece>, OpFault>
+) -> Result<Vec<Piece>, Fault<Formula>>
     requires ordered { IsOrdered (λ c. c.from) (λ c. c.to) slices.now }
     requires reach { AllByRecursion (Reaches grid.now range.now) slices.now }
     ensures pieces { IfOk result (λ v. ArePieces grid.now slices.now v.items) }
@@ -273,7 +274,7 @@ pub fn pieces_of(
         };
         match append(&mut out, more) {
             Ok(()) => {}
-            Err(_) => return Err(OpFault::NoMemory),
+            Err(_) => return Err(Fault::NoMemory),
         }
     }
     Ok(out)

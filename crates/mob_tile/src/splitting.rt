@@ -6,11 +6,12 @@ ghost use Rattle.mob_tile.specs.Edges.{entries_of_slice};
 ghost use Rattle.mob_tile.specs.Pieces.{Reaches};
 ghost use Rattle.mob_tile.specs.Split.{IsSplit, OnRange, SplitAnswer, IsLimited};
 
+use mob_list::fault::Fault;
 use crate::grid::Grid;
 use crate::groups::{parts_of, sort_pieces};
 use crate::pieces::pieces_of;
 use mob_grid::{Tile, TileRange};
-use mob_slice::{Formula, Moving, OpFault, PlaneLine};
+use mob_slice::{Formula, Moving, PlaneLine};
 use mob_value::box_of;
 use std::alloc::Global;
 
@@ -34,7 +35,7 @@ fn split_in(
     grid: &Grid,
     range: &TileRange,
     a: &Moving<PlaneLine>,
-) -> Result<Vec<(Tile, Moving<PlaneLine>)>, OpFault>
+) -> Result<Vec<(Tile, Moving<PlaneLine>)>, Fault<Formula>>
     requires reach { AllByRecursion (Reaches grid.now range.now) a.now }
     ensures split { IfOk result (λ v. IsSplit grid.now a.now v.items) }
     ensures first { IsJudged (flat_map (entries_of_slice grid.now) a.now) result }
@@ -48,11 +49,11 @@ fn split_in(
     };
     match sort_pieces(&mut pieces) {
         Ok(()) => {}
-        Err(_) => return Err(OpFault::NoMemory),
+        Err(_) => return Err(Fault::NoMemory),
     }
     match parts_of(alloc, pieces.as_slice()) {
         Ok(parts) => Ok(parts),
-        Err(_) => Err(OpFault::NoMemory),
+        Err(_) => Err(Fault::NoMemory),
     }
 }
 
@@ -73,7 +74,7 @@ pub fn split_by(
         Ok(range) => range,
         Err(passed) => {
             return Err(SplitFault::Passed {
-                formula: passed.formula,
+                formula: passed,
             });
         }
     };
@@ -82,7 +83,7 @@ pub fn split_by(
     }
     match split_in(alloc, grid, &range, a) {
         Ok(parts) => Ok(parts),
-        Err(OpFault::Passed { formula }) => Err(SplitFault::Passed { formula }),
-        Err(OpFault::NoMemory) => Err(SplitFault::NoMemory),
+        Err(Fault::Because(formula)) => Err(SplitFault::Passed { formula }),
+        Err(Fault::NoMemory) => Err(SplitFault::NoMemory),
     }
 }

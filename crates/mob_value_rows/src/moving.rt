@@ -2,13 +2,14 @@
 // by one number, and the pieces of an iteration. The epoch is 2000-01-01, so that the instant 2 is
 // its second 2. What scripts say of such values stands in `checks/rows`.
 
+use mob_list::fault::Fault;
 use crate::together::is_printed;
 use mob_arith::{times_const, times_step};
 use mob_ast::SqlType;
 use mob_frac::Frac;
 use mob_literal::read_value;
 use mob_scalar::Epoch;
-use mob_slice::{Line, Moving, OpFault, Steady};
+use mob_slice::{Line, Moving, Steady, Formula};
 use mob_sync::{Common, Ones};
 use mob_value::Value;
 use std::alloc::Global;
@@ -70,7 +71,7 @@ fn is_line(alloc: Global, line: Moving<Line>, wanted: &str) -> bool {
     is_printed(alloc, &Value::MovingFrac(line), wanted)
 }
 
-fn is_answer(alloc: Global, answer: Result<Option<Moving<Line>>, OpFault>, wanted: &str) -> bool {
+fn is_answer(alloc: Global, answer: Result<Option<Moving<Line>>, Fault<Formula>>, wanted: &str) -> bool {
     match answer {
         Ok(Some(line)) => is_line(alloc, line, wanted),
         Ok(None) => wanted == "NULL",

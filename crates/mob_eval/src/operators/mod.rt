@@ -26,6 +26,7 @@ mod printed;
 mod restriction;
 mod signs;
 
+use mob_list::fault::Fault;
 use crate::operators::arithmetic::{calculate, division};
 use crate::operators::boxes::{box_restriction, box_value, expansion, overlap};
 use crate::operators::by_value::value_restriction;
@@ -49,7 +50,7 @@ use mob_ordinary::logic::{
     conjunction, disjunction, is_null, known, negation as contrary, truth_of,
 };
 use mob_ordinary::numbers::{negation, unchanged};
-use mob_slice::OpFault;
+use mob_slice::Formula;
 use mob_typed::TExpr;
 use mob_value::Value;
 use mob_value::held::{Held, made};
@@ -102,7 +103,7 @@ pub fn of_two(
     args: &[TExpr],
     left: &Value,
     right: &Value,
-) -> Result<Value, OpFault>
+) -> Result<Value, Fault<Formula>>
     ensures outcome { IsOutcome (GivesOfTwo op ty (operand_types args.now) left.now right.now) (λ first. OnEntriesOfTwo op ty (operand_types args.now) left.now right.now (λ entries. IsFirst entries first)) result }
 {
     match op {
@@ -139,7 +140,7 @@ pub fn of_three(
     first: &Value,
     second: &Value,
     third: &Value,
-) -> Result<Value, OpFault>
+) -> Result<Value, Fault<Formula>>
     ensures outcome { IsOutcome (GivesOfThree op first.now second.now third.now) (IsFirst (entries_of_three op first.now second.now third.now)) result }
 {
     match op {

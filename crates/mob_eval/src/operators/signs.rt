@@ -12,6 +12,7 @@ ghost use Rattle.mob_meaning.specs.Lines.{line_pair};
 ghost use Rattle.mob_meaning.specs.Signs.{IsAsked, IsOrderTest, IsAnyTest, IsSignTest, entries_asked, order_entries, any_entries, sign_entries};
 ghost use Rattle.mob_eval.specs.Outcomes.{IsOutcome};
 
+use mob_list::fault::Fault;
 use crate::operators::lines::as_lines;
 use crate::operators::pair::{
     Pair, StepPair, frac_pair, number_pair, plane_pair, text_pair, truth_pair,
@@ -23,7 +24,7 @@ use mob_meaning::Scope;
 use mob_ordinary::comparison::rel_of;
 use mob_ordinary::kinds::bool_or_null;
 use mob_ordinary::logic::answered;
-use mob_slice::{Compared, OpFault, Ranked, Rel};
+use mob_slice::{Compared, Ranked, Rel, Formula};
 use mob_value::Value;
 use std::alloc::Global;
 use std::mem::drop;
@@ -34,13 +35,13 @@ fn asked<C: Compared + Drop>(
     scope: Scope,
     rel: Rel,
     pair: Option<Pair<'_, C>>,
-) -> Result<Value, OpFault>
+) -> Result<Value, Fault<Formula>>
 where
     C::Base: Drop,
     requires asked { MayAsk C.ordered rel }
     requires moving { IfSome pair (λ p. (has_slices (operand_of p.0) || has_slices (operand_of p.1)) ≡ true) }
     ensures outcome { IsOutcome (OnOperands C.value_of C.value_of (option_map operands_of pair.entry) (IsAsked scope (C.relation rel))) (IsFirst (entries_on (entries_asked scope C.value_of C.parts_of C.gaps_of) (option_map operands_of pair.entry))) result }
-    ensures memory { C.STEADY ≡ true → IfErr result (λ e. e ≡ OpFault.NoMemory) }
+    ensures memory { C.STEADY ≡ true → IfErr result (λ e. e ≡ Fault.NoMemory) }
 {
     let Some((left, right)) = pair else {
         return Ok(Value::Null);
@@ -61,14 +62,14 @@ fn steps_asked<B: Ranked + Drop>(
     scope: Scope,
     rel: Rel,
     pair: Option<StepPair<'_, B>>,
-) -> Result<Value, OpFault>
+) -> Result<Value, Fault<Formula>>
     requires moving { IfSome pair (λ p. (has_slices (operand_of p.0) || has_slices (operand_of p.1)) ≡ true) }
     ensures outcome { IsOutcome (OnPair (option_map operands_of pair.entry) (IsAsked scope (λ x y. holds rel (B.compare_of x y)))) (IsFirst []) result }
 {
     match asked(alloc, scope, rel, pair) {
         Ok(value) => Ok(value),
-        Err(OpFault::NoMemory) => Err(OpFault::NoMemory),
-        Err(OpFault::Passed { .. }) => unreachable!(),
+        Err(Fault::NoMemory) => Err(Fault::NoMemory),
+        Err(Fault::Because(_)) => unreachable!(),
     }
 }
 
@@ -79,7 +80,7 @@ fn lines_asked(
     rel: Rel,
     left: &Value,
     right: &Value,
-) -> Result<Value, OpFault>
+) -> Result<Value, Fault<Formula>>
     ensures outcome { IsOutcome (OnOperands line_value_of line_value_of (line_pair left.now right.now) (IsAsked scope (number_relates rel))) (IsFirst (entries_on (entries_asked scope line_value_of line_parts_of number_gaps) (line_pair left.now right.now))) result }
 {
     match as_lines(alloc, left, right) {
@@ -88,7 +89,7 @@ fn lines_asked(
             drop((left, right));
             answer
         }
-        Err(_) => Err(OpFault::NoMemory),
+        Err(_) => Err(Fault::NoMemory),
     }
 }
 
@@ -100,7 +101,7 @@ fn order(
     met: Option<SqlType>,
     left: &Value,
     right: &Value,
-) -> Result<Value, OpFault>
+) -> Result<Value, Fault<Formula>>
     ensures outcome { IsOutcome (IsOrderTest scope rel met left.now right.now) (IsFirst (order_entries scope met left.now right.now)) result }
 {
     match met {
@@ -120,7 +121,7 @@ fn sameness(
     met: Option<SqlType>,
     left: &Value,
     right: &Value,
-) -> Result<Value, OpFault>
+) -> Result<Value, Fault<Formula>>
     requires asked { MayAsk false rel }
     ensures outcome { IsOutcome (IsAnyTest scope rel met left.now right.now) (IsFirst (any_entries scope met left.now right.now)) result }
 {
@@ -139,7 +140,7 @@ pub fn sign_test(
     met: Option<SqlType>,
     left: &Value,
     right: &Value,
-) -> Result<Value, OpFault>
+) -> Result<Value, Fault<Formula>>
     ensures outcome { IsOutcome (IsSignTest scope sign met left.now right.now) (IsFirst (sign_entries scope sign met left.now right.now)) result }
 {
     match sign {

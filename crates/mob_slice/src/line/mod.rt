@@ -15,8 +15,9 @@ ghost use Rattle.mob_slice.specs.PlaneLaws.{plane_laws};
 mod comparison;
 
 use crate::course::Course;
-use crate::formula::{Formula, LookFault};
+use crate::formula::Formula;
 use mob_frac::{Frac, Wide, interpolated, same_ratio};
+use mob_list::fault::Fault;
 use mob_plane::Point;
 use mob_span::Span;
 use std::alloc::{AllocError, Global};
@@ -52,15 +53,13 @@ fn goes_on(x0: &Frac, x1: &Frac, y0: &Frac, y1: &Frac, span: &Span, next: &Span)
 }
 
 // The number at an instant of the span.
-fn value_in(x0: &Frac, x1: &Frac, span: &Span, t: &Frac) -> Result<Frac, LookFault>
+fn value_in(x0: &Frac, x1: &Frac, span: &Span, t: &Frac) -> Result<Frac, Fault<Formula>>
     requires inside { has span.now t.now ≡ true }
     ensures value { IsLooked false (line_parts x0.now x1.now span.now.lower span.now.upper t.now) (line_at x0.now x1.now span.now.lower span.now.upper t.now) result }
 {
     match interpolated(x0, x1, span.lower(), span.upper(), t) {
         Ok(value) => Ok(value),
-        Err(_) => Err(LookFault::Passed {
-            formula: Formula::F1,
-        }),
+        Err(_) => Err(Fault::Because(Formula::F1)),
     }
 }
 
@@ -104,7 +103,7 @@ impl Course for Line {
         &self.to
     }
 
-    fn at(&self, alloc: Global, span: &Span, t: &Frac) -> Result<Frac, LookFault> {
+    fn at(&self, alloc: Global, span: &Span, t: &Frac) -> Result<Frac, Fault<Formula>> {
         value_in(&self.from, &self.to, span, t)
     }
 
@@ -169,7 +168,7 @@ impl Course for PlaneLine {
         &self.to
     }
 
-    fn at(&self, alloc: Global, span: &Span, t: &Frac) -> Result<Point, LookFault> {
+    fn at(&self, alloc: Global, span: &Span, t: &Frac) -> Result<Point, Fault<Formula>> {
         let x = value_in(&self.from.x, &self.to.x, span, t)?;
         let y = value_in(&self.from.y, &self.to.y, span, t)?;
         Ok(Point { x, y })
