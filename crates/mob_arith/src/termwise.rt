@@ -221,8 +221,5 @@ where
     ensures first { IsJudged (flat_map (entries_at_ends A.value_of A.parts_of B.value_of B.parts_of O.parts) (pieces (operand_of a.entry) (operand_of b.entry))) result }
 {
     let slices = lifted::<A, B, D, O>(alloc, a, b)?;
-    match normal(alloc, slices) {
-        Ok(value) => Ok(value),
-        Err(_) => Err(Fault::NoMemory),
-    }
+    Ok(normal(alloc, slices)?)
 }

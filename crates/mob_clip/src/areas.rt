@@ -58,10 +58,7 @@ fn functions(alloc: Global, area: &Area, p: &Point, q: &Point) -> Result<Vec<End
     let Ok(to) = to_sides(area, q) else {
         return Err(Fault::Because(Formula::F2));
     };
-    match functions_of(alloc, &from, &to) {
-        Ok(functions) => Ok(functions),
-        Err(_) => Err(Fault::NoMemory),
-    }
+    Ok(functions_of(alloc, &from, &to)?)
 }
 
 // The four linear functions with these differences at the two ends.

@@ -106,10 +106,7 @@ fn finish(
     ensures all { MatchResult result (λ all. (v : List (SliceOf PlaneLineOf)) × (all.items ≡ out.items ++ v) × AreAllOrNothing slice.now keeps piece v) (λ e. e ≡ Fault.NoMemory) }
 {
     let mut all = out;
-    let more = match piece_on(alloc, slice, piece, keeps) {
-        Ok(more) => more,
-        Err(fault) => return Err(fault),
-    };
+    let more = piece_on(alloc, slice, piece, keeps)?;
     match append(&mut all, more) {
         Ok(()) => Ok(all),
         Err(_) => Err(Fault::NoMemory),

@@ -79,10 +79,7 @@ fn push_placed(out: &mut Vec<EdgePlaced>, span: &Span, edge: &EdgeEnds) -> Resul
             return Err(Fault::Because(passed));
         }
     };
-    match add(out, next) {
-        Ok(()) => Ok(()),
-        Err(_) => Err(Fault::NoMemory),
-    }
+    Ok(add(out, next)?)
 }
 
 // The functions of all edges with their roots.

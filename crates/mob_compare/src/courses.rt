@@ -118,8 +118,5 @@ where
     ensures memory { C.STEADY ≡ true → IfErr result (λ e. e ≡ Fault.NoMemory) }
 {
     let slices = compared::<C>(alloc, a, b, rel)?;
-    match normal(alloc, slices) {
-        Ok(value) => Ok(value),
-        Err(_) => Err(Fault::NoMemory),
-    }
+    Ok(normal(alloc, slices)?)
 }

@@ -160,10 +160,7 @@ fn point_within(
     if let Some(point) = found_again(found, slice, t) {
         return Ok(point);
     }
-    let next = match found_on(alloc, slice, t) {
-        Ok(next) => next,
-        Err(passed) => return Err(passed),
-    };
+    let next = found_on(alloc, slice, t)?;
     let point = next.point;
     *found = Some(next);
     Ok(point)

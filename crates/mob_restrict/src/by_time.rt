@@ -110,10 +110,7 @@ where
     ensures first { IsJudged (flat_map (entry_of_cut C.parts_of) (shared_pieces (λ s. s.span) (λ r. r) a.now when.now)) result }
 {
     let slices = inside(alloc, a, when)?;
-    match normal(alloc, slices) {
-        Ok(value) => Ok(value),
-        Err(_) => Err(Fault::NoMemory),
-    }
+    Ok(normal(alloc, slices)?)
 }
 
 /// The temporal value at the instants that are not of the set (MobilityDB's `minusTime`). None
@@ -132,8 +129,5 @@ where
     ensures first { IsJudged (flat_map (entry_of_cut C.parts_of) (shared_pieces (λ s. s.span) (λ r. r) a.now when.now)) result }
 {
     let slices = outside(alloc, a, when)?;
-    match normal(alloc, slices) {
-        Ok(value) => Ok(value),
-        Err(_) => Err(Fault::NoMemory),
-    }
+    Ok(normal(alloc, slices)?)
 }

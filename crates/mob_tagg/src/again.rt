@@ -92,10 +92,7 @@ where
     if !is_of(ends, slice, t) {
         return limit(alloc, slice, t);
     }
-    match C::copy_base(alloc, ends.right.course.end()) {
-        Ok(value) => Ok(value),
-        Err(_) => Err(Fault::NoMemory),
-    }
+    Ok(C::copy_base(alloc, ends.right.course.end())?)
 }
 
 // The value of a slice at an instant, as `limit` gives it, where a piece may have come before.
@@ -162,10 +159,7 @@ where
     if !C::same(y, ends.right.course.end()) {
         return summed::<C>(x, y);
     }
-    match C::copy_base(alloc, ends.sum.end()) {
-        Ok(sum) => Ok(sum),
-        Err(_) => Err(Fault::NoMemory),
-    }
+    Ok(C::copy_base(alloc, ends.sum.end())?)
 }
 
 /// The sum of two values, where a piece may have come before.
