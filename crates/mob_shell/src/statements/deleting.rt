@@ -1,12 +1,13 @@
 // What a DELETE does.
 ghost use Rattle.std.specs.Prelude.{◌≡◌, ◌≤◌, Ok, Err, IfOk, IfErr, OnErr, OnOk, get_or, length};
 ghost use Rattle.mob_typed.specs.Selects.{select_seen};
-ghost use Rattle.mob_eval.specs.QueryFaults.{OnTuple};
+ghost use Rattle.mob_list.specs.Faults.{OnCause};
 ghost use Rattle.mob_join.specs.Deleted.{first_rows as rows_of};
 ghost use Rattle.mob_join.specs.Query.{IsKept};
 ghost use Rattle.mob_join.specs.TypedFor.{IsTypedFor};
 ghost use Rattle.mob_shell.specs.Deletes.{IsDeleted};
 
+use mob_list::fault::Fault;
 use crate::statements::answers::kept_tuples;
 use mob_catalog::Catalog;
 use mob_eval::QueryFault;
@@ -76,13 +77,13 @@ pub fn delete_kept<R: Threads + Sync, G: Gate>(
     requires some { 1 ≤ workers }
     requires few { workers ≤ 64 }
     ensures deleted { OnOk result (IsDeleted (select_seen select.now) catalog.old epoch.now catalog.new) }
-    ensures fault { IfErr result (OnTuple (λ f. IsKept (select_seen select.now) catalog.old epoch.now (Err f))) }
+    ensures fault { IfErr result (OnCause (λ f. IsKept (select_seen select.now) catalog.old epoch.now (Err f))) }
     ensures unchanged { OnErr result (catalog.new ≡ catalog.old) }
 {
     match kept_tuples(rt, alloc, select, catalog, epoch, workers, gate) {
         Ok(kept) => match take_away(alloc, select, catalog, epoch, kept) {
             Ok(()) => Ok(()),
-            Err(_) => Err(QueryFault::NoMemory),
+            Err(_) => Err(Fault::NoMemory),
         },
         Err(fault) => Err(fault),
     }

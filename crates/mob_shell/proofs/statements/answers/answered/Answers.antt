@@ -1,11 +1,11 @@
 use Rattle.std.proofs.Common.{ℕ, List, inl, Ok, Err, subst}
 use Rattle.std.proofs.lemmas.Result.{MatchResult-weaker, err_from_is_err_and}
 use Rattle.mob_typed.specs.Selects.{select_seen}
-use Rattle.mob_eval.proofs.QueryFaults.{of_query}
 use Rattle.mob_join.specs.Query.{IsKept}
 use Rattle.mob_tail.specs.Answers.{IsAnswerOnKept}
 use Rattle.mob_shell.specs.Answers.{QueryAnswers}
 use Rattle.mob_shell.proofs.statements.answers.answered.Goals as goal
+use Rattle.mob_list.proofs.Faults.{cause_weaker}
 
 pub returns-in_err-kept-clause-fault : goal.returns-in_err-kept-clause-fault
 returns-in_err-kept-clause-fault g c =
@@ -13,7 +13,7 @@ returns-in_err-kept-clause-fault g c =
     let select = select_seen c.args.select.now in
     let catalogue = c.args.catalog.now in
     let day = c.args.epoch.now in
-    rw (p.1, p.2) (of_query (λ f. IsKept select catalogue day (Err f)) (λ f. QueryAnswers select catalogue day (Err f)) (λ f h. inl h) c.in_err-kept.field-0.0 c.in_err-kept.ensures.fault)
+    rw (p.1, p.2) (cause_weaker (λ f. IsKept select catalogue day (Err f)) (λ f. QueryAnswers select catalogue day (Err f)) (λ f h. inl h) c.in_err-kept.field-0.0 c.in_err-kept.ensures.fault)
 
 pub returns-clause-text : goal.returns-clause-text
 returns-clause-text g c =
