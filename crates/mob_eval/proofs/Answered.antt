@@ -11,7 +11,7 @@ use Rattle.mob_slice.specs.declared.formula.Formula.{Formula}
 
 -- x is the answer r as a value of SQL
 abbrev pub IsAnswered : Result (Option Bool) Formula → Result Value (Fault Formula) → Type 0
-IsAnswered r x = MatchResult r (λ truth. x ≡ Ok (known truth)) (λ e. x ≡ Err (fault.Because e.formula))
+IsAnswered r x = MatchResult r (λ truth. x ≡ Ok (known truth)) (λ e. x ≡ Err (fault.Because e))
 
 pub answered_outcome : (P : Option Bool → Type 0) (entries : List Entry) (r : Result (Option Bool) Formula) (x : Result Value (Fault Formula)) → IsAnswered r x → IfOk r P → IsDecided entries r
     → IsOutcome (λ v. (answer : Option Bool) × P answer × (v ≡ known answer)) (IsFirst entries) x

@@ -41,7 +41,7 @@ pub only_there : (trips : List (Option Trip)) (asked : Asked) (row : ℕ) (trip 
 only_there trips asked row trip (Ok o) h k = only_of trips asked row trip o h k
 only_there trips asked row trip (Err e) h k = tt
 
-pub only_unfit : (trips : List (Option Trip)) (asked : Asked) (row : ℕ) (trip : Trip) (r : Result (Option Ratio) Formula) → IsTrip trips row trip → IfErr r (λ p. IsFirst (flat_map entries_of_approach (pieces (Slices trip) asked)) (Some p.formula))
-    → IfErr r (λ p. HasUnfitPart trips asked row p.formula)
+pub only_unfit : (trips : List (Option Trip)) (asked : Asked) (row : ℕ) (trip : Trip) (r : Result (Option Ratio) Formula) → IsTrip trips row trip → IfErr r (λ p. IsFirst (flat_map entries_of_approach (pieces (Slices trip) asked)) (Some p))
+    → IfErr r (λ p. HasUnfitPart trips asked row p)
 only_unfit trips asked row trip (Ok o) h k = tt
 only_unfit trips asked row trip (Err e) h k = (trip, h, k)

@@ -22,7 +22,7 @@ fn trip_approach(
     asked: &Operand<'_, PlaneLine>,
 ) -> Result<Option<Frac>, Formula>
     ensures value { IfOk result (λ o. IsApproach (given_at plane_value_of (Slices trip.now)) (given_at plane_value_of (operand_of asked.now)) o) }
-    ensures unfit { IfErr result (λ p. IsFirst (flat_map entries_of_approach (pieces (Slices trip.now) (operand_of asked.now))) (Some p.formula)) }
+    ensures unfit { IfErr result (λ p. IsFirst (flat_map entries_of_approach (pieces (Slices trip.now) (operand_of asked.now))) (Some p)) }
 {
     approach_squared(alloc, Operand::Moving(trip), again(asked))
 }
@@ -49,7 +49,7 @@ pub fn row_approach(
     asked: &Operand<'_, PlaneLine>,
 ) -> Result<Option<Frac>, Formula>
     ensures value { IfOk result (λ o. IsOnly (HasApproach trips.now (operand_of asked.now) row) o) }
-    ensures unfit { IfErr result (λ p. HasUnfitPart trips.now (operand_of asked.now) row p.formula) }
+    ensures unfit { IfErr result (λ p. HasUnfitPart trips.now (operand_of asked.now) row p) }
 {
     match trip_at(trips, row) {
         Some(trip) => trip_approach(alloc, trip, asked),

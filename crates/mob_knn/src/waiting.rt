@@ -7,9 +7,10 @@ ghost use Rattle.std.specs.Cmp.Rules.{comparing};
 ghost use Rattle.std.specs.List.Sorted.{IsPermutation};
 ghost use Rattle.std.specs.Ordering.{as_partial_cmp, eq_by_cmp};
 ghost use Rattle.mob_slice.specs.Ranks.{compare_ratio};
-ghost use Rattle.mob_knn.specs.declared.fault.NearFault.TheVariants.{NoMemory};
+ghost use Rattle.mob_list.specs.declared.fault.Fault.TheVariants.{NoMemory};
 ghost use Rattle.mob_knn.specs.Waits.{what_of, waiting_cmp, waiting_total, rank_of, waiting_number, waits_at, waits_of};
 
+use mob_list::fault::Fault;
 use crate::fault::NearFault;
 use mob_frac::Frac;
 use mob_gaps::Gap;
@@ -137,7 +138,7 @@ pub fn wait(heap: &mut BinaryHeap<Waiting>, key: Frac, what: What) -> Result<(),
 {
     match heap.push(Waiting { key, what }) {
         Ok(()) => Ok(()),
-        Err(_) => Err(NearFault::NoMemory),
+        Err(_) => Err(Fault::NoMemory),
     }
 }
 

@@ -1,4 +1,7 @@
 //! Why a call gave no answer.
+ghost use Rattle.std.specs.Prelude.{◌≡◌};
+ghost use Rattle.mob_list.specs.Faults.{fault_at};
+
 use std::alloc::{AllocError, AllocFailed};
 
 /// Why a call gave no answer: a cause of its own, or out of memory.
@@ -29,5 +32,15 @@ impl<C, T: Drop> From<AllocFailed<T>> for Fault<C> {
 
     fn from(_: AllocFailed<T>) -> Fault<C> {
         Fault::NoMemory
+    }
+}
+
+/// The fault with a place beside its cause, as that of a row for that of its values.
+pub fn fault_at<P: Drop, C>(place: P, fault: Fault<C>) -> Fault<(P, C)>
+    ensures value { result ≡ fault_at place fault }
+{
+    match fault {
+        Fault::Because(cause) => Fault::Because((place, cause)),
+        Fault::NoMemory => Fault::NoMemory,
     }
 }

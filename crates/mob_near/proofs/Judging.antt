@@ -66,7 +66,7 @@ module _ (d : Ratio) where
   -- the square of a distance that is not below 0 fits, and the rest is as it is
   pub within_fits : {V : Type 0} (ps : List PointPiece) (r : Result V Formula) → before d nil ≡ false → AllFit (distance_parts d) → IsDecided (flat_map (entries_of_reach (d *ℚ d)) ps) r → IsDecided (entries_of_within d ps) r
   within_fits ps (Ok v) h fit k = rw h (squares_fit fit ps None k)
-  within_fits ps (Err e) h fit k = rw h (squares_fit fit ps (Some e.formula) k)
+  within_fits ps (Err e) h fit k = rw h (squares_fit fit ps (Some e) k)
 
   -- it does not fit, where there is a piece
   pub within_unfit : (ps : List PointPiece) → before d nil ≡ false → (¬ AllFit (distance_parts d)) → IsDecided {V = Option Bool} (entries_of_within d ps) (cond (are_some ps) (Err (record { formula = F6 })) (Ok None))

@@ -5,6 +5,7 @@ ghost use Rattle.mob_trips.specs.Endings.{IsTripsEnding};
 ghost use Rattle.mob_trips.specs.Seen.{trips_seen};
 ghost use Rattle.mob_near_run.specs.NearProgram.{EndsAt, NearEnds, near_program};
 
+use mob_list::fault::Fault;
 use crate::answer::near_text;
 use crate::reading::settings;
 use crate::settings::NearSettings;
@@ -19,11 +20,11 @@ fn ending_of(fault: NearFault) -> Ending
     ensures ending { EndsAt fault result }
 {
     match fault {
-        NearFault::Passed { row, formula } => Ending::Overflow {
+        Fault::Because((row, formula)) => Ending::Overflow {
             rows: Tuple::new().with(row),
             formula,
         },
-        NearFault::NoMemory => Ending::NoMemory,
+        Fault::NoMemory => Ending::NoMemory,
     }
 }
 

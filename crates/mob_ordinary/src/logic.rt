@@ -28,7 +28,7 @@ pub fn known(truth: Option<bool>) -> Value
 
 /// An answer that may have passed a formula, as a truth value or NULL.
 pub fn answered(answer: Result<Option<bool>, Formula>) -> Result<Value, Fault<Formula>>
-    ensures value { MatchResult answer (λ truth. result ≡ Ok (known truth)) (λ e. result ≡ Err (Fault.Because e.formula)) }
+    ensures value { MatchResult answer (λ truth. result ≡ Ok (known truth)) (λ e. result ≡ Err (Fault.Because e)) }
 {
     match answer {
         Ok(truth) => Ok(known(truth)),

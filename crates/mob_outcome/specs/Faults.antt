@@ -1,17 +1,11 @@
--- The cause of a refusal: of one operator, and of an expression.
+-- The cause of a refusal of an expression.
 use Rattle.std.specs.Prelude.{ℕ, Result, Ok, Err}
 use Rattle.mob_list.specs.Faults.{OnCause}
 use Rattle.mob_list.specs.declared.fault.Fault.{Fault}
-use Rattle.mob_list.specs.declared.fault.Fault.TheVariants.{Because, NoMemory}
 use Rattle.mob_value.specs.declared.value.Value.{Value}
 use Rattle.mob_value.specs.declared.held.Held.{Held}
 use Rattle.mob_value.specs.Held.{held}
 use Rattle.mob_slice.specs.declared.formula.Formula.{Formula}
-
--- the fault of an operator at a place
-abbrev pub fault_of : ℕ → Fault Formula → Fault (ℕ × Formula)
-fault_of place (Because formula) = Because (place, formula)
-fault_of place NoMemory = NoMemory
 
 -- what the outcome of an evaluation says; out of memory says nothing
 abbrev pub Says : (Result Value (ℕ × Formula) → Type 0) → Result Held (Fault (ℕ × Formula)) → Type 0

@@ -8,9 +8,8 @@ ghost use Rattle.mob_list.specs.Faults.{OnCause};
 ghost use Rattle.mob_slice.specs.Entries.{IsJudged};
 ghost use Rattle.mob_literal.specs.Fields.{field_text};
 ghost use Rattle.mob_thin_run.specs.ThinRows.{IsThinValue, IsThinRecord, IsThinText, OnTests, PassesFirst, RowTestsFit, RowTestPasses};
-ghost use Rattle.mob_thin_run.specs.RowFaults.{OnRowFault, thin_row_fault};
 
-use mob_list::fault::Fault;
+use mob_list::fault::{Fault, fault_at};
 use mob_frac::Frac;
 use mob_list::items::Items;
 use mob_list::text::Text;
@@ -22,30 +21,9 @@ use mob_slice::Formula;
 use mob_value::{Rows, Value};
 use std::alloc::{AllocError, Global};
 
-/// Why the rows have no text.
-#[derive(Drop)]
-pub enum RowFault {
-    /// A part of this formula does not fit, in a test of the row of this number, from 0.
-    Passed {
-        /// The number of the row.
-        row: u32,
-        /// The formula.
-        formula: Formula,
-    },
-    /// Out of memory.
-    NoMemory,
-}
-
-impl From<AllocError> for RowFault {
-    ghost use Rattle.std.specs.Prelude.{◌≡◌};
-    ghost use Rattle.mob_thin_run.specs.declared.rows.RowFault.TheVariants.{NoMemory};
-
-    ghost from_gives = { λ _ e. e ≡ NoMemory };
-
-    fn from(_: AllocError) -> RowFault {
-        RowFault::NoMemory
-    }
-}
+/// Why the rows have no text: the number of a row, from 0, with the formula that has a part that
+/// does not fit in a test of it, or out of memory.
+pub type RowFault = Fault<(u32, Formula)>;
 
 // The value with a trip simplified.
 fn thinned(alloc: Global, value: &Value, d: &Frac) -> Result<Value, Fault<Formula>>
@@ -120,16 +98,6 @@ fn thin_fields(
     }
 }
 
-// The fault of a row with so many rows before it.
-fn thin_row_fault(row: u32, fault: Fault<Formula>) -> RowFault
-    ensures same { result ≡ thin_row_fault row fault }
-{
-    match fault {
-        Fault::Because(formula) => RowFault::Passed { row, formula },
-        Fault::NoMemory => RowFault::NoMemory,
-    }
-}
-
 // The fields of all rows with each trip simplified, a row at a time.
 fn thin_records(
     alloc: Global,
@@ -141,14 +109,14 @@ fn thin_records(
     requires few { length rows.now ≤ 1000000 }
     ensures records { IfOk result (AllZip (IsThinRecord d.now epoch.now) rows.now) }
     ensures fit { IfOk result (λ records. AllByRecursion (RowTestsFit d.now) rows.now) }
-    ensures first { IfErr result (OnRowFault (PassesFirst d.now rows.now)) }
+    ensures first { IfErr result (OnCause (λ f. PassesFirst d.now rows.now f.0 f.1)) }
 {
     let mut records = Items::new(alloc);
     let mut number: u32 = 0;
     while let Some(row) = rows.get(number as usize) {
         let fields = match thin_fields(alloc, row, d, epoch) {
             Ok(fields) => fields,
-            Err(fault) => return Err(thin_row_fault(number, fault)),
+            Err(fault) => return Err(fault_at(number, fault)),
         };
         records.push(fields)?;
         number += 1;
@@ -180,7 +148,7 @@ pub fn thin_text(
     requires few { length rows.now ≤ 1000000 }
     ensures text { IfOk result (λ v. IsThinText d.now epoch.now rows.now v.items) }
     ensures fit { IfOk result (λ v. AllByRecursion (RowTestsFit d.now) rows.now) }
-    ensures first { IfErr result (OnRowFault (PassesFirst d.now rows.now)) }
+    ensures first { IfErr result (OnCause (λ f. PassesFirst d.now rows.now f.0 f.1)) }
 {
     let records = thin_records(alloc, rows, d, epoch)?;
     let names = names(alloc)?;

@@ -15,9 +15,9 @@ use mob_slice::{Formula, Moving, PlaneLine};
 use mob_value::box_of;
 use std::alloc::Global;
 
-/// Why a moving point was not split.
+/// What keeps a moving point from being split.
 #[derive(Clone, Copy, Debug, PartialEq, Eq)]
-pub enum SplitFault {
+pub enum SplitCause {
     /// A part of this formula does not fit.
     Passed {
         /// The formula.
@@ -25,9 +25,10 @@ pub enum SplitFault {
     },
     /// The box of the value reaches more than 10,000 tiles.
     Limit,
-    /// Memory was refused.
-    NoMemory,
 }
+
+/// Why a moving point was not split.
+pub type SplitFault = Fault<SplitCause>;
 
 // The parts in the tiles of a range that has them all.
 fn split_in(
@@ -73,17 +74,17 @@ pub fn split_by(
     let range = match grid.range(&box_of(a)) {
         Ok(range) => range,
         Err(passed) => {
-            return Err(SplitFault::Passed {
+            return Err(Fault::Because(SplitCause::Passed {
                 formula: passed,
-            });
+            }));
         }
     };
     if range.has_many() {
-        return Err(SplitFault::Limit);
+        return Err(Fault::Because(SplitCause::Limit));
     }
     match split_in(alloc, grid, &range, a) {
         Ok(parts) => Ok(parts),
-        Err(Fault::Because(formula)) => Err(SplitFault::Passed { formula }),
-        Err(Fault::NoMemory) => Err(SplitFault::NoMemory),
+        Err(Fault::Because(formula)) => Err(Fault::Because(SplitCause::Passed { formula })),
+        Err(Fault::NoMemory) => Err(Fault::NoMemory),
     }
 }

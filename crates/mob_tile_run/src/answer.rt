@@ -8,6 +8,7 @@ ghost use Rattle.mob_trips.specs.Rows.{id_of, trip_of};
 ghost use Rattle.mob_tile_run.specs.TileTexts.{pair_fields, pair_names};
 ghost use Rattle.mob_tile_run.specs.TileAnswers.{PairsText, IsUsable, TileWrites, TileFails};
 
+use mob_list::fault::Fault;
 use crate::fields::{PairPrinter, pair_names};
 use crate::parts::parts_text;
 use crate::settings::TileSettings;
@@ -63,7 +64,7 @@ fn pairs_text<R: Threads + Sync, G: Gate>(
     };
     match text_of(alloc, ids, found.as_slice(), epoch) {
         Ok(text) => Ok(text),
-        Err(_) => Err(PairFault::NoMemory),
+        Err(_) => Err(Fault::NoMemory),
     }
 }
 
@@ -113,7 +114,7 @@ pub fn tile_text<R: Threads + Sync, G: Gate>(
 {
     let (ids, trips) = match split_rows(alloc, rows) {
         Ok(split) => split,
-        Err(_) => return Err(PairFault::NoMemory),
+        Err(_) => return Err(Fault::NoMemory),
     };
     answer(rt, alloc, settings, ids.as_slice(), trips.as_slice(), gate)
 }
