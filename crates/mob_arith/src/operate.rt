@@ -5,11 +5,11 @@ ghost use Rattle.mob_slice.specs.Operands.{IsPointwise, steady_value, steady_lim
 ghost use Rattle.mob_slice.specs.Sides.{operand_of, has_slices, given_at, piece_of};
 ghost use Rattle.mob_lift.specs.Given.{IsGiven, on_sides, AreLifted};
 
-use mob_list::fault::Fault;
 use crate::operation::Operation;
 use mob_lift::{lift, single};
+use mob_list::fault::Fault;
 use mob_normal::normal;
-use mob_slice::{Course, Moving, Operand, Piece, Slice, Steady, Formula};
+use mob_slice::{Course, Formula, Moving, Operand, Piece, Slice, Steady};
 use mob_sync::Pieces;
 use std::alloc::{AllocError, Global};
 

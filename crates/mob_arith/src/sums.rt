@@ -14,11 +14,11 @@ ghost use Rattle.mob_slice.specs.Sides.{operand_of, has_slices, given_at, pieces
 ghost use Rattle.mob_slice.specs.Entries.{IsJudged};
 ghost use Rattle.mob_arith.specs.Termwise.{entries_at_ends};
 
-use mob_list::fault::Fault;
 use crate::summed::Summed;
 use crate::termwise::{Difference, Multiple, Quotient, Scaling, Sum, by_terms};
 use mob_frac::Frac;
-use mob_slice::{Line, Moving, Operand, Steady, Formula};
+use mob_list::fault::Fault;
+use mob_slice::{Formula, Line, Moving, Operand, Steady};
 use std::alloc::Global;
 
 /// The sum of two operands at each instant. None exactly where at no instant both have a value.

@@ -15,10 +15,10 @@ ghost use Rattle.mob_arith.specs.Operations.{quotient_of};
 ghost use Rattle.mob_arith.specs.Summed.{IsTermwise};
 ghost use Rattle.mob_arith.specs.Termwise.{entries_at_ends};
 
-use mob_list::fault::Fault;
 use crate::summed::Summed;
 use mob_frac::Frac;
 use mob_lift::{lift, listed};
+use mob_list::fault::Fault;
 use mob_normal::normal;
 use mob_slice::{Course, Formula, Line, Moving, Operand, Piece, Slice, Steady};
 use mob_sync::Pieces;

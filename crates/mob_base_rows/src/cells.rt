@@ -87,9 +87,7 @@ fn of_one(alloc: Global, span: Span, first: Ends) -> Result<Cells, Fault<Formula
     ensures one { IfOk result (λ c. c.functions ≡ first ∷ []) }
 {
     let mut functions = Vec::new(alloc);
-    if functions.push(first).is_err() {
-        return Err(Fault::NoMemory);
-    }
+    functions.push(first)?;
     Cells::new(alloc, span, functions)
 }
 
@@ -99,12 +97,8 @@ fn of_two(alloc: Global, span: Span, first: Ends, next: Ends) -> Result<Cells, F
     ensures two { IfOk result (λ c. c.functions ≡ first ∷ next ∷ []) }
 {
     let mut functions = Vec::new(alloc);
-    if functions.push(first).is_err() {
-        return Err(Fault::NoMemory);
-    }
-    if functions.push(next).is_err() {
-        return Err(Fault::NoMemory);
-    }
+    functions.push(first)?;
+    functions.push(next)?;
     Cells::new(alloc, span, functions)
 }
 

@@ -6,7 +6,7 @@ ghost use Rattle.mob_slice.specs.declared.formula.Formula.TheVariants.{F1};
 ghost use Rattle.mob_cells.specs.Gaps.{end_gaps, entries_of_ends};
 
 use mob_list::fault::Fault;
-use mob_slice::{Compared, Course, Gaps, Piece, Side, Slice, Formula};
+use mob_slice::{Compared, Course, Formula, Gaps, Piece, Side, Slice};
 use mob_span::Span;
 use std::alloc::Global;
 

@@ -13,9 +13,9 @@ ghost use Rattle.mob_stbox.specs.Areas.{in_area};
 ghost use Rattle.mob_clip.specs.Areas.{area_parts, sides_of, area_ends, in_area_by, entries_of_area, ends_of_sides};
 ghost use Rattle.mob_clip.specs.Pieces.{IsKeptInPlane};
 
-use mob_list::fault::Fault;
 use mob_cells::{Ends, Test, kept};
 use mob_frac::{Frac, Overflow};
+use mob_list::fault::Fault;
 use mob_plane::Point;
 use mob_slice::{Course, Formula, PlaneLine, Slice};
 use mob_span::Span;

@@ -15,12 +15,12 @@ ghost use Rattle.mob_stbox.specs.Boxes.{in_box, in_space};
 ghost use Rattle.mob_clip.specs.Boxes.{entries_of_space, entries_of_box, entries_in_time, AreAround, front_span, back_span};
 ghost use Rattle.mob_clip.specs.Pieces.{some_span, IsKeptInPlane};
 
-use mob_list::fault::Fault;
 use crate::areas::in_area_on;
 use crate::pieces::piece_on;
 use mob_cells::{Restriction, append, listed, restricted};
+use mob_list::fault::Fault;
 use mob_normal::normal;
-use mob_slice::{Moving, PlaneLine, Slice, cut, Formula};
+use mob_slice::{Formula, Moving, PlaneLine, Slice, cut};
 use mob_span::{Span, same_bool};
 use mob_stbox::{Area, StBox};
 use std::alloc::Global;

@@ -11,12 +11,12 @@ ghost use Rattle.mob_slice.specs.declared.line.PlaneLine.{PlaneLine as PlaneLine
 ghost use Rattle.mob_clip.specs.Steps.{steps_at, ChangesFit};
 ghost use Rattle.mob_clip.specs.Pieces.{is_known_in, some_span, left_span, right_span, IsOnSlice, AreAllOrNothing, IsPushedBefore, AreKeptInPlane};
 
-use mob_list::fault::Fault;
 use crate::steps::Steps;
 use mob_cells::{append, listed};
 use mob_frac::Frac;
+use mob_list::fault::Fault;
 use mob_plane::{Tally, is_in};
-use mob_slice::{PlaneLine, Slice, cut, Formula};
+use mob_slice::{Formula, PlaneLine, Slice, cut};
 use mob_span::{Span, same_bool};
 use std::alloc::Global;
 

@@ -10,15 +10,15 @@ ghost use Rattle.mob_plane.specs.Membership.{inside};
 ghost use Rattle.mob_clip.specs.Polygons.{is_inside_edges, entries_of_edges, entries_of_polygon, IsEverInside};
 ghost use Rattle.mob_clip.specs.Pieces.{IsKeptInPlane};
 
-use mob_list::fault::Fault;
 use crate::edges::edges_of;
 use crate::membership::membership;
 use crate::pieces::kept_on;
 use crate::roots::placed_on;
 use mob_cells::{Restriction, restricted};
+use mob_list::fault::Fault;
 use mob_normal::normal;
 use mob_plane::{Point, Polygon};
-use mob_slice::{Moving, PlaneLine, Slice, Formula};
+use mob_slice::{Formula, Moving, PlaneLine, Slice};
 use std::alloc::Global;
 
 // What is left of a slice, where being inside the edges has the wanted truth value.
@@ -137,7 +137,11 @@ pub fn minus_polygon(
 ///
 /// The fault is that of `at_polygon`: the formulas of all slices are asked for, also behind an
 /// instant that settles the answer.
-pub fn ever_inside(alloc: Global, a: &Moving<PlaneLine>, p: &Polygon) -> Result<bool, Fault<Formula>>
+pub fn ever_inside(
+    alloc: Global,
+    a: &Moving<PlaneLine>,
+    p: &Polygon,
+) -> Result<bool, Fault<Formula>>
     ensures value { IfOk result (λ b. IsTrue b ↔ IsEverInside p.now a.now) }
     ensures first { IsJudged (flat_map (entries_of_polygon p.now) a.now) result }
 {

@@ -14,10 +14,10 @@ ghost use Rattle.mob_cells.specs.Roots.{IsLevel, root_parts, roots_parts, as_lis
 ghost use Rattle.mob_clip.specs.Roots.{place, place_edge, listed_ends, edge_roots, IsBetweenEnds, IsPlacedEdge, parts_at_roots, ArePlacedOn};
 ghost use Rattle.mob_clip.specs.Polygons.{entries_of_edges};
 
-use mob_list::fault::Fault;
 use crate::sides::{EdgeEnds, add, besides, turned};
 use mob_cells::{Ends, Placed, root};
 use mob_frac::Frac;
+use mob_list::fault::Fault;
 use mob_plane::Point;
 use mob_slice::{Formula, PlaneLine, Slice, limit};
 use mob_span::Span;
@@ -67,7 +67,11 @@ fn place_edge(span: &Span, edge: &EdgeEnds) -> Result<EdgePlaced, Formula>
 }
 
 // Adds the functions of an edge with their roots.
-fn push_placed(out: &mut Vec<EdgePlaced>, span: &Span, edge: &EdgeEnds) -> Result<(), Fault<Formula>>
+fn push_placed(
+    out: &mut Vec<EdgePlaced>,
+    span: &Span,
+    edge: &EdgeEnds,
+) -> Result<(), Fault<Formula>>
     requires level { AllByRecursion (IsLevel span.now) (listed_ends edge.now) }
     ensures pushed { IsMadeBy F3 (roots_parts span.now (listed_ends edge.now)) (λ _. out.new.items ≡ out.old.items ++ place_edge span.now edge.now ∷ []) result }
 {
@@ -158,7 +162,11 @@ fn all_fit(alloc: Global, slice: &Slice<PlaneLine>, roots: &[Frac]) -> Result<()
 }
 
 // Whether the positions at the roots of all edges fit.
-fn roots_fit(alloc: Global, slice: &Slice<PlaneLine>, edges: &[EdgePlaced]) -> Result<(), Fault<Formula>>
+fn roots_fit(
+    alloc: Global,
+    slice: &Slice<PlaneLine>,
+    edges: &[EdgePlaced],
+) -> Result<(), Fault<Formula>>
     requires placed { AllByRecursion (IsPlacedEdge slice.now.span) edges.now }
     ensures fits { MatchResult result (λ _. AllFit (parts_at_roots slice.now edges.now)) (IsPartFault F1 (parts_at_roots slice.now edges.now)) }
 {

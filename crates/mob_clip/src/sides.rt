@@ -8,9 +8,9 @@ ghost use Rattle.mob_clip.specs.Sides.{point_parts, to_point, beside_parts, besi
 ghost use Rattle.mob_clip.specs.Known.{IsKnown};
 ghost use Rattle.mob_slice.specs.declared.formula.Formula.TheVariants.{F2, F4};
 
-use mob_list::fault::Fault;
 use mob_cells::Ends;
 use mob_frac::{Frac, Overflow};
+use mob_list::fault::Fault;
 use mob_plane::Point;
 use mob_slice::Formula;
 use std::alloc::{AllocError, Global};

@@ -7,11 +7,11 @@ ghost use Rattle.mob_slice.specs.Entries.{IsJudged};
 ghost use Rattle.mob_lift.specs.Given.{IsGiven, on_sides, AreLifted};
 ghost use Rattle.mob_compare.specs.Compared.{entries_of_gaps};
 
-use mob_list::fault::Fault;
 use mob_cells::{ByGaps, flagged, gap_functions};
 use mob_lift::{lift, single};
+use mob_list::fault::Fault;
 use mob_normal::normal;
-use mob_slice::{Compared, Course, Moving, Operand, Piece, Rel, Slice, Steady, Formula};
+use mob_slice::{Compared, Course, Formula, Moving, Operand, Piece, Rel, Slice, Steady};
 use mob_sync::Pieces;
 use std::alloc::Global;
 

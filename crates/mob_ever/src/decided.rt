@@ -9,7 +9,7 @@ ghost use Rattle.mob_lift.specs.Sometime.{IsEver, IsAlways};
 
 use crate::piece::piece_meets;
 use mob_lift::either;
-use mob_slice::{Compared, Operand, Rel, Formula};
+use mob_slice::{Compared, Formula, Operand, Rel};
 use mob_sync::Pieces;
 use std::alloc::Global;
 

@@ -7,7 +7,7 @@ ghost use Rattle.mob_ever.specs.Met.{piece_meets};
 
 use crate::taken::gaps_meet;
 use mob_cells::gaps_at_ends;
-use mob_slice::{Compared, Piece, Rel, Formula};
+use mob_slice::{Compared, Formula, Piece, Rel};
 use std::alloc::Global;
 
 // Whether the comparison has the wanted truth value at some instant of the piece, of courses that

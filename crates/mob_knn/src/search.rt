@@ -55,10 +55,7 @@ fn tell(found: &mut Vec<(u32, Frac)>, row: u32, approach: Frac) -> Result<(), Ne
     ensures told { OnOk result (found.new.items ≡ found.old.items ++ (row, approach) ∷ []) }
     ensures err { IfErr result (λ e. e ≡ NoMemory) }
 {
-    match found.push((row, approach)) {
-        Ok(()) => Ok(()),
-        Err(_) => Err(Fault::NoMemory),
-    }
+    Ok(found.push((row, approach))?)
 }
 
 // One step for what the heap gave first: opens a node, computes the approach of an entry, or adds

@@ -136,10 +136,7 @@ pub fn wait(heap: &mut BinaryHeap<Waiting>, key: Frac, what: What) -> Result<(),
     ensures order { OnOk result (KeepsHeap waiting_cmp (heap_items heap.old) (heap_items heap.new)) }
     ensures err { IfErr result (λ e. e ≡ NoMemory) }
 {
-    match heap.push(Waiting { key, what }) {
-        Ok(()) => Ok(()),
-        Err(_) => Err(Fault::NoMemory),
-    }
+    Ok(heap.push(Waiting { key, what })?)
 }
 
 /// Pushes the children of a node onto the heap, except those that are apart from the asked box.

@@ -14,8 +14,8 @@ ghost use Rattle.mob_slice.specs.Lines.{plane_value_of, plane_parts_of};
 ghost use Rattle.mob_slice.specs.declared.formula.Formula.TheVariants.{F1};
 ghost use Rattle.mob_near.specs.Distances.{length_squared};
 
-use mob_list::fault::Fault;
 use mob_frac::{Frac, Overflow};
+use mob_list::fault::Fault;
 use mob_plane::Point;
 use mob_slice::{Course, Formula, PlaneLine, Slice};
 use mob_sync::are_alike;

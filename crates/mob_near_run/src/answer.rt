@@ -153,12 +153,6 @@ pub fn near_text(
         Ok(split) => split,
         Err(_) => return Err(Fault::NoMemory),
     };
-    let found = match found(alloc, trips.as_slice(), &settings.to, settings.k) {
-        Ok(found) => found,
-        Err(fault) => return Err(fault),
-    };
-    match text_of(alloc, ids.as_slice(), found.as_slice(), &settings.epoch) {
-        Ok(text) => Ok(text),
-        Err(_) => Err(Fault::NoMemory),
-    }
+    let found = found(alloc, trips.as_slice(), &settings.to, settings.k)?;
+    Ok(text_of(alloc, ids.as_slice(), found.as_slice(), &settings.epoch)?)
 }

@@ -7,11 +7,11 @@ ghost use Rattle.mob_cells.specs.Kept.{IsKeptWhere};
 ghost use Rattle.mob_cells.specs.Restricted.{IsRestricted};
 ghost use Rattle.mob_restrict.specs.Values.{entries_of_value};
 
-use mob_list::fault::Fault;
 use mob_cells::{ByGaps, Restriction, gap_functions, kept, restricted};
 use mob_lift::listed;
+use mob_list::fault::Fault;
 use mob_normal::normal;
-use mob_slice::{Compared, Course, Moving, Rel, Slice, cut, Formula};
+use mob_slice::{Compared, Course, Formula, Moving, Rel, Slice, cut};
 use mob_span::same_bool;
 use std::alloc::Global;
 

@@ -170,14 +170,8 @@ fn is_near(p: &Break, n: &Break, reach: &Reach, b: &Break, limit: &Limit) -> Res
     ensures value { IfOk result (λ near. near ≡ up_to (off_course p.now n.now b.now) (limit.now.distance *ℚ limit.now.distance)) }
     ensures first { IsDecided (entries_of_test limit.now.distance p.now n.now b.now) result }
 {
-    let place = match straight_at(p, n, reach, b) {
-        Ok(place) => place,
-        Err(passed) => return Err(passed),
-    };
-    let gap = match difference(&place, &b.place) {
-        Ok(gap) => gap,
-        Err(passed) => return Err(passed),
-    };
+    let place = straight_at(p, n, reach, b)?;
+    let gap = difference(&place, &b.place)?;
     match length_within(&gap, limit) {
         Ok(near) => Ok(near),
         Err(_) => Err(Formula::F6),

@@ -14,13 +14,13 @@ ghost use Rattle.mob_arith.specs.Termwise.{entries_at_ends};
 ghost use Rattle.mob_tagg.specs.United.{AreUnited};
 ghost use Rattle.mob_tagg.specs.Sums.{IsSumGiven, steady_on};
 
-use mob_list::fault::Fault;
 use crate::again::{Last, cut_again, keep, summed, summed_again};
 use crate::taking::{either, merged, normal_of};
 use mob_arith::Summed;
 use mob_frac::Frac;
 use mob_lift::single;
-use mob_slice::{Course, Moving, Pair, Slice, Steady, cut, Formula};
+use mob_list::fault::Fault;
+use mob_slice::{Course, Formula, Moving, Pair, Slice, Steady, cut};
 use std::alloc::{AllocError, Global};
 use std::cell::Cell;
 
@@ -143,7 +143,10 @@ pub fn and_in(
         alloc,
         total,
         v,
-        |pair: &Pair<'_, Steady<bool>, Steady<bool>>| -> Result<Vec<Slice<Steady<bool>>>, Fault<Formula>>
+        |pair: &Pair<'_, Steady<bool>, Steady<bool>>| -> Result<
+            Vec<Slice<Steady<bool>>>,
+            Fault<Formula>,
+        >
             ensures one { MatchResult result (λ v. v.items ≡ steady_on both_hold pair.now ∷ []) (λ e. e ≡ Fault.NoMemory) }
         { and_on(alloc, pair) },
     ) {
@@ -175,7 +178,10 @@ pub fn or_in(
         alloc,
         total,
         v,
-        |pair: &Pair<'_, Steady<bool>, Steady<bool>>| -> Result<Vec<Slice<Steady<bool>>>, Fault<Formula>>
+        |pair: &Pair<'_, Steady<bool>, Steady<bool>>| -> Result<
+            Vec<Slice<Steady<bool>>>,
+            Fault<Formula>,
+        >
             ensures one { MatchResult result (λ v. v.items ≡ steady_on one_holds pair.now ∷ []) (λ e. e ≡ Fault.NoMemory) }
         { or_on(alloc, pair) },
     ) {

@@ -12,10 +12,10 @@ ghost use Rattle.mob_sync.specs.Alike.{AreAlike};
 ghost use Rattle.mob_tagg.specs.Last.{IsLast};
 ghost use Rattle.mob_tagg.specs.Sums.{IsSumOf};
 
-use mob_list::fault::Fault;
 use mob_arith::Summed;
 use mob_frac::Frac;
-use mob_slice::{Course, Slice, cut_from, limit, Formula};
+use mob_list::fault::Fault;
+use mob_slice::{Course, Formula, Slice, cut_from, limit};
 use mob_span::Span;
 use mob_sync::are_alike;
 use std::alloc::Global;

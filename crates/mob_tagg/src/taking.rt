@@ -17,11 +17,11 @@ ghost use Rattle.mob_shares.specs.Shares.{share_of, HoldsShare};
 ghost use Rattle.mob_tagg.specs.United.{IsChecked, AnswersFull, AnswersFullWhereFit, JudgesEnds};
 ghost use Rattle.mob_shares.specs.Taken.{entry_alone, IsShareGiven, piece_parts, AreTaken, IsFirstRefused};
 
-use mob_list::fault::Fault;
 use mob_lift::{lift, lift_each, listed};
+use mob_list::fault::Fault;
 use mob_normal::normal;
 use mob_shares::{Share, Shares};
-use mob_slice::{Course, Moving, One, Pair, Slice, cut, Formula};
+use mob_slice::{Course, Formula, Moving, One, Pair, Slice, cut};
 use std::alloc::Global;
 
 // A slice on a piece on which it is alone.
@@ -38,7 +38,10 @@ where
 }
 
 // A slice on a piece on which it is alone, as a list.
-fn on_one<C: Course + Drop>(alloc: Global, one: &One<'_, C>) -> Result<Vec<Slice<C>>, Fault<Formula>>
+fn on_one<C: Course + Drop>(
+    alloc: Global,
+    one: &One<'_, C>,
+) -> Result<Vec<Slice<C>>, Fault<Formula>>
 where
     C::Base: Drop,
     requires fit { IsOneFit C.start_of C.end_of one.now }
@@ -97,7 +100,12 @@ pub fn together<
     'a,
     C: Course + Drop,
     F: Fn(&Pair<'a, C, C>) -> Result<Vec<Slice<C>>, Fault<Formula>> + Drop,
->(alloc: Global, a: &'a Moving<C>, b: &'a Moving<C>, both: F) -> Result<Vec<Slice<C>>, Fault<Formula>>
+>(
+    alloc: Global,
+    a: &'a Moving<C>,
+    b: &'a Moving<C>,
+    both: F,
+) -> Result<Vec<Slice<C>>, Fault<Formula>>
 where
     C::Base: Drop,
     requires callable { (p : _) → IsPairFit C.start_of C.end_of C.start_of C.end_of p.now → F.pre both p }
@@ -166,7 +174,11 @@ fn expected<C>(lefts: &[Slice<C>], rights: &[Slice<C>]) -> usize {
 
 /// The slices of two values, and the one slice that `both` makes of each piece that they share. As
 /// in `together`, `both` itself judges F1 at the ends of a piece. No list is made for a piece.
-pub fn merged<'a, C: Course + Drop, F: Fn(&Pair<'a, C, C>) -> Result<Slice<C>, Fault<Formula>> + Drop>(
+pub fn merged<
+    'a,
+    C: Course + Drop,
+    F: Fn(&Pair<'a, C, C>) -> Result<Slice<C>, Fault<Formula>> + Drop,
+>(
     alloc: Global,
     a: &'a Moving<C>,
     b: &'a Moving<C>,

@@ -1,12 +1,8 @@
 -- How far a loop is that makes something of each entry of a list.
 use Rattle.std.proofs.Common.{◌≡◌, inl, inr, ℕ, ◌+◌, ◌<◌, List, [], ◌∷◌, ◌++◌, Result, Ok, Err, length, map, take, drop, get_or, ◌≤◌, refl, sym, ap, subst, ◌∙◌, arith}
 use Rattle.std.proofs.lemmas.List.{take_more, take_all, take-append-drop}
-use Rattle.mob_meaning.specs.Evaluation.{PlacedFormula}
-use Rattle.mob_list.specs.declared.fault.Fault.{Fault}
 use Rattle.mob_tail.specs.IsMadeOfEach.{IsMadeOfEach}
 use Rattle.mob_list.proofs.Entries.{drop_read}
-use Rattle.mob_list.specs.declared.fault.Fault.TheVariants.{Because, NoMemory}
-use Rattle.mob_list.specs.Faults.{OnCause}
 
 module _ {X Y F : Type 0} (R : X → Result Y F → Type 0) where
   each_one_more : (xs : List X) (x : X) (ys : List Y) (y : Y) → IsMadeOfEach R xs (Ok ys) → R x (Ok y) → IsMadeOfEach R (xs ++ x ∷ []) (Ok (ys ++ y ∷ []))

@@ -10,7 +10,6 @@ use Rattle.mob_value.specs.declared.value.Value.TheVariants.{Null}
 use Rattle.mob_value.specs.declared.store.Store.{Store}
 use Rattle.mob_meaning.specs.Scene.{Scene, scene}
 use Rattle.mob_meaning.specs.Evaluation.{PlacedFormula}
-use Rattle.mob_list.specs.declared.fault.Fault.{Fault}
 use Rattle.mob_list.proofs.Changing.{AreChanged}
 use Rattle.mob_tagg.specs.Rows.{AreValues, IsItem, IsTuple}
 use Rattle.mob_tail.specs.declared.group_cells.GroupCell.{GroupCell}
@@ -21,8 +20,6 @@ use Rattle.mob_tail.specs.GroupSteps.{column_seen, IsColumnWith, IsCellWith, Fai
 use Rattle.mob_tail.specs.States.{IsHeld}
 use Rattle.mob_operators.specs.declared.aggregate.AggKind.{AggKind}
 use Rattle.mob_operators.specs.declared.aggregate.AggKind.TheVariants.{CountAll}
-use Rattle.mob_list.specs.declared.fault.Fault.TheVariants.{Because, NoMemory}
-use Rattle.mob_list.specs.Faults.{OnCause}
 
 pub zip_more : {A B : Type 0} (R : A → B → Type 0) (xs : List A) (ys : List B) (x : A) (y : B) → AllZip R xs ys → R x y → AllZip R (xs ++ x ∷ []) (ys ++ y ∷ [])
 zip_more R [] [] x y h k = (k, tt)

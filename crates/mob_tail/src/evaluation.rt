@@ -34,10 +34,7 @@ fn lent<'a>(alloc: Global, found: Held<'a>) -> Result<RowValue<'a>, EvalFault>
 {
     match found {
         Held::Stored(value) => Ok(RowValue::Stored(value)),
-        Held::Made(value) => match RowValue::made(alloc, value) {
-            Ok(value) => Ok(value),
-            Err(_) => Err(Fault::NoMemory),
-        },
+        Held::Made(value) => Ok(RowValue::made(alloc, value)?),
     }
 }
 
@@ -97,10 +94,7 @@ fn row_before<'a, K: Remembering>(
     ensures fault { IfErr result (OnCause (λ f. IsMadeOfEach (TreeEvaluatesTo (scene_of view.now)) (map root_seen keys.now) (Err f))) }
 {
     match values_on(alloc, keys, view, memory) {
-        Ok(front) => match Row::new(front, fields) {
-            Ok(row) => Ok(row),
-            Err(_) => Err(Fault::NoMemory),
-        },
+        Ok(front) => Ok(Row::new(front, fields)?),
         Err(fault) => Err(fault),
     }
 }

@@ -33,10 +33,7 @@ fn thinned(alloc: Global, value: &Value, d: &Frac) -> Result<Value, Fault<Formul
 {
     match value {
         Value::MovingPoint(trip) => Ok(Value::MovingPoint(thin(alloc, trip, d)?)),
-        _ => match value.copy(alloc) {
-            Ok(copy) => Ok(copy),
-            Err(_) => Err(Fault::NoMemory),
-        },
+        _ => Ok(value.copy(alloc)?),
     }
 }
 
@@ -92,10 +89,7 @@ fn thin_fields(
     ensures first { IfErr result (OnCause (RowTestPasses d.now row.now)) }
 {
     let thin = thinned_row(alloc, row, d)?;
-    match fields_of(alloc, thin.as_slice(), epoch) {
-        Ok(fields) => Ok(fields),
-        Err(_) => Err(Fault::NoMemory),
-    }
+    Ok(fields_of(alloc, thin.as_slice(), epoch)?)
 }
 
 // The fields of all rows with each trip simplified, a row at a time.

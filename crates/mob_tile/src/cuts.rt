@@ -85,10 +85,7 @@ fn push_root(out: &mut Vec<Frac>, span: &Span, f: &Ends) -> Result<(), Fault<For
 {
     match root(span, f) {
         Ok(None) => Ok(()),
-        Ok(Some(r)) => match add(out, r) {
-            Ok(()) => Ok(()),
-            Err(_) => Err(Fault::NoMemory),
-        },
+        Ok(Some(r)) => Ok(add(out, r)?),
         Err(passed) => Err(Fault::Because(passed)),
     }
 }

@@ -104,10 +104,7 @@ fn cuts_on(alloc: Global, span: &Span, edges: Edges) -> Result<Vec<Frac>, Fault<
     ensures made { IsMadeBy F3 (roots_parts span.now edges.functions.items) (λ v. v.items ≡ roots span.now edges.functions.items ++ edges.times.items) result }
 {
     let Edges { functions, times } = edges;
-    let mut cuts = match roots_of(alloc, span, functions.as_slice()) {
-        Ok(cuts) => cuts,
-        Err(fault) => return Err(fault),
-    };
+    let mut cuts = roots_of(alloc, span, functions.as_slice())?;
     match append(&mut cuts, times) {
         Ok(()) => Ok(cuts),
         Err(_) => Err(Fault::NoMemory),
@@ -191,14 +188,8 @@ fn push_piece(
     requires one { HasOneTile grid.now slice.now cell.now }
     ensures pushed { IsMadeBy F1 (at_ends (slice_parts plane_parts_of slice.now) cell.now) (λ _. IsPushed grid.now slice.now cell.now out.old.items out.new.items) result }
 {
-    let piece = match piece_on(alloc, grid, range, slice, cell) {
-        Ok(piece) => piece,
-        Err(fault) => return Err(fault),
-    };
-    match out.push(piece) {
-        Ok(()) => Ok(()),
-        Err(_) => Err(Fault::NoMemory),
-    }
+    let piece = piece_on(alloc, grid, range, slice, cell)?;
+    Ok(out.push(piece)?)
 }
 
 // The pieces of a slice on its cells.

@@ -10,7 +10,6 @@ use Rattle.mob_tile.specs.declared.splitting.SplitCause.{SplitCause}
 use Rattle.mob_tile.specs.declared.splitting.SplitCause.TheVariants as split
 use Rattle.mob_grid.specs.declared.tile.Tile.{Tile}
 use Rattle.mob_pairs.specs.declared.fault.PairCause.{PairCause}
-use Rattle.mob_pairs.specs.declared.fault.PairCause.TheVariants.{Passed, Limit}
 use Rattle.mob_trips.specs.Rows.{Trip}
 use Rattle.mob_tile_run.specs.TileTexts.{part_fields}
 use Rattle.mob_tile_run.specs.TileParts.{IsSplitOf, IsSplitFault, IsSomeSplitFault, IsFirstSplitFault, row_fault, records_from}

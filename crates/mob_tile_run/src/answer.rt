@@ -58,14 +58,8 @@ fn pairs_text<R: Threads + Sync, G: Gate>(
     ensures text { IfOk result (λ t. PairsText grid.now near.now epoch.now ids.now trips.now t.items) }
     ensures fault { IfErr result (IsPairsFault grid.now near.now trips.now) }
 {
-    let found = match pairs(rt, alloc, trips, grid, near, workers as usize, gate) {
-        Ok(found) => found,
-        Err(fault) => return Err(fault),
-    };
-    match text_of(alloc, ids, found.as_slice(), epoch) {
-        Ok(text) => Ok(text),
-        Err(_) => Err(Fault::NoMemory),
-    }
+    let found = pairs(rt, alloc, trips, grid, near, workers as usize, gate)?;
+    Ok(text_of(alloc, ids, found.as_slice(), epoch)?)
 }
 
 // The text for these trips.

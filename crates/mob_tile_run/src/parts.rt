@@ -116,12 +116,6 @@ pub fn parts_text(
     ensures text { IfOk result (λ t. PartsText grid.now epoch.now ids.now trips.now t.items) }
     ensures fault { IfErr result (IsFirstSplitFault grid.now trips.now) }
 {
-    let records = match part_records(alloc, grid, ids, trips, epoch) {
-        Ok(records) => records,
-        Err(fault) => return Err(fault),
-    };
-    match text_of(alloc, records.as_slice()) {
-        Ok(text) => Ok(text),
-        Err(_) => Err(Fault::NoMemory),
-    }
+    let records = part_records(alloc, grid, ids, trips, epoch)?;
+    Ok(text_of(alloc, records.as_slice())?)
 }

@@ -70,10 +70,7 @@ fn moving(alloc: Global, by: Calculation, left: &Value, right: &Value) -> Result
     ensures outcome { IsOutcome (OnPair (number_pair left.now right.now) (IsMovingInt (result_by by))) (IsFirst (entries_on (entries_at_ends steady_value steady_parts steady_value steady_parts (parts_by by)) (number_pair left.now right.now))) result }
 {
     match number_pair(left, right) {
-        Some((left, right)) => match lifted(alloc, by, left, right) {
-            Ok(value) => Ok(int_or_null(value)),
-            Err(fault) => Err(fault),
-        },
+        Some((left, right)) => Ok(int_or_null(lifted(alloc, by, left, right)?)),
         None => Ok(Value::Null),
     }
 }

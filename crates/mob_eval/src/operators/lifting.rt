@@ -21,10 +21,7 @@ pub fn lifted_and(alloc: Global, left: &Value, right: &Value) -> Result<Value, F
     ensures outcome { IsOutcome (OnPair (truth_pair left.now right.now) (IsMovingBool both_hold)) (IsFirst []) result }
 {
     match truth_pair(left, right) {
-        Some((left, right)) => match and(alloc, left, right) {
-            Ok(value) => Ok(bool_or_null(value)),
-            Err(_) => Err(Fault::NoMemory),
-        },
+        Some((left, right)) => Ok(bool_or_null(and(alloc, left, right)?)),
         None => Ok(Value::Null),
     }
 }
@@ -34,10 +31,7 @@ pub fn lifted_or(alloc: Global, left: &Value, right: &Value) -> Result<Value, Fa
     ensures outcome { IsOutcome (OnPair (truth_pair left.now right.now) (IsMovingBool one_holds)) (IsFirst []) result }
 {
     match truth_pair(left, right) {
-        Some((left, right)) => match or(alloc, left, right) {
-            Ok(value) => Ok(bool_or_null(value)),
-            Err(_) => Err(Fault::NoMemory),
-        },
+        Some((left, right)) => Ok(bool_or_null(or(alloc, left, right)?)),
         None => Ok(Value::Null),
     }
 }
@@ -56,10 +50,7 @@ fn plain_joined(alloc: Global, left: &Value, right: &Value) -> Result<Value, Fau
     ensures outcome { IsOutcome (λ v. v ≡ concatenation left.now right.now) (IsFirst []) result }
 {
     match (left, right) {
-        (Value::Text(a), Value::Text(b)) => match Joining::apply(alloc, a, b) {
-            Ok(text) => Ok(Value::Text(text)),
-            Err(_) => Err(Fault::NoMemory),
-        },
+        (Value::Text(a), Value::Text(b)) => Ok(Value::Text(Joining::apply(alloc, a, b)?)),
         _ => Ok(Value::Null),
     }
 }
@@ -68,10 +59,7 @@ fn moving_joined(alloc: Global, left: &Value, right: &Value) -> Result<Value, Fa
     ensures outcome { IsOutcome (OnPair (text_pair left.now right.now) (IsMovingText text_of)) (IsFirst []) result }
 {
     match text_pair(left, right) {
-        Some((left, right)) => match join_text(alloc, left, right) {
-            Ok(value) => Ok(text_or_null(value)),
-            Err(_) => Err(Fault::NoMemory),
-        },
+        Some((left, right)) => Ok(text_or_null(join_text(alloc, left, right)?)),
         None => Ok(Value::Null),
     }
 }

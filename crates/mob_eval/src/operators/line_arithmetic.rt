@@ -34,14 +34,8 @@ fn frac_terms(alloc: Global, by: Calculation, left: &Value, right: &Value) -> Re
         return Ok(Value::Null);
     };
     match by {
-        Calculation::Sum => match plus(alloc, left, right) {
-            Ok(value) => Ok(frac_or_null(value)),
-            Err(fault) => Err(fault),
-        },
-        Calculation::Difference => match minus(alloc, left, right) {
-            Ok(value) => Ok(frac_or_null(value)),
-            Err(fault) => Err(fault),
-        },
+        Calculation::Sum => Ok(frac_or_null(plus(alloc, left, right)?)),
+        Calculation::Difference => Ok(frac_or_null(minus(alloc, left, right)?)),
         Calculation::Product => unreachable!(),
     }
 }
@@ -50,10 +44,7 @@ fn frac_product(alloc: Global, left: &Value, right: &Value) -> Result<Value, Fau
     ensures outcome { IsOutcome (OnOperands line_value_of steady_value (factors left.now right.now) (IsMovingFrac product_of)) (IsFirst (entries_on (entries_at_ends line_value_of line_parts_of steady_value steady_parts product_parts) (factors left.now right.now))) result }
 {
     match factors(left, right) {
-        Some((line, factor)) => match times(alloc, line, factor) {
-            Ok(value) => Ok(frac_or_null(value)),
-            Err(fault) => Err(fault),
-        },
+        Some((line, factor)) => Ok(frac_or_null(times(alloc, line, factor)?)),
         None => Ok(Value::Null),
     }
 }

@@ -39,26 +39,11 @@ fn restricted(alloc: Global, want: bool, value: &Value, when: &SpanSet) -> Resul
     ensures outcome { IsOutcome (IsRestriction want when.now value.now) (IsFirst (cuts_of when.now value.now)) result }
 {
     match value {
-        Value::MovingBool(a) => match cut(alloc, want, a, when) {
-            Ok(rest) => Ok(bool_or_null(rest)),
-            Err(fault) => Err(fault),
-        },
-        Value::MovingInt(a) => match cut(alloc, want, a, when) {
-            Ok(rest) => Ok(int_or_null(rest)),
-            Err(fault) => Err(fault),
-        },
-        Value::MovingFrac(a) => match cut(alloc, want, a, when) {
-            Ok(rest) => Ok(frac_or_null(rest)),
-            Err(fault) => Err(fault),
-        },
-        Value::MovingText(a) => match cut(alloc, want, a, when) {
-            Ok(rest) => Ok(text_or_null(rest)),
-            Err(fault) => Err(fault),
-        },
-        Value::MovingPoint(a) => match cut(alloc, want, a, when) {
-            Ok(rest) => Ok(point_or_null(rest)),
-            Err(fault) => Err(fault),
-        },
+        Value::MovingBool(a) => Ok(bool_or_null(cut(alloc, want, a, when)?)),
+        Value::MovingInt(a) => Ok(int_or_null(cut(alloc, want, a, when)?)),
+        Value::MovingFrac(a) => Ok(frac_or_null(cut(alloc, want, a, when)?)),
+        Value::MovingText(a) => Ok(text_or_null(cut(alloc, want, a, when)?)),
+        Value::MovingPoint(a) => Ok(point_or_null(cut(alloc, want, a, when)?)),
         _ => Ok(Value::Null),
     }
 }

@@ -81,10 +81,7 @@ pub fn delete_kept<R: Threads + Sync, G: Gate>(
     ensures unchanged { OnErr result (catalog.new ≡ catalog.old) }
 {
     match kept_tuples(rt, alloc, select, catalog, epoch, workers, gate) {
-        Ok(kept) => match take_away(alloc, select, catalog, epoch, kept) {
-            Ok(()) => Ok(()),
-            Err(_) => Err(Fault::NoMemory),
-        },
+        Ok(kept) => Ok(take_away(alloc, select, catalog, epoch, kept)?),
         Err(fault) => Err(fault),
     }
 }

@@ -82,10 +82,7 @@ impl Session {
         ensures text { IfOk result (λ text. StatementWrites (session_day self.now) (session_state self.now) (plan_of (select_seen select.now)) text.items) }
         ensures fault { IfErr result (OnCause (λ f. Stops (session_day self.now) (session_state self.now) (plan_of (select_seen select.now)) f)) }
     {
-        match explained(alloc, select, &self.catalog) {
-            Ok(text) => Ok(text),
-            Err(_) => Err(Fault::NoMemory),
-        }
+        Ok(explained(alloc, select, &self.catalog)?)
     }
 
     // Deletes the rows that meet the condition of a DELETE. It writes nothing. Where it has a
