@@ -85,22 +85,10 @@ fn around(
     // A call of a method tells the proof what holds of every span.
     let _ = part.lower();
     let outside = same_bool(want, false);
-    let mut out = match piece_on(alloc, slice, front(&slice.span, part), outside) {
-        Ok(out) => out,
-        Err(fault) => return Err(fault),
-    };
-    let more = match piece_on(alloc, slice, back(&slice.span, part), outside) {
-        Ok(more) => more,
-        Err(fault) => return Err(fault),
-    };
-    match append(&mut out, middle) {
-        Ok(()) => {}
-        Err(_) => return Err(Fault::NoMemory),
-    }
-    match append(&mut out, more) {
-        Ok(()) => {}
-        Err(_) => return Err(Fault::NoMemory),
-    }
+    let mut out = piece_on(alloc, slice, front(&slice.span, part), outside)?;
+    let more = piece_on(alloc, slice, back(&slice.span, part), outside)?;
+    append(&mut out, middle)?;
+    append(&mut out, more)?;
     Ok(out)
 }
 
@@ -187,10 +175,7 @@ fn to_box(
     ensures first { IsJudged (flat_map (entries_of_box b.now) a.now) result }
 {
     let slices = restricted::<PlaneLine, ToBox<'_>>(alloc, a.slices(), &ToBox { to: b }, want)?;
-    match normal(alloc, slices) {
-        Ok(value) => Ok(value),
-        Err(_) => Err(Fault::NoMemory),
-    }
+    Ok(normal(alloc, slices)?)
 }
 
 /// The moving point at the instants at which it is in the box. None exactly where there is no such

@@ -83,13 +83,8 @@ fn push_before(
         Some(span) => span,
         None => return Ok(None),
     };
-    let more = match piece_on(alloc, slice, left_of(&span, r, included), keeps) {
-        Ok(more) => more,
-        Err(fault) => return Err(fault),
-    };
-    if append(out, more).is_err() {
-        return Err(Fault::NoMemory);
-    }
+    let more = piece_on(alloc, slice, left_of(&span, r, included), keeps)?;
+    append(out, more)?;
     Ok(right_of(&span, r, included))
 }
 

@@ -76,10 +76,7 @@ fn to_edges(
 {
     let by = ToEdges { edges };
     let slices = restricted::<PlaneLine, ToEdges<'_>>(alloc, a.slices(), &by, want)?;
-    match normal(alloc, slices) {
-        Ok(value) => Ok(value),
-        Err(_) => Err(Fault::NoMemory),
-    }
+    Ok(normal(alloc, slices)?)
 }
 
 // The restriction to the instants at which being inside the polygon has the wanted truth value.
@@ -92,10 +89,7 @@ fn to_polygon(
     ensures value { IfOk result (λ r. IsRestricted plane_value_of want (λ t x. inside p.now x) a.now r) }
     ensures first { IsJudged (flat_map (entries_of_polygon p.now) a.now) result }
 {
-    let edges = match edges_of(alloc, p.rings()) {
-        Ok(edges) => edges,
-        Err(_) => return Err(Fault::NoMemory),
-    };
+    let edges = edges_of(alloc, p.rings())?;
     to_edges(alloc, a, edges.as_slice(), want)
 }
 

@@ -170,10 +170,7 @@ fn roots_fit(
     requires placed { AllByRecursion (IsPlacedEdge slice.now.span) edges.now }
     ensures fits { MatchResult result (λ _. AllFit (parts_at_roots slice.now edges.now)) (IsPartFault F1 (parts_at_roots slice.now edges.now)) }
 {
-    let roots = match roots_of(alloc, edges) {
-        Ok(roots) => roots,
-        Err(_) => return Err(Fault::NoMemory),
-    };
+    let roots = roots_of(alloc, edges)?;
     all_fit(alloc, slice, roots.as_slice())
 }
 

@@ -51,10 +51,7 @@ fn ends_on(
     requires holds { IsSound (λ c. c.from) (λ c. c.to) slice.now × (is_inside slice.now.span span.now ≡ true) }
     ensures ends { IsComputed F1 (at_ends (slice_parts plane_parts_of slice.now) span.now) (record { from = slice_value plane_value_of slice.now span.now.lower; to = slice_value plane_value_of slice.now span.now.upper }) result }
 {
-    let from = match point_at(alloc, slice, span.lower(), found) {
-        Ok(from) => from,
-        Err(passed) => return Err(passed),
-    };
+    let from = point_at(alloc, slice, span.lower(), found)?;
     match point_at(alloc, slice, span.upper(), found) {
         Ok(to) => Ok(PlaneLine { from, to }),
         Err(passed) => Err(passed),

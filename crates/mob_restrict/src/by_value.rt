@@ -111,10 +111,7 @@ where
     ensures first { IsJudged (flat_map (entries_of_value C.value_of C.parts_of C.gaps_of value.now) a.now) result }
 {
     let slices = restricted::<C, ToValue<'_, C>>(alloc, a.slices(), &ToValue { value }, want)?;
-    match normal(alloc, slices) {
-        Ok(value) => Ok(value),
-        Err(_) => Err(Fault::NoMemory),
-    }
+    Ok(normal(alloc, slices)?)
 }
 
 /// The temporal value at the instants at which it is that value (MobilityDB's `atValues`). None
