@@ -22,10 +22,7 @@ fn on_steps<A: Course, B: Course, O: Operation<A::Base, B::Base>>(
     requires right { B.STEADY ≡ true }
     ensures given { IsGiven steady_value steady_limit steady_limit (λ v. v.items) (on_sides A.value_of B.value_of O.result_of (piece_of piece.now)) piece.now.span [] result }
 {
-    let value = match O::apply(alloc, piece.left.start(), piece.right.start()) {
-        Ok(value) => value,
-        Err(_) => return Err(Fault::NoMemory),
-    };
+    let value = O::apply(alloc, piece.left.start(), piece.right.start())?;
     // A call of a method tells the proof what holds of every span.
     let _ = piece.span.lower();
     single(alloc, piece.span, value)

@@ -3,10 +3,10 @@
 ghost use Rattle.std.specs.Prelude.{◌≡◌, ◌<◌, ◌∷◌, [], length, true, IfOk};
 ghost use Rattle.mob_ratio.specs.Order.{before};
 
-use mob_list::fault::Fault;
 use crate::lines::{fraction, span};
 use mob_cells::{Cells, Ends, root};
 use mob_frac::Frac;
+use mob_list::fault::Fault;
 use mob_slice::Formula;
 use mob_span::Span;
 use std::alloc::Global;

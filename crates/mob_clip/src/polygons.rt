@@ -31,14 +31,8 @@ fn edges_on(
     requires sound { IsSound (λ c. c.from) (λ c. c.to) slice.now }
     ensures kept { IsKeptInPlane want (λ t p. is_inside_edges edges.now p) slice.now slice.now.span (entries_of_edges edges.now slice.now) result }
 {
-    let placed = match placed_on(alloc, slice, edges) {
-        Ok(placed) => placed,
-        Err(fault) => return Err(fault),
-    };
-    let steps = match membership(alloc, &slice.span, placed.as_slice()) {
-        Ok(steps) => steps,
-        Err(_) => return Err(Fault::NoMemory),
-    };
+    let placed = placed_on(alloc, slice, edges)?;
+    let steps = membership(alloc, &slice.span, placed.as_slice())?;
     kept_on(alloc, slice, &steps, want)
 }
 

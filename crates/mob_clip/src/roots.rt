@@ -83,7 +83,8 @@ fn push_placed(
             return Err(Fault::Because(passed));
         }
     };
-    Ok(add(out, next)?)
+    add(out, next)?;
+    Ok(())
 }
 
 // The functions of all edges with their roots.

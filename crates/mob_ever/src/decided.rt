@@ -92,8 +92,5 @@ where
     ensures first { IsDecided (flat_map (entries_of_ends C.value_of C.parts_of C.gaps_of) (pieces (operand_of a.entry) (operand_of b.entry))) result }
     ensures settled { C.STEADY ≡ true → IsOk result }
 {
-    match sometime(alloc, a, b, rel, false) {
-        Ok(fails) => Ok(contrary(fails)),
-        Err(passed) => Err(passed),
-    }
+    Ok(contrary(sometime(alloc, a, b, rel, false)?))
 }

@@ -27,7 +27,6 @@ pub nil_of : {A : Type 0} (xs : List A) → length xs ≡ 0 → xs ≡ []
 nil_of [] h = refl
 nil_of (x ∷ xs) h = absurd (omega (arith, h))
 
-
 module _ {bs : List Branch} {root : Option ℕ} {entries : List EntryOf} {has : ℕ → Ratio → Type 0} {q : BoxOf} (known : IsKnown bs root entries has q) where
   none_in_empty : (k : ℕ) → entries ≡ [] → AreFirstRows has k []
   none_in_empty k e = record {

@@ -13,12 +13,12 @@ ghost use Rattle.mob_knn.specs.Steps.{IsAdvanced, IsOnly, found_answer, IsEntry,
 ghost use Rattle.mob_knn.specs.declared.waiting.What.TheVariants.{Node};
 ghost use Rattle.mob_knn.specs.Waits.{waiting_cmp};
 
-use mob_list::fault::Fault;
 use crate::asked::{box_of_asked, let_go};
 use crate::fault::NearFault;
 use crate::trips::row_approach;
 use crate::waiting::{Waiting, What, open, wait};
 use mob_frac::Frac;
+use mob_list::fault::Fault;
 use mob_list::items::Items;
 use mob_rtree::RTree;
 use mob_slice::{Moving, Operand, PlaneLine};

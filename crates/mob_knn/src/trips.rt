@@ -12,7 +12,7 @@ ghost use Rattle.mob_knn.specs.Steps.{IsOnly, HasUnfitPart};
 use crate::asked::again;
 use mob_frac::Frac;
 use mob_near::approach_squared;
-use mob_slice::{Moving, Operand, PlaneLine, Formula};
+use mob_slice::{Formula, Moving, Operand, PlaneLine};
 use std::alloc::Global;
 
 // The square of the nearest approach of a trip.

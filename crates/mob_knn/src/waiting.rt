@@ -10,11 +10,11 @@ ghost use Rattle.mob_slice.specs.Ranks.{compare_ratio};
 ghost use Rattle.mob_list.specs.declared.fault.Fault.TheVariants.{NoMemory};
 ghost use Rattle.mob_knn.specs.Waits.{what_of, waiting_cmp, waiting_total, rank_of, waiting_number, waits_at, waits_of};
 
-use mob_list::fault::Fault;
 use crate::fault::NearFault;
 use mob_frac::Frac;
 use mob_gaps::Gap;
 use mob_gaps::measure::gap;
+use mob_list::fault::Fault;
 use mob_plane::greater;
 use mob_rtree::Child;
 use mob_stbox::StBox;

@@ -7,10 +7,10 @@ ghost use Rattle.mob_records.specs.AnswerText.{answer_text};
 ghost use Rattle.mob_knn.specs.Nearest.{AreNearest, AreOfTrips, IsPassed};
 ghost use Rattle.mob_near_run.specs.NearAnswers.{IsRowPassed, NearWrites, target_operand, near_fields, near_names};
 
-use mob_list::fault::Fault;
 use crate::settings::{NearSettings, Target};
 use mob_frac::Frac;
 use mob_knn::{NearFault, index_of, nearest};
+use mob_list::fault::Fault;
 use mob_list::items::Items;
 use mob_list::text::Text;
 use mob_numeral::write_number;

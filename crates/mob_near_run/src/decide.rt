@@ -5,11 +5,11 @@ ghost use Rattle.mob_trips.specs.Endings.{IsTripsEnding};
 ghost use Rattle.mob_trips.specs.Seen.{trips_seen};
 ghost use Rattle.mob_near_run.specs.NearProgram.{EndsAt, NearEnds, near_program};
 
-use mob_list::fault::Fault;
 use crate::answer::near_text;
 use crate::reading::settings;
 use crate::settings::NearSettings;
 use mob_knn::NearFault;
+use mob_list::fault::Fault;
 use mob_outside::{Sink, Source};
 use mob_trips::{Ending, put_text, read_trips};
 use mob_tuples::Tuple;

@@ -8,8 +8,8 @@ ghost use Rattle.mob_slice.specs.declared.formula.Formula.{Formula as formula_of
 ghost use Rattle.mob_value.specs.declared.value.Value.{Value as value_of};
 ghost use Rattle.mob_outcome.specs.Faults.{Says};
 
-use mob_list::fault::Fault;
 use crate::fault::EvalFault;
+use mob_list::fault::Fault;
 use mob_slice::Formula;
 use mob_value::Value;
 use mob_value::held::Held;

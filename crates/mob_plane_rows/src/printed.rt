@@ -1,8 +1,8 @@
 // How answers are compared with the wanted ones: NULL where there is none, and the name of the
 // formula where a part of it does not fit.
 
-use mob_list::fault::Fault;
 use mob_frac::Frac;
+use mob_list::fault::Fault;
 use mob_literal::write_field;
 use mob_scalar::Epoch;
 use mob_slice::{Formula, Moving, PlaneLine};

@@ -8,12 +8,12 @@ ghost use Rattle.mob_slice.specs.Lines.{plane_value_of};
 ghost use Rattle.mob_slice.specs.Slices.{value_at};
 ghost use Rattle.mob_simplify.specs.Thinned.{IsThin, AreNear, OnRuns, tests_of_run};
 
-use mob_list::fault::Fault;
 use crate::passing::with_square;
 use crate::walking::walked;
 use mob_frac::Frac;
+use mob_list::fault::Fault;
 use mob_normal::normal;
-use mob_slice::{Moving, PlaneLine, Formula};
+use mob_slice::{Formula, Moving, PlaneLine};
 use std::alloc::Global;
 
 /// The moving point with straight courses in place of its runs, each within the distance `d` of it:
@@ -27,7 +27,11 @@ use std::alloc::Global;
 /// break, break that is tested, and break between, each F1, the straight course at the break
 /// between, F2, the difference by coordinate, and F6, the square of its length and that of `d`. For
 /// a kept break the tests stop at the first that fails.
-pub fn thin(alloc: Global, a: &Moving<PlaneLine>, d: &Frac) -> Result<Moving<PlaneLine>, Fault<Formula>>
+pub fn thin(
+    alloc: Global,
+    a: &Moving<PlaneLine>,
+    d: &Frac,
+) -> Result<Moving<PlaneLine>, Fault<Formula>>
     requires not_negative { up_to nil d.now ≡ true }
     ensures thin { IfOk result (λ thin. IsThin d.now a.now thin) }
     ensures near { IfOk result (λ thin. (t : Ratio) → AreNear (d.now *ℚ d.now) (value_at plane_value_of thin t) (value_at plane_value_of a.now t)) }

@@ -10,10 +10,10 @@ ghost use Rattle.mob_simplify.specs.Reaches.{IsSquared};
 ghost use Rattle.mob_simplify.specs.Tests.{tests_of};
 ghost use Rattle.mob_simplify.specs.Walk.{continues_run, stays, leg_over, all_legs, all_tests};
 
-use mob_list::fault::Fault;
 use crate::breaks::{Break, end_of, start_of};
 use crate::passing::{Limit, passes};
-use mob_slice::{PlaneLine, Slice, Formula};
+use mob_list::fault::Fault;
+use mob_slice::{Formula, PlaneLine, Slice};
 use mob_span::Span;
 use std::alloc::Global;
 

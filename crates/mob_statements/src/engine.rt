@@ -6,9 +6,9 @@ ghost use Rattle.mob_ending.specs.declared.ending.Ending.TheVariants.{Done};
 ghost use Rattle.mob_statements.specs.Calls.{CallCanRun, CallRuns, CallStops};
 ghost use Rattle.mob_statements.specs.Statements.{CanRunEach, StatementsEnd, EndsByFault};
 
-use mob_list::fault::Fault;
 use mob_ending::Ending;
 use mob_eval::QueryFault;
+use mob_list::fault::Fault;
 use mob_outside::{Sink, put_all};
 use std::alloc::Global;
 

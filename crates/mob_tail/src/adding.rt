@@ -14,9 +14,9 @@ ghost use Rattle.mob_tail.specs.Aggregated.{number_in, one_where, leaves_out, Is
 ghost use Rattle.mob_tail.specs.Made.{made_in};
 ghost use Rattle.mob_tail.specs.States.{is_in_parts};
 
-use mob_list::fault::Fault;
 use mob_ast::SqlType;
 use mob_frac::Frac;
+use mob_list::fault::Fault;
 use mob_meaning::Calculation;
 use mob_operators::AggKind;
 use mob_slice::{Course, Formula, Line, Moving, Steady};
@@ -225,7 +225,12 @@ pub fn ones_on(alloc: Global, value: &Value) -> Result<Option<Moving<Steady<Frac
 }
 
 // Brings one more value into a sum over time of this type.
-fn sum_more(alloc: Global, ty: SqlType, before: &mut Value, value: &Value) -> Result<(), Fault<Formula>>
+fn sum_more(
+    alloc: Global,
+    ty: SqlType,
+    before: &mut Value,
+    value: &Value,
+) -> Result<(), Fault<Formula>>
     ensures with { IsAggregateWith false AggKind.TSum ty before.old value.now (made_in result before.new) }
 {
     match ty {

@@ -10,12 +10,12 @@ ghost use Rattle.mob_tail.specs.GroupedAnswers.{IsGroupedAnswer};
 ghost use Rattle.mob_eval.specs.Remembered.{root_seen};
 ghost use Rattle.mob_tail.specs.Recalling.{AnswerFits, answer_recollection, item_trees, key_trees};
 
-use mob_list::fault::Fault;
 use crate::evaluation::rows_on;
 use crate::grouping::grouped_rows;
 use crate::roots::roots_of;
 use mob_arrange::{Row, arranged_text};
 use mob_eval::{Memory, QueryFault, Remembering, memory_of};
+use mob_list::fault::Fault;
 use mob_list::items::Items;
 use mob_list::text::Text;
 use mob_scalar::Epoch;
@@ -96,10 +96,7 @@ fn answer_on<K: Remembering>(
         epoch,
         memory.in_use(),
     ) {
-        Ok(rows) => match text_of(alloc, select, rows, epoch) {
-            Ok(text) => Ok(text),
-            Err(_) => Err(Fault::NoMemory),
-        },
+        Ok(rows) => Ok(text_of(alloc, select, rows, epoch)?),
         Err(fault) => Err(fault),
     }
 }
@@ -150,10 +147,7 @@ fn grouped_answer(
     ensures fault { IfErr result (OnCause (λ f. IsGroupedAnswer (select_seen select.now) store.now epoch.now kept.now (Err f))) }
 {
     match grouped_rows(alloc, select, store, kept, epoch) {
-        Ok(rows) => match text_of(alloc, select, rows, epoch) {
-            Ok(text) => Ok(text),
-            Err(_) => Err(Fault::NoMemory),
-        },
+        Ok(rows) => Ok(text_of(alloc, select, rows, epoch)?),
         Err(fault) => Err(fault),
     }
 }

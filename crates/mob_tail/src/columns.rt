@@ -9,8 +9,8 @@ ghost use Rattle.mob_tail.specs.Groups.{is_bare, column_on};
 ghost use Rattle.mob_tail.specs.GroupedAnswers.{agg_at, columns_from, IsArgumentOf};
 ghost use Rattle.mob_tail.specs.GroupSteps.{column_seen};
 
-use mob_list::fault::Fault;
 use mob_eval::{Held, View, held_value};
+use mob_list::fault::Fault;
 use mob_list::text::Text;
 use mob_operators::AggKind;
 use mob_outcome::fault::EvalFault;

@@ -17,9 +17,9 @@ ghost use Rattle.mob_tail.specs.Answers.{IsRowOf, IsTupleRow};
 ghost use Rattle.mob_tail.specs.Evaluated.{AreEvaluated};
 ghost use Rattle.mob_tail.specs.Recalling.{AnswerFits, SelectFits, item_trees, key_trees};
 
-use mob_list::fault::Fault;
 use mob_arrange::{Row, RowValue};
 use mob_eval::{Held, Memory, QueryFault, Remembering, View, fault_on, value_with};
+use mob_list::fault::Fault;
 use mob_list::items::Items;
 use mob_outcome::fault::EvalFault;
 use mob_scalar::Epoch;

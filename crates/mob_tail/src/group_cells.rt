@@ -10,11 +10,11 @@ ghost use Rattle.mob_tail.specs.Groups.{column_on};
 ghost use Rattle.mob_tail.specs.States.{IsStateWith};
 ghost use Rattle.mob_tail.specs.GroupSteps.{column_seen, IsAggregateOn, IsColumnWith, IsCellWith, FailsInCells, first_of, IsStart, IsStartCell, IsStartGroup, IsCellHeld};
 
-use mob_list::fault::{Fault, fault_at};
 use crate::adding::put;
 use crate::columns::{Column, argument_on, column_on};
 use crate::state::{State, nothing_yet, state_in, value_of};
 use mob_eval::{Held, View};
+use mob_list::fault::{Fault, fault_at};
 use mob_outcome::fault::EvalFault;
 use mob_tuples::Tuple;
 use mob_typed::{Agg, TExpr};

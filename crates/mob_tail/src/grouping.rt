@@ -15,12 +15,12 @@ ghost use Rattle.mob_arrange.specs.RowValues.{row_value};
 ghost use Rattle.mob_arrange.specs.TextsSeen.{texts_of};
 ghost use Rattle.mob_tail.specs.GroupSteps.{first_of, IsGroupOf, AreGroupsOf, keys_on, number_on};
 
-use mob_list::fault::Fault;
 use crate::columns::{column_on, columns_of, is_bare};
 use crate::group_cells::{Group, group_with, no_groups, values_of};
 use mob_arrange::{Row, RowValue};
 use mob_eval::{QueryFault, View, fault_on};
 use mob_groups::{Groups, numbered};
+use mob_list::fault::Fault;
 use mob_list::items::Items;
 use mob_list::text::Text;
 use mob_literal::write_field;
@@ -346,7 +346,7 @@ pub fn grouped_rows<'a>(
     let Ok((numbers, mut groups)) = begun(alloc, select, store, kept, epoch) else {
         return Err(Fault::NoMemory);
     };
-    match grouped_tuples(
+    grouped_tuples(
         alloc,
         select,
         store,
@@ -354,12 +354,6 @@ pub fn grouped_rows<'a>(
         epoch,
         numbers.as_slice(),
         &mut groups,
-    ) {
-        Ok(()) => {}
-        Err(fault) => return Err(fault),
-    }
-    match rows_of(alloc, select, store, groups, epoch) {
-        Ok(rows) => Ok(rows),
-        Err(_) => Err(Fault::NoMemory),
-    }
+    )?;
+    Ok(rows_of(alloc, select, store, groups, epoch)?)
 }

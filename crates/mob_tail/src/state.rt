@@ -9,13 +9,13 @@ ghost use Rattle.mob_tail.specs.Aggregated.{leaves_out, truths_of};
 ghost use Rattle.mob_tail.specs.Made.{made_in};
 ghost use Rattle.mob_tail.specs.States.{AreTruthsWith, IsHeld, IsStartState, IsStateWith};
 
-use mob_list::fault::Fault;
 use crate::adding::{aggregate_in, leaves_out, ones_on, put};
 use mob_frac::Frac;
+use mob_list::fault::Fault;
 use mob_list::items::Items;
 use mob_operators::AggKind;
 use mob_ordinary::kinds::{bool_or_null, int_or_null};
-use mob_slice::{Course, Moving, Steady, Formula};
+use mob_slice::{Course, Formula, Moving, Steady};
 use mob_tagg::{Conjunctions, Counts, Disjunctions, Part, Uniting, gathered, with_value};
 use mob_typed::Agg;
 use mob_value::Value;
@@ -125,7 +125,12 @@ fn truths_in<U: Uniting<Steady<bool>>>(
 ///
 /// The fault names the formula that adding the value passes: F2 of `+` for a count or a sum, and for
 /// a sum over time the first formula of `+` at each instant. NULL is left out but by `count(*)`.
-pub fn state_in(alloc: Global, agg: Agg, state: &mut State, value: &Value) -> Result<(), Fault<Formula>>
+pub fn state_in(
+    alloc: Global,
+    agg: Agg,
+    state: &mut State,
+    value: &Value,
+) -> Result<(), Fault<Formula>>
     ensures with { IsStateWith (leaves_out agg.kind value.now) agg.kind agg.ty state.old value.now (made_in result state.new) }
 {
     if leaves_out(agg.kind, value) {

@@ -9,8 +9,8 @@ ghost use Rattle.mob_slice.specs.Entries.{IsJudged};
 ghost use Rattle.mob_literal.specs.Fields.{field_text};
 ghost use Rattle.mob_thin_run.specs.ThinRows.{IsThinValue, IsThinRecord, IsThinText, OnTests, PassesFirst, RowTestsFit, RowTestPasses};
 
-use mob_list::fault::{Fault, fault_at};
 use mob_frac::Frac;
+use mob_list::fault::{Fault, fault_at};
 use mob_list::items::Items;
 use mob_list::text::Text;
 use mob_literal::write_field;

@@ -7,10 +7,10 @@ ghost use Rattle.mob_slice.specs.declared.formula.Formula.TheVariants.{F2, F3};
 ghost use Rattle.mob_cells.specs.Roots.{IsLevel, roots, roots_parts, root_of, root_parts, as_list};
 ghost use Rattle.mob_tile.specs.Edges.{numbers_between, edge_of, edge_parts, edge_ends, time_parts};
 
-use mob_list::fault::Fault;
 use mob_cells::{Ends, root};
 use mob_frac::{Frac, Overflow};
 use mob_grid::edge;
+use mob_list::fault::Fault;
 use mob_slice::Formula;
 use mob_span::Span;
 use std::alloc::{AllocError, Global};

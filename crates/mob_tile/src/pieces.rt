@@ -15,15 +15,15 @@ ghost use Rattle.mob_cells.specs.Roots.{IsLevel, roots, roots_parts};
 ghost use Rattle.mob_tile.specs.Edges.{t_edges, differences, cuts_of, edge_of, edges_parts, entry_of_values, entries_of_slice};
 ghost use Rattle.mob_tile.specs.Pieces.{least_of, greatest_of, HasOneTile, Reaches, IsInItsTile, ArePiecesOf, ArePieces, AreTileCells, IsPushed};
 
-use mob_list::fault::Fault;
 use crate::cells::cells_at;
 use crate::cuts::{differences, roots_of, times};
 use crate::grid::Grid;
 use mob_cells::{Ends, append};
 use mob_frac::Frac;
 use mob_grid::{Tile, TileRange};
+use mob_list::fault::Fault;
 use mob_plane::{Point, greater, smaller};
-use mob_slice::{PlaneLine, Ranked, Slice, cut, Formula};
+use mob_slice::{Formula, PlaneLine, Ranked, Slice, cut};
 use mob_span::Span;
 use std::alloc::{AllocError, Global};
 use std::cmp::Ordering;
@@ -139,10 +139,7 @@ fn cells_of(
     let _size = grid.size();
     let _width = grid.width();
     let mut cuts = cuts;
-    match sort_cuts(&mut cuts) {
-        Ok(()) => {}
-        Err(error) => return Err(error),
-    }
+    sort_cuts(&mut cuts)?;
     match cells_at(alloc, &slice.span, cuts.as_slice()) {
         Ok(cells) => Ok(cells),
         Err(error) => Err(error),
@@ -162,10 +159,7 @@ fn piece_on(
     requires one { HasOneTile grid.now slice.now cell.now }
     ensures piece { IsMadeBy F1 (at_ends (slice_parts plane_parts_of slice.now) cell.now) (λ q. HasValues plane_value_of (λ c. c.from) (λ c. c.to) (slice_value plane_value_of slice.now) cell.now q.slice × IsInItsTile grid.now q) result }
 {
-    let part = match cut(alloc, slice, cell) {
-        Ok(part) => part,
-        Err(fault) => return Err(fault),
-    };
+    let part = cut(alloc, slice, cell)?;
     let tile = grid.tile_at(
         range,
         &least(&part.course.from, &part.course.to),
@@ -189,7 +183,8 @@ fn push_piece(
     ensures pushed { IsMadeBy F1 (at_ends (slice_parts plane_parts_of slice.now) cell.now) (λ _. IsPushed grid.now slice.now cell.now out.old.items out.new.items) result }
 {
     let piece = piece_on(alloc, grid, range, slice, cell)?;
-    Ok(out.push(piece)?)
+    out.push(piece)?;
+    Ok(())
 }
 
 // The pieces of a slice on its cells.
@@ -229,18 +224,9 @@ fn on_slice(
     // The clauses of these two say that the sides of a tile are above 0.
     let _size = grid.size();
     let _width = grid.width();
-    let edges = match edges_of(alloc, grid, range, slice) {
-        Ok(edges) => edges,
-        Err(fault) => return Err(fault),
-    };
-    let cuts = match cuts_on(alloc, &slice.span, edges) {
-        Ok(cuts) => cuts,
-        Err(fault) => return Err(fault),
-    };
-    let cells = match cells_of(alloc, grid, slice, cuts) {
-        Ok(cells) => cells,
-        Err(_) => return Err(Fault::NoMemory),
-    };
+    let edges = edges_of(alloc, grid, range, slice)?;
+    let cuts = cuts_on(alloc, &slice.span, edges)?;
+    let cells = cells_of(alloc, grid, slice, cuts)?;
     pieces_at(alloc, grid, range, slice, cells.as_slice())
 }
 

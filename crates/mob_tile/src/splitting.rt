@@ -6,11 +6,11 @@ ghost use Rattle.mob_tile.specs.Edges.{entries_of_slice};
 ghost use Rattle.mob_tile.specs.Pieces.{Reaches};
 ghost use Rattle.mob_tile.specs.Split.{IsSplit, OnRange, SplitAnswer, IsLimited};
 
-use mob_list::fault::Fault;
 use crate::grid::Grid;
 use crate::groups::{parts_of, sort_pieces};
 use crate::pieces::pieces_of;
 use mob_grid::{Tile, TileRange};
+use mob_list::fault::Fault;
 use mob_slice::{Formula, Moving, PlaneLine};
 use mob_value::box_of;
 use std::alloc::Global;
@@ -44,18 +44,9 @@ fn split_in(
     // The clauses of these two say that the sides of a tile are above 0.
     let _size = grid.size();
     let _width = grid.width();
-    let mut pieces = match pieces_of(alloc, grid, range, a.slices()) {
-        Ok(pieces) => pieces,
-        Err(fault) => return Err(fault),
-    };
-    match sort_pieces(&mut pieces) {
-        Ok(()) => {}
-        Err(_) => return Err(Fault::NoMemory),
-    }
-    match parts_of(alloc, pieces.as_slice()) {
-        Ok(parts) => Ok(parts),
-        Err(_) => Err(Fault::NoMemory),
-    }
+    let mut pieces = pieces_of(alloc, grid, range, a.slices())?;
+    sort_pieces(&mut pieces)?;
+    Ok(parts_of(alloc, pieces.as_slice())?)
 }
 
 /// The parts of a moving point in the tiles of a grid: `Grid::split`.
@@ -74,9 +65,7 @@ pub fn split_by(
     let range = match grid.range(&box_of(a)) {
         Ok(range) => range,
         Err(passed) => {
-            return Err(Fault::Because(SplitCause::Passed {
-                formula: passed,
-            }));
+            return Err(Fault::Because(SplitCause::Passed { formula: passed }));
         }
     };
     if range.has_many() {

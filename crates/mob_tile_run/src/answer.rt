@@ -8,11 +8,11 @@ ghost use Rattle.mob_trips.specs.Rows.{id_of, trip_of};
 ghost use Rattle.mob_tile_run.specs.TileTexts.{pair_fields, pair_names};
 ghost use Rattle.mob_tile_run.specs.TileAnswers.{PairsText, IsUsable, TileWrites, TileFails};
 
-use mob_list::fault::Fault;
 use crate::fields::{PairPrinter, pair_names};
 use crate::parts::parts_text;
 use crate::settings::TileSettings;
 use mob_frac::Frac;
+use mob_list::fault::Fault;
 use mob_outside::Gate;
 use mob_pairs::{PairFault, pairs};
 use mob_records::counted_text_by;

@@ -6,10 +6,10 @@ ghost use Rattle.mob_trips.specs.Seen.{trips_seen};
 ghost use Rattle.mob_tile_run.specs.TileAnswers.{IsUsable};
 ghost use Rattle.mob_tile_run.specs.TileProgram.{EndsAt, TileEnds, tile_program};
 
-use mob_list::fault::Fault;
 use crate::answer::tile_text;
 use crate::reading::settings;
 use crate::settings::TileSettings;
+use mob_list::fault::Fault;
 use mob_outside::{Gate, Sink, Source};
 use mob_pairs::{PairCause, PairFault};
 use mob_trips::{Ending, put_text, read_trips};

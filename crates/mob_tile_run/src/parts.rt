@@ -4,15 +4,15 @@ ghost use Rattle.mob_records.specs.AnswerText.{answer_text};
 ghost use Rattle.mob_tile_run.specs.TileTexts.{part_fields, part_names};
 ghost use Rattle.mob_tile_run.specs.TileParts.{IsSplitOf, IsSplitFault, row_fault, ArePartRecords, IsFirstSplitFault, PartsText};
 
-use mob_list::fault::Fault;
 use crate::fields::{part_fields, part_names};
+use mob_list::fault::Fault;
 use mob_list::items::Items;
 use mob_list::text::Text;
 use mob_pairs::{PairCause, PairFault};
 use mob_records::counted_text;
 use mob_scalar::Epoch;
 use mob_slice::{Moving, PlaneLine};
-use mob_tile::{SplitCause, Grid, SplitFault, Tile};
+use mob_tile::{Grid, SplitCause, SplitFault, Tile};
 use mob_tuples::Tuple;
 use mob_value::Value;
 use std::alloc::{AllocError, Global};

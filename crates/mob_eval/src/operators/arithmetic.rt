@@ -11,12 +11,12 @@ ghost use Rattle.mob_meaning.specs.Calculations.{result_by, parts_by};
 ghost use Rattle.mob_meaning.specs.Lifted.{IsMovingInt, OnPair, entries_on, number_pair};
 ghost use Rattle.mob_eval.specs.Outcomes.{IsOutcome};
 
-use mob_list::fault::Fault;
 use crate::operators::line_arithmetic::{line_calculated, line_divided};
 use crate::operators::pair::number_pair;
 use mob_arith::{minus, plus, times};
 use mob_ast::SqlType;
 use mob_frac::{Frac, Overflow};
+use mob_list::fault::Fault;
 use mob_meaning::Calculation;
 use mob_ordinary::kinds::int_or_null;
 use mob_ordinary::numbers::is_nil;
@@ -66,7 +66,12 @@ fn lifted(
 }
 
 // `+`, `-` or `*` at each instant, on two values of which one is a tint.
-fn moving(alloc: Global, by: Calculation, left: &Value, right: &Value) -> Result<Value, Fault<Formula>>
+fn moving(
+    alloc: Global,
+    by: Calculation,
+    left: &Value,
+    right: &Value,
+) -> Result<Value, Fault<Formula>>
     ensures outcome { IsOutcome (OnPair (number_pair left.now right.now) (IsMovingInt (result_by by))) (IsFirst (entries_on (entries_at_ends steady_value steady_parts steady_value steady_parts (parts_by by)) (number_pair left.now right.now))) result }
 {
     match number_pair(left, right) {
@@ -114,7 +119,12 @@ fn plain_division(left: &Value, right: &Value) -> Result<Value, Fault<Formula>>
 }
 
 /// `/` between two values, with a result of this type. NULL where the divisor is 0.
-pub fn division(alloc: Global, ty: SqlType, left: &Value, right: &Value) -> Result<Value, Fault<Formula>>
+pub fn division(
+    alloc: Global,
+    ty: SqlType,
+    left: &Value,
+    right: &Value,
+) -> Result<Value, Fault<Formula>>
     ensures outcome { IsOutcome (IsDivided ty left.now right.now) (IsFirst (divided_entries ty left.now right.now)) result }
 {
     match ty {

@@ -6,11 +6,11 @@ ghost use Rattle.mob_meaning.specs.Lifted.{OnPair, IsMovingBool, IsMovingText, I
 ghost use Rattle.mob_meaning.specs.Operators.{concatenation, IsJoined};
 ghost use Rattle.mob_eval.specs.Outcomes.{IsOutcome};
 
-use mob_list::fault::Fault;
 use crate::operators::pair::{text_pair, truth_pair};
 use mob_arith::operation::{Joining, Operation};
 use mob_arith::{and, join_text, not, or};
 use mob_ast::SqlType;
+use mob_list::fault::Fault;
 use mob_ordinary::kinds::{bool_or_null, text_or_null};
 use mob_slice::Formula;
 use mob_value::Value;
@@ -65,7 +65,12 @@ fn moving_joined(alloc: Global, left: &Value, right: &Value) -> Result<Value, Fa
 }
 
 /// `||`: two texts joined, with a result of this type.
-pub fn join(alloc: Global, ty: SqlType, left: &Value, right: &Value) -> Result<Value, Fault<Formula>>
+pub fn join(
+    alloc: Global,
+    ty: SqlType,
+    left: &Value,
+    right: &Value,
+) -> Result<Value, Fault<Formula>>
     ensures outcome { IsOutcome (IsJoined ty left.now right.now) (IsFirst []) result }
 {
     match ty {

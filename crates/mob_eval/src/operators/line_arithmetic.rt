@@ -13,10 +13,10 @@ ghost use Rattle.mob_meaning.specs.Lifted.{OnOperands, entries_on};
 ghost use Rattle.mob_meaning.specs.Lines.{as_line, frac_pair, line_pair, factors, product_pair, IsMovingFrac};
 ghost use Rattle.mob_eval.specs.Outcomes.{IsOutcome};
 
-use mob_list::fault::Fault;
 use crate::operators::lines::{as_line, as_lines};
 use crate::operators::pair::{factors, frac_pair};
 use mob_arith::{minus, over_const, plus, times};
+use mob_list::fault::Fault;
 use mob_meaning::Calculation;
 use mob_ordinary::kinds::frac_or_null;
 use mob_ordinary::numbers::is_nil;
@@ -26,7 +26,12 @@ use std::alloc::Global;
 use std::mem::drop;
 
 // The sum or the difference of numbers that change evenly.
-fn frac_terms(alloc: Global, by: Calculation, left: &Value, right: &Value) -> Result<Value, Fault<Formula>>
+fn frac_terms(
+    alloc: Global,
+    by: Calculation,
+    left: &Value,
+    right: &Value,
+) -> Result<Value, Fault<Formula>>
     requires term { by ≢ Product }
     ensures outcome { IsOutcome (OnOperands line_value_of line_value_of (frac_pair left.now right.now) (IsMovingFrac (result_by by))) (IsFirst (entries_on (entries_at_ends line_value_of line_parts_of line_value_of line_parts_of (parts_by by)) (frac_pair left.now right.now))) result }
 {
@@ -50,7 +55,12 @@ fn frac_product(alloc: Global, left: &Value, right: &Value) -> Result<Value, Fau
 }
 
 // The sum or the difference, a tint among them.
-fn line_terms(alloc: Global, by: Calculation, left: &Value, right: &Value) -> Result<Value, Fault<Formula>>
+fn line_terms(
+    alloc: Global,
+    by: Calculation,
+    left: &Value,
+    right: &Value,
+) -> Result<Value, Fault<Formula>>
     requires term { by ≢ Product }
     ensures outcome { IsOutcome (OnOperands line_value_of line_value_of (line_pair left.now right.now) (IsMovingFrac (result_by by))) (IsFirst (entries_on (entries_at_ends line_value_of line_parts_of line_value_of line_parts_of (parts_by by)) (line_pair left.now right.now))) result }
 {

@@ -26,7 +26,6 @@ mod printed;
 mod restriction;
 mod signs;
 
-use mob_list::fault::Fault;
 use crate::operators::arithmetic::{calculate, division};
 use crate::operators::boxes::{box_restriction, box_value, expansion, overlap};
 use crate::operators::by_value::value_restriction;
@@ -43,6 +42,7 @@ use crate::operators::restriction::restriction;
 use crate::operators::signs::sign_test;
 use crate::scene::View;
 use mob_ast::SqlType;
+use mob_list::fault::Fault;
 use mob_meaning::{Calculation, Scope};
 use mob_operators::Op;
 use mob_ordinary::comparison::test;

@@ -3,8 +3,8 @@ ghost use Rattle.mob_slice.specs.Entries.{IsFirst};
 ghost use Rattle.mob_meaning.specs.Nearness.{IsEverWithin, IsNearestApproach, within_entries, approach_entries};
 ghost use Rattle.mob_eval.specs.Outcomes.{IsOutcome};
 
-use mob_list::fault::Fault;
 use crate::operators::pair::plane_pair;
+use mob_list::fault::Fault;
 use mob_near::{approach_squared, ever_within};
 use mob_ordinary::kinds::plain_number;
 use mob_ordinary::logic::answered;

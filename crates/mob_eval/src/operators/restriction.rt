@@ -6,12 +6,12 @@ ghost use Rattle.mob_cells.specs.Restricted.{IsRestricted};
 ghost use Rattle.mob_meaning.specs.Times.{IsRestriction, IsTimeRestriction, cut_entries, cuts_of, restriction_entries};
 ghost use Rattle.mob_eval.specs.Outcomes.{IsOutcome};
 
-use mob_list::fault::Fault;
 use crate::operators::asked::instant_span;
+use mob_list::fault::Fault;
 use mob_ordinary::kinds::{bool_or_null, frac_or_null, int_or_null, point_or_null, text_or_null};
 use mob_ordinary::sets::one_span;
 use mob_restrict::{at_time, minus_time};
-use mob_slice::{Course, Moving, Formula};
+use mob_slice::{Course, Formula, Moving};
 use mob_span::{Span, SpanSet};
 use mob_value::Value;
 use std::alloc::Global;
@@ -35,7 +35,12 @@ where
 }
 
 // What is left of a temporal value of any type at the instants of a set, or at the others.
-fn restricted(alloc: Global, want: bool, value: &Value, when: &SpanSet) -> Result<Value, Fault<Formula>>
+fn restricted(
+    alloc: Global,
+    want: bool,
+    value: &Value,
+    when: &SpanSet,
+) -> Result<Value, Fault<Formula>>
     ensures outcome { IsOutcome (IsRestriction want when.now value.now) (IsFirst (cuts_of when.now value.now)) result }
 {
     match value {

@@ -12,7 +12,6 @@ ghost use Rattle.mob_meaning.specs.Lines.{line_pair};
 ghost use Rattle.mob_meaning.specs.Signs.{IsAsked, IsOrderTest, IsAnyTest, IsSignTest, entries_asked, order_entries, any_entries, sign_entries};
 ghost use Rattle.mob_eval.specs.Outcomes.{IsOutcome};
 
-use mob_list::fault::Fault;
 use crate::operators::lines::as_lines;
 use crate::operators::pair::{
     Pair, StepPair, frac_pair, number_pair, plane_pair, text_pair, truth_pair,
@@ -20,11 +19,12 @@ use crate::operators::pair::{
 use mob_ast::{Cmp, SqlType};
 use mob_compare::compare;
 use mob_ever::{always, ever};
+use mob_list::fault::Fault;
 use mob_meaning::Scope;
 use mob_ordinary::comparison::rel_of;
 use mob_ordinary::kinds::bool_or_null;
 use mob_ordinary::logic::answered;
-use mob_slice::{Compared, Ranked, Rel, Formula};
+use mob_slice::{Compared, Formula, Ranked, Rel};
 use mob_value::Value;
 use std::alloc::Global;
 use std::mem::drop;

@@ -7,12 +7,12 @@ ghost use Rattle.mob_join.specs.TypedFor.{IsTypedFor};
 ghost use Rattle.mob_shell.specs.Runs.{Stops, StatementWrites, StatementLeaves, begin, later_files, next_rows};
 ghost use Rattle.mob_shell.specs.Session.{IsNoDelete, SessionCanRun, SessionRuns, StopsOn, session_day, session_state};
 
-use mob_list::fault::Fault;
 use crate::statements::answers::{answered, explained};
 use crate::statements::deleting::delete_kept;
 use crate::statements::rows::{copy_of_columns, put_constants};
 use mob_catalog::Catalog;
 use mob_eval::QueryFault;
+use mob_list::fault::Fault;
 use mob_load::Program;
 use mob_outside::Gate;
 use mob_scalar::Epoch;
