@@ -2,6 +2,7 @@
 ghost use Rattle.std.specs.Prelude.{◌≡◌, ◌<◌, ◌≤◌, ◌^◌, length, IfSome, IfOk, IfErr, Ok};
 ghost use Rattle.mob_chars.specs.Tokens.{token_at, tokens_of, IsLexFault};
 
+use mob_list::fault::Fault;
 use crate::scan::{
     begins_number, gap_length, is_letter, number_length, quoted_length, sign_length, word_length,
 };
@@ -30,7 +31,7 @@ fn token_length(text: &[u8]) -> Option<(TokenKind, usize)>
 /// The tokens of a text, in order; the last is its end. Only blanks and comments stand between
 /// them.
 ///
-/// Answers `Lexical` exactly where a character begins no token or a string is not closed, with the
+/// The fault is a place exactly where a character begins no token or a string is not closed, with the
 /// first such place.
 pub fn tokens(alloc: Global, text: &str) -> Result<Items<Token>, LexFault>
     requires short { length text.now < 2 ^ 32 }
@@ -47,7 +48,7 @@ pub fn tokens(alloc: Global, text: &str) -> Result<Items<Token>, LexFault>
             at += gap;
         } else {
             let Some((kind, size)) = token_length(rest) else {
-                return Err(LexFault::Lexical { place: at as u32 });
+                return Err(Fault::Because(at as u32));
             };
             found.push(Token {
                 kind,
