@@ -29,7 +29,7 @@ where
     C::Base: Drop,
     requires moves { C.STEADY ≡ false }
     requires holds { HoldsSide C.start_of C.end_of (side_of side.now) span.now }
-    ensures slice { MatchResult result (λ s. HasValues C.value_of C.start_of C.end_of (side_at C.value_of (side_of side.now)) span.now s × AllFit (at_ends (side_parts C.parts_of (side_of side.now)) span.now)) (λ e. (e.formula ≡ F1) × (¬ AllFit (at_ends (side_parts C.parts_of (side_of side.now)) span.now))) }
+    ensures slice { MatchResult result (λ s. HasValues C.value_of C.start_of C.end_of (side_at C.value_of (side_of side.now)) span.now s × AllFit (at_ends (side_parts C.parts_of (side_of side.now)) span.now)) (λ e. (e ≡ F1) × (¬ AllFit (at_ends (side_parts C.parts_of (side_of side.now)) span.now))) }
 {
     match side.on(alloc, span) {
         Ok(slice) => Ok(slice),

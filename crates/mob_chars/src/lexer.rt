@@ -2,11 +2,11 @@
 ghost use Rattle.std.specs.Prelude.{◌≡◌, ◌<◌, ◌≤◌, ◌^◌, length, IfSome, IfOk, IfErr, Ok};
 ghost use Rattle.mob_chars.specs.Tokens.{token_at, tokens_of, IsLexFault};
 
-use mob_list::fault::Fault;
 use crate::scan::{
     begins_number, gap_length, is_letter, number_length, quoted_length, sign_length, word_length,
 };
 use crate::token::{LexFault, Token, TokenKind};
+use mob_list::fault::Fault;
 use mob_list::items::Items;
 use std::alloc::Global;
 

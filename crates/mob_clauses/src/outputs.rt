@@ -8,13 +8,13 @@ ghost use Rattle.mob_typed.specs.Trees.{typed, typed_of, none};
 ghost use Rattle.mob_typed.specs.Selects.{output_of};
 ghost use Rattle.mob_clauses.specs.Outputs.{columns_of_table, all_outputs, numbered_name, tree_name, output_name, count_name, with_alias, value_seen, counting, lone_operand, aggregated, aggregate_value, plain_value, item_value, with_output, no_agg, with_every, with_item, with_items, outputs_seen, no_outputs};
 
-use mob_list::fault::Fault;
 use crate::conditions::tree_place;
 use crate::groups::{any_ungrouped, is_ungrouped};
 use mob_ast::{Expr, Item, Kind, Node, SqlType, Word};
 use mob_expression::constants::leaf;
 use mob_expression::expression::{type_expr, type_operands};
 use mob_expression::operators::type_of;
+use mob_list::fault::Fault;
 use mob_list::items::Items;
 use mob_list::text::Text;
 use mob_operators::{AggKind, Op, aggregate_row, is_aggregate};
@@ -44,7 +44,7 @@ fn push_column(
     ty: SqlType,
     name: &str,
     place: u32,
-) -> Result<(), Fault<Mistake>
+) -> Result<(), Fault<Mistake>>
     ensures last { AnswersAs (λ _. map output_of columns.new.items) result (Ok (map output_of columns.old.items ++ (typed op ty place none, name.now) ∷ [])) }
 {
     let name = Text::from_str(alloc, name)?;
@@ -59,7 +59,7 @@ fn push_columns(
     from: u32,
     source: &Columns,
     place: u32,
-) -> Result<(), Fault<Mistake>
+) -> Result<(), Fault<Mistake>>
     ensures behind { AnswersAs (λ _. map output_of columns.new.items) result (Ok (map output_of columns.old.items ++ columns_of_table from 0 source.now place)) }
 {
     for index in 0..source.len() {
@@ -76,7 +76,7 @@ fn push_all(
     columns: &mut Vec<(TExpr, Text)>,
     from: &[ScopeTable<'_>],
     place: u32,
-) -> Result<(), Fault<Mistake>
+) -> Result<(), Fault<Mistake>>
     ensures behind { AnswersAs (λ _. map output_of columns.new.items) result (Ok (map output_of columns.old.items ++ all_outputs 0 (sources_of from.now) place)) }
 {
     for (index, source) in from.iter().enumerate() {
@@ -146,7 +146,11 @@ fn push_alias<'a>(
 }
 
 // The expression of an aggregate and the aggregate over it.
-fn aggregated(name: &str, place: u32, args: Vec<TExpr>) -> Result<(TExpr, Option<Agg>), Fault<Mistake>
+fn aggregated(
+    name: &str,
+    place: u32,
+    args: Vec<TExpr>,
+) -> Result<(TExpr, Option<Agg>), Fault<Mistake>>
     ensures judged { AnswersAs value_seen result (aggregated name.now place (map typed_of args.items)) }
 {
     let Some(value) = lone_operand(args) else {
@@ -181,7 +185,7 @@ fn aggregate_value(
     name: &str,
     place: u32,
     operands: &[Expr],
-) -> Result<(TExpr, Option<Agg>), Fault<Mistake>
+) -> Result<(TExpr, Option<Agg>), Fault<Mistake>>
     ensures typed { TypesTo value_seen result consts.new (aggregate_value (scope_of scope.now) name.now place (trees_of operands.now) consts.old) }
 {
     let args = type_operands(alloc, scope, consts, operands)?;
@@ -195,7 +199,7 @@ fn plain_value(
     groups: &Option<Items<(u32, u32)>>,
     consts: &mut Items<ConstText>,
     e: &Expr,
-) -> Result<(TExpr, Option<Agg>), Fault<Mistake>
+) -> Result<(TExpr, Option<Agg>), Fault<Mistake>>
     ensures typed { TypesTo value_seen result consts.new (plain_value (scope_of scope.now) groups.now (tree_of e.now) consts.old) }
 {
     let value = type_expr(alloc, scope, consts, e)?;
@@ -216,7 +220,7 @@ fn item_value(
     groups: &Option<Items<(u32, u32)>>,
     consts: &mut Items<ConstText>,
     e: &Expr,
-) -> Result<(TExpr, Option<Agg>), Fault<Mistake>
+) -> Result<(TExpr, Option<Agg>), Fault<Mistake>>
     ensures typed { TypesTo value_seen result consts.new (item_value (scope_of scope.now) groups.now (tree_of e.now) consts.old) }
 {
     match &e.node {
@@ -237,7 +241,7 @@ fn push_output<'a>(
     value: (TExpr, Option<Agg>),
     name: Text,
     alias: &'a Option<Word>,
-) -> Result<(), Fault<Mistake>
+) -> Result<(), Fault<Mistake>>
     ensures last { AnswersAs (λ _. outputs_seen outputs.new) result (Ok (with_output (outputs_seen outputs.old) (value_seen value) name alias.now)) }
 {
     let position = outputs.columns.len();
@@ -257,7 +261,7 @@ fn push_one<'a>(
     outputs: &mut Outputs<'a>,
     value: &Expr,
     alias: &'a Option<Word>,
-) -> Result<(), Fault<Mistake>
+) -> Result<(), Fault<Mistake>>
     ensures typed { TypesTo (λ _. outputs_seen outputs.new) result consts.new (with_item (scope_of scope.now) groups.now (outputs_seen outputs.old) (one (tree_of value.now) alias.now) consts.old) }
 {
     let name = output_name(alloc, alias, value, outputs.columns.len())?;
@@ -271,7 +275,7 @@ fn push_count<'a>(
     outputs: &mut Outputs<'a>,
     place: u32,
     alias: &'a Option<Word>,
-) -> Result<(), Fault<Mistake>
+) -> Result<(), Fault<Mistake>>
     ensures last { AnswersAs (λ _. outputs_seen outputs.new) result (Ok (with_output (outputs_seen outputs.old) (counting place) (count_name alias.now (length (outputs_seen outputs.old).columns)) alias.now)) }
 {
     let name = count_name(alloc, alias, outputs.columns.len())?;
@@ -310,7 +314,7 @@ fn all_outputs(
     alloc: Global,
     from: &[ScopeTable<'_>],
     place: u32,
-) -> Result<Vec<(TExpr, Text)>, Fault<Mistake>
+) -> Result<Vec<(TExpr, Text)>, Fault<Mistake>>
     ensures all { AnswersAs (λ v. map output_of v.items) result (Ok (all_outputs 0 (sources_of from.now) place)) }
 {
     let mut columns = Vec::new(alloc);
@@ -325,7 +329,7 @@ fn push_every(
     groups: &Option<Items<(u32, u32)>>,
     outputs: &mut Outputs<'_>,
     place: u32,
-) -> Result<(), Fault<Mistake>
+) -> Result<(), Fault<Mistake>>
     ensures behind { AnswersAs (λ _. outputs_seen outputs.new) result (with_every (scope_of scope.now) groups.now (outputs_seen outputs.old) place) }
 {
     if scope.from.is_empty() {
@@ -354,7 +358,7 @@ fn push_item<'a>(
     consts: &mut Items<ConstText>,
     outputs: &mut Outputs<'a>,
     item: &'a Item,
-) -> Result<(), Fault<Mistake>
+) -> Result<(), Fault<Mistake>>
     ensures typed { TypesTo (λ _. outputs_seen outputs.new) result consts.new (with_item (scope_of scope.now) groups.now (outputs_seen outputs.old) (item_of item.now) consts.old) }
 {
     match item {
@@ -373,7 +377,7 @@ pub fn outputs_of<'a>(
     groups: &Option<Items<(u32, u32)>>,
     consts: &mut Items<ConstText>,
     items: &'a [Item],
-) -> Result<Outputs<'a>, Fault<Mistake>
+) -> Result<Outputs<'a>, Fault<Mistake>>
     ensures listed { TypesTo outputs_seen result consts.new (with_items (scope_of scope.now) groups.now no_outputs (map item_of items.now) consts.old) }
 {
     let mut outputs = Outputs {

@@ -6,9 +6,9 @@ ghost use Rattle.mob_typed.specs.Trees.{typed, typed_of, none};
 ghost use Rattle.mob_scope.specs.Scopes.{scope_of};
 ghost use Rattle.mob_expression.specs.Expressions.{next_constant, constant, settled, typed_string, only, lone_string, cast_of_string, typed_before_operands};
 
-use mob_list::fault::Fault;
 use crate::words::{literal_type, number_type, type_named};
 use mob_ast::{Expr, Kind, Node, SqlType, TypeWord};
+use mob_list::fault::Fault;
 use mob_list::items::Items;
 use mob_list::text::Text;
 use mob_operators::{Form, Op, is_irrational};
@@ -45,7 +45,7 @@ pub fn next_constant(
     ty: SqlType,
     text: &str,
     place: u32,
-) -> Result<u32, Fault<Mistake>
+) -> Result<u32, Fault<Mistake>>
     ensures next { TypesTo (λ n. n) result consts.new (next_constant statement ty text.now place consts.old) }
 {
     let index = number(consts.len())?;
@@ -89,7 +89,7 @@ fn cast_of_string(
     word: &TypeWord,
     place: u32,
     args: &[Expr],
-) -> Result<Option<TExpr>, Fault<Mistake>
+) -> Result<Option<TExpr>, Fault<Mistake>>
     ensures at_once { TypesTo (option_map typed_of) result consts.new (cast_of_string (scope_of scope.now) word.now place (lone_string (trees_of args.now)) consts.old) }
 {
     let Some((text, text_place)) = lone_string(args) else {
@@ -115,7 +115,7 @@ fn settled_constant(
     ty: SqlType,
     text: &str,
     place: u32,
-) -> Result<Option<TExpr>, Fault<Mistake>
+) -> Result<Option<TExpr>, Fault<Mistake>>
     ensures at_once { TypesTo (option_map typed_of) result consts.new (settled (constant (scope_of scope.now) ty text.now place) consts.old) }
 {
     let index = next_constant(alloc, scope.statement, consts, ty, text, place)?;
@@ -130,7 +130,7 @@ fn settled_string(
     word: &TypeWord,
     text: &str,
     place: u32,
-) -> Result<Option<TExpr>, Fault<Mistake>
+) -> Result<Option<TExpr>, Fault<Mistake>>
     ensures at_once { TypesTo (option_map typed_of) result consts.new (settled (typed_string (scope_of scope.now) word.now text.now place) consts.old) }
 {
     let Some(ty) = literal_type(word, text) else {
@@ -152,7 +152,7 @@ pub(crate) fn typed_before_operands(
     node: &Node,
     place: u32,
     args: &[Expr],
-) -> Result<Option<TExpr>, Fault<Mistake>
+) -> Result<Option<TExpr>, Fault<Mistake>>
     ensures settled { TypesTo (option_map typed_of) result consts.new (typed_before_operands (scope_of scope.now) node.now place (trees_of args.now) consts.old) }
 {
     match node {

@@ -9,9 +9,9 @@ ghost use Rattle.mob_typed.specs.Trees.{TypedTree, typed, typed_of, typed_trees,
 ghost use Rattle.mob_expression.specs.Words.{is_zero};
 ghost use Rattle.mob_expression.specs.Expressions.{is_signed, digits_of, divisor_of, missing, missing_sign, are_linear, divides_by_zero, operated, can_cast, can_cast_all, cast, finished};
 
-use mob_list::fault::Fault;
 use crate::words::{is_zero, type_named};
 use mob_ast::{Expr, Kind, Node, SqlType, TypeWord};
+use mob_list::fault::Fault;
 use mob_operators::{Form, Op, is_aggregate, is_function, is_irrational, operator_for};
 use mob_scope::fault::Mistake;
 use mob_typed::{TExpr, with_args};
@@ -137,7 +137,7 @@ fn operated(
     place: u32,
     divisor: Option<bool>,
     types: &[SqlType],
-) -> Result<(Op, SqlType), Fault<Mistake>
+) -> Result<(Op, SqlType), Fault<Mistake>>
     ensures typed { (ts : List TypedTree) → types.now ≡ types_of ts → AnswersAs (λ r. typed r.0 r.1 place (typed_trees ts)) result (operated form name.now place divisor ts) }
 {
     let Some((op, ty)) = operator_for(form, name, types, divisor.is_some()) else {
@@ -166,7 +166,7 @@ fn can_cast(from: SqlType, to: SqlType) -> bool
 }
 
 // A cast of operands of these types, and the type of its result.
-fn cast(word: &TypeWord, place: u32, types: &[SqlType]) -> Result<(Op, SqlType), Fault<Mistake>
+fn cast(word: &TypeWord, place: u32, types: &[SqlType]) -> Result<(Op, SqlType), Fault<Mistake>>
     ensures typed { (ts : List TypedTree) → types.now ≡ types_of ts → AnswersAs (λ r. typed r.0 r.1 place (typed_trees ts)) result (cast word.now place ts) }
 {
     let Some(ty) = type_named(word) else {
@@ -200,7 +200,7 @@ fn operator_of(
     place: u32,
     args: &[Expr],
     types: &[SqlType],
-) -> Result<(Op, SqlType), Fault<Mistake>
+) -> Result<(Op, SqlType), Fault<Mistake>>
     ensures typed { (ts : List TypedTree) → types.now ≡ types_of ts → AnswersAs (λ r. typed r.0 r.1 place (typed_trees ts)) result (finished node.now place (trees_of args.now) ts) }
 {
     match node {
@@ -226,7 +226,7 @@ pub(crate) fn finished(
     place: u32,
     args: &[Expr],
     typed_args: Vec<TExpr>,
-) -> Result<TExpr, Fault<Mistake>
+) -> Result<TExpr, Fault<Mistake>>
     ensures typed { AnswersAs typed_of result (finished node.now place (trees_of args.now) (map typed_of typed_args.items)) }
 {
     let types = types_of(alloc, &typed_args)?;

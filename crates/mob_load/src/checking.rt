@@ -8,13 +8,13 @@ ghost use Rattle.mob_load.specs.Fronts.{AsksForAll, AsksForSome, OnFiles};
 ghost use Rattle.mob_load.specs.Loads.{LoadsTo, HasFaultCause, HasNarrow, IsFaultAt, IsNarrow, IsNoFault, IsRead, LoadsCheck, LoadsFile, LoadsLiteral, OnRead, ReadsCheck, columns_or_none, loaded_of, names_of, one_row, loaded_row_count, with_file, with_made_table};
 ghost use Rattle.mob_load.specs.declared.program.LoadEnd.TheVariants.{NoMemory, Refused};
 
-use mob_list::fault::Fault;
 use crate::check::Check;
 use crate::file::{FileEnd, read_file};
 use crate::loading::Loading;
 use crate::program::LoadEnd;
 use mob_ast::{Kind, Refusal, SqlType};
 use mob_catalog::{LoadFault, constant, read_table};
+use mob_list::fault::Fault;
 use mob_list::text::Text;
 use mob_outside::Files;
 use mob_scalar::Epoch;

@@ -5,13 +5,13 @@ ghost use Rattle.mob_scope.specs.Names.{entry_from};
 ghost use Rattle.mob_scope.specs.Scopes.{source_of, sources_of, scope_of};
 ghost use Rattle.mob_scope.specs.Columns.{the_one, matches, column_among, in_from, column_named};
 
-use mob_list::fault::Fault;
 use crate::fault::Mistake;
 use crate::scope::{Found, Scope, ScopeTable, number};
 use mob_ast::{Kind, SqlType, Word};
+use mob_list::fault::Fault;
 
 // A column by the numbers of its table and of itself, from 0.
-fn found_at(from: usize, column: usize, ty: SqlType) -> Result<Found, Fault<Mistake>
+fn found_at(from: usize, column: usize, ty: SqlType) -> Result<Found, Fault<Mistake>>
     ensures numbered { AnswersAs (λ f. f) result (Ok (record { from = from; column = column; ty = ty })) }
 {
     let from = number(from)?;
@@ -20,7 +20,7 @@ fn found_at(from: usize, column: usize, ty: SqlType) -> Result<Found, Fault<Mist
 }
 
 // The one column of this name in all tables of FROM.
-fn bare_column(from: &[ScopeTable<'_>], name: &Word) -> Result<Found, Fault<Mistake>
+fn bare_column(from: &[ScopeTable<'_>], name: &Word) -> Result<Found, Fault<Mistake>>
     ensures only_one { AnswersAs (λ f. f) result (the_one name.now.place (matches 0 (sources_of from.now) name.now.text)) }
 {
     let mut one: Option<Found> = None;
@@ -62,7 +62,7 @@ fn column_among(
     from: &[ScopeTable<'_>],
     table: &Option<Word>,
     column: &Word,
-) -> Result<Found, Fault<Mistake>
+) -> Result<Found, Fault<Mistake>>
     ensures named { AnswersAs (λ f. f) result (column_among (sources_of from.now) table.now column.now) }
 {
     let Some(table) = table else {
@@ -84,7 +84,7 @@ fn column_among(
 }
 
 // A column by the number of its table in FROM. A sum past 32 bits is answered as out of memory.
-fn in_from(first: u32, found: Found) -> Result<Found, Fault<Mistake>
+fn in_from(first: u32, found: Found) -> Result<Found, Fault<Mistake>>
     ensures counted { AnswersAs (λ f. f) result (Ok (in_from first found)) }
 {
     let Some(from) = first.checked_add(found.from) else {
@@ -98,7 +98,11 @@ fn in_from(first: u32, found: Found) -> Result<Found, Fault<Mistake>
 }
 
 /// The column that a name stands for, with its table before a point or without.
-pub fn column_named(scope: &Scope<'_>, table: &Option<Word>, column: &Word) -> Result<Found, Fault<Mistake>
+pub fn column_named(
+    scope: &Scope<'_>,
+    table: &Option<Word>,
+    column: &Word,
+) -> Result<Found, Fault<Mistake>>
     ensures named { AnswersAs (λ f. f) result (column_named (scope_of scope.now) table.now column.now) }
 {
     in_from(scope.first, column_among(scope.from, table, column)?)

@@ -14,7 +14,7 @@ pub struct Mistake {
 }
 
 /// Refuses with this kind at this place where the test holds.
-pub fn unless(test: bool, kind: Kind, place: u32) -> Result<(), Fault<Mistake>
+pub fn unless(test: bool, kind: Kind, place: u32) -> Result<(), Fault<Mistake>>
     ensures refused { AnswersAs (λ u. u) result (unless test kind place) }
 {
     if test {

@@ -1,10 +1,10 @@
 // Texts with their tokens and their faults, found by hand.
 
-use mob_list::fault::Fault;
 use mob_chars::laws::{faults_are_stuck, tokens_are_in_order, tokens_are_laid};
 use mob_chars::lexer::tokens;
 use mob_chars::token::TokenKind::{End, Number, Sign, Str, Word};
 use mob_chars::token::{Token, TokenKind};
+use mob_list::fault::Fault;
 use std::alloc::{AllocError, Global};
 
 // Texts, each with its tokens: what each is, and its two places.

@@ -6,12 +6,12 @@ ghost use Rattle.mob_scope.specs.Answers.{AnswersAs};
 ghost use Rattle.mob_expression.specs.Steps.{TypesTo};
 ghost use Rattle.mob_typing.specs.Statements.{made_seen, row_constant, lone_number, signed_value, bool_value, typed_value, node_value, tree_value, row_values, typed_row, typed_rows, inserted, good_delimiter, copied};
 
-use mob_list::fault::Fault;
 use crate::names::Names;
 use mob_ast::{Expr, Kind, Node, Quoted, Row, SqlType, TypeWord, Word};
 use mob_expression::constants::{next_constant, only};
 use mob_expression::operators::is_signed;
 use mob_expression::words::literal_type;
+use mob_list::fault::Fault;
 use mob_list::items::Items;
 use mob_scope::column_list::Columns;
 use mob_scope::fault::{Mistake, unless};
@@ -27,7 +27,7 @@ fn row_constant(
     ty: SqlType,
     text: &str,
     place: u32,
-) -> Result<Option<u32>, Fault<Mistake>
+) -> Result<Option<u32>, Fault<Mistake>>
     ensures next { TypesTo (λ v. v) result consts.new (row_constant statement ty text.now place consts.old) }
 {
     Ok(Some(next_constant(alloc, statement, consts, ty, text, place)?))
@@ -54,7 +54,7 @@ fn signed_value(
     sign: &str,
     place: u32,
     args: &[Expr],
-) -> Result<Option<u32>, Fault<Mistake>
+) -> Result<Option<u32>, Fault<Mistake>>
     ensures with_sign { TypesTo (λ v. v) result consts.new (signed_value statement ty sign.now place (lone_number (trees_of args.now)) consts.old) }
 {
     let Some((digits, digits_place)) = lone_number(args) else {
@@ -84,7 +84,7 @@ fn bool_value(
     ty: SqlType,
     text: &str,
     place: u32,
-) -> Result<Option<u32>, Fault<Mistake>
+) -> Result<Option<u32>, Fault<Mistake>>
     ensures of_bool { TypesTo (λ v. v) result consts.new (bool_value statement ty text.now place consts.old) }
 {
     unless(!is_same(ty, SqlType::Bool), Kind::NoSuchOperator, place)?;
@@ -100,7 +100,7 @@ fn typed_value(
     word: &TypeWord,
     text: &str,
     place: u32,
-) -> Result<Option<u32>, Fault<Mistake>
+) -> Result<Option<u32>, Fault<Mistake>>
     ensures own_type { TypesTo (λ v. v) result consts.new (typed_value statement ty word.now text.now place consts.old) }
 {
     let Some(own) = literal_type(word, text) else {
@@ -123,7 +123,7 @@ fn node_value(
     node: &Node,
     place: u32,
     args: &[Expr],
-) -> Result<Option<u32>, Fault<Mistake>
+) -> Result<Option<u32>, Fault<Mistake>>
     ensures read { TypesTo (λ v. v) result consts.new (node_value statement ty node.now place (trees_of args.now) consts.old) }
 {
     match node {
@@ -155,7 +155,7 @@ fn tree_value(
     consts: &mut Items<ConstText>,
     ty: SqlType,
     e: &Expr,
-) -> Result<Option<u32>, Fault<Mistake>
+) -> Result<Option<u32>, Fault<Mistake>>
     ensures read { TypesTo (λ v. v) result consts.new (tree_value statement ty (tree_of e.now) consts.old) }
 {
     node_value(alloc, statement, consts, ty, &e.node, e.place, &e.args)
@@ -168,7 +168,7 @@ fn row_values(
     consts: &mut Items<ConstText>,
     columns: &Columns,
     values: &[Expr],
-) -> Result<Items<Option<u32>>, Fault<Mistake>
+) -> Result<Items<Option<u32>>, Fault<Mistake>>
     requires one_each { length values.now ≡ length columns.now }
     ensures in_order { TypesTo (λ v. v) result consts.new (row_values statement columns.now (map tree_of values.now) consts.old) }
 {
@@ -188,7 +188,7 @@ fn typed_row(
     consts: &mut Items<ConstText>,
     columns: &Columns,
     row: &Row,
-) -> Result<Items<Option<u32>>, Fault<Mistake>
+) -> Result<Items<Option<u32>>, Fault<Mistake>>
     ensures row { TypesTo (λ v. v) result consts.new (typed_row statement columns.now (row_of row.now) consts.old) }
 {
     if row.values.len() != columns.len() {
@@ -207,7 +207,7 @@ fn typed_rows(
     consts: &mut Items<ConstText>,
     columns: &Columns,
     rows: &[Row],
-) -> Result<Items<Items<Option<u32>>>, Fault<Mistake>
+) -> Result<Items<Items<Option<u32>>>, Fault<Mistake>>
     ensures in_order { TypesTo (λ v. v) result consts.new (typed_rows statement columns.now (map row_of rows.now) consts.old) }
 {
     let mut done = Items::new(alloc);
@@ -237,7 +237,7 @@ pub fn inserted(
     consts: &mut Items<ConstText>,
     table: &Word,
     rows: &Items<Row>,
-) -> Result<TypedStatement, Fault<Mistake>
+) -> Result<TypedStatement, Fault<Mistake>>
     ensures made { TypesTo (made_seen names.now) result consts.new (inserted statement names.now table.now (map row_of rows.now) consts.old) }
 {
     let Some((index, columns)) = names.find(table.text.as_str()) else {
@@ -257,7 +257,7 @@ pub fn inserted(
 }
 
 // The string behind DELIMITER is one comma.
-fn good_delimiter(delimiter: &Option<Quoted>) -> Result<(), Fault<Mistake>
+fn good_delimiter(delimiter: &Option<Quoted>) -> Result<(), Fault<Mistake>>
     ensures comma { AnswersAs (λ u. u) result (good_delimiter delimiter.now) }
 {
     let Some(string) = delimiter else {
@@ -274,7 +274,7 @@ pub fn copied(
     table: &Word,
     file: &Quoted,
     delimiter: &Option<Quoted>,
-) -> Result<TypedStatement, Fault<Mistake>
+) -> Result<TypedStatement, Fault<Mistake>>
     ensures made { AnswersAs (made_seen names.now) result (copied names.now table.now file.now delimiter.now) }
 {
     let Some((index, _)) = names.find(table.text.as_str()) else {

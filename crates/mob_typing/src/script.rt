@@ -5,12 +5,12 @@ ghost use Rattle.mob_expression.specs.Steps.{TypesTo};
 ghost use Rattle.mob_typed.specs.Statements.{script_seen};
 ghost use Rattle.mob_typing.specs.Statements.{made_seen, typed_statement, typed_from, typed_script, IsTypingRefusal, refusal_of};
 
-use mob_list::fault::Fault;
 use crate::names::Names;
 use crate::rows::{copied, inserted};
 use crate::select::{deleted, explained, selected};
 use crate::tables::{made_index, made_table};
 use mob_ast::{Kind, Refusal, Script, Statement};
+use mob_list::fault::Fault;
 use mob_list::items::Items;
 use mob_scope::fault::Mistake;
 use mob_typed::{ConstText, Typed, TypedStatement};
@@ -24,7 +24,7 @@ fn type_statement(
     names: &mut Names,
     consts: &mut Items<ConstText>,
     statement: &Statement,
-) -> Result<TypedStatement, Fault<Mistake>
+) -> Result<TypedStatement, Fault<Mistake>>
     ensures typed { TypesTo (made_seen names.new) result consts.new (typed_statement number names.old (statement_of statement.now) consts.old) }
 {
     match statement {

@@ -8,11 +8,11 @@ ghost use Rattle.mob_clauses.specs.Clauses.{rows_to_go};
 ghost use Rattle.mob_typing.specs.Selects.{typed_select};
 ghost use Rattle.mob_typing.specs.Statements.{asked, made_seen};
 
-use mob_list::fault::Fault;
 use crate::from::{from_table, from_tables};
 use crate::names::Names;
 use mob_ast::{Expr, SelectTree, Word};
 use mob_clauses::{clauses_to_go, typed_clauses};
+use mob_list::fault::Fault;
 use mob_list::items::Items;
 use mob_scope::fault::Mistake;
 use mob_scope::scope::Scope;
@@ -26,7 +26,7 @@ fn typed_select(
     statement: u32,
     consts: &mut Items<ConstText>,
     select: &SelectTree,
-) -> Result<TypedSelect, Fault<Mistake>
+) -> Result<TypedSelect, Fault<Mistake>>
     ensures typed { TypesTo select_seen result consts.new (typed_select names.now.tables statement (select_of select.now) consts.old) }
 {
     let from = from_tables(alloc, names, select.from.as_slice())?;
@@ -47,7 +47,7 @@ fn typed_delete(
     consts: &mut Items<ConstText>,
     table: &Word,
     cond: &Option<Expr>,
-) -> Result<TypedSelect, Fault<Mistake>
+) -> Result<TypedSelect, Fault<Mistake>>
     ensures typed { TypesTo select_seen result consts.new (typed_select names.now.tables statement (rows_to_go table.now (option_map tree_of cond.now)) consts.old) }
 {
     let alias = None;
@@ -67,7 +67,7 @@ pub fn selected(
     names: &Names,
     consts: &mut Items<ConstText>,
     select: &SelectTree,
-) -> Result<TypedStatement, Fault<Mistake>
+) -> Result<TypedStatement, Fault<Mistake>>
     ensures made { TypesTo (made_seen names.now) result consts.new (asked query names.now (typed_select names.now.tables statement (select_of select.now) consts.old)) }
 {
     let select = typed_select(alloc, names, statement, consts, select)?;
@@ -81,7 +81,7 @@ pub fn explained(
     names: &Names,
     consts: &mut Items<ConstText>,
     select: &SelectTree,
-) -> Result<TypedStatement, Fault<Mistake>
+) -> Result<TypedStatement, Fault<Mistake>>
     ensures made { TypesTo (made_seen names.now) result consts.new (asked plan_of names.now (typed_select names.now.tables statement (select_of select.now) consts.old)) }
 {
     let select = typed_select(alloc, names, statement, consts, select)?;
@@ -96,7 +96,7 @@ pub fn deleted(
     consts: &mut Items<ConstText>,
     table: &Word,
     cond: &Option<Expr>,
-) -> Result<TypedStatement, Fault<Mistake>
+) -> Result<TypedStatement, Fault<Mistake>>
     ensures made { TypesTo (made_seen names.now) result consts.new (asked deletion names.now (typed_select names.now.tables statement (rows_to_go table.now (option_map tree_of cond.now)) consts.old)) }
 {
     let delete = typed_delete(alloc, names, statement, consts, table, cond)?;

@@ -8,10 +8,10 @@ ghost use Rattle.mob_scope.specs.Names.{has_entry};
 ghost use Rattle.mob_typing.specs.Statements.{made_seen, with_column, with_columns, made_table, with_index, made_index};
 ghost use Rattle.mob_typed.specs.Statements.{new_index};
 
-use mob_list::fault::Fault;
 use crate::names::Names;
 use mob_ast::{Kind, SqlType, TypeWord, Word};
 use mob_expression::words::type_named;
+use mob_list::fault::Fault;
 use mob_list::items::Items;
 use mob_list::text::Text;
 use mob_scope::column_list::Columns;
@@ -24,7 +24,11 @@ use std::alloc::{AllocError, Global};
 const MOST: usize = 64;
 
 // Adds a column.
-fn with_column(alloc: Global, columns: &mut Columns, column: &(Word, TypeWord)) -> Result<(), Fault<Mistake>
+fn with_column(
+    alloc: Global,
+    columns: &mut Columns,
+    column: &(Word, TypeWord),
+) -> Result<(), Fault<Mistake>>
     ensures last { AnswersAs (λ _. columns.new) result (with_column columns.old column.now) }
 {
     let (name, word) = column;
@@ -46,7 +50,7 @@ fn with_column(alloc: Global, columns: &mut Columns, column: &(Word, TypeWord)) 
 }
 
 // The columns of a new table.
-fn with_columns(alloc: Global, list: &[(Word, TypeWord)]) -> Result<Columns, Fault<Mistake>
+fn with_columns(alloc: Global, list: &[(Word, TypeWord)]) -> Result<Columns, Fault<Mistake>>
     ensures in_order { AnswersAs (λ c. c) result (with_columns [] list.now) }
 {
     let mut columns = Columns::new(alloc);
@@ -91,7 +95,7 @@ pub fn made_table(
     names: &mut Names,
     name: &Word,
     columns: &Items<(Word, TypeWord)>,
-) -> Result<TypedStatement, Fault<Mistake>
+) -> Result<TypedStatement, Fault<Mistake>>
     ensures made { AnswersAs (made_seen names.new) result (made_table names.old name.now columns.now) }
 {
     if names.has(name.text.as_str()) {
@@ -125,7 +129,7 @@ fn added_index(
     name: &Word,
     table: usize,
     column: usize,
-) -> Result<TypedStatement, Fault<Mistake>
+) -> Result<TypedStatement, Fault<Mistake>>
     requires absent { is_one_of names.old.indexes name.now.text ≡ false }
     ensures added { AnswersAs (made_seen names.new) result (Ok (record { statement = new_index table column name.now.text; names = with_index names.old name.now.text })) }
 {
@@ -147,7 +151,7 @@ pub fn made_index(
     name: &Word,
     table: &Word,
     column: &Word,
-) -> Result<TypedStatement, Fault<Mistake>
+) -> Result<TypedStatement, Fault<Mistake>>
     ensures made { AnswersAs (made_seen names.new) result (made_index names.old name.now table.now column.now) }
 {
     let Some((table_index, columns)) = names.find(table.text.as_str()) else {
