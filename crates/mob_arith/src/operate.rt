@@ -1,4 +1,4 @@
-//! An operation without formulas on two operands that go by steps.
+//! An operation without formulas on two operands that change in steps.
 
 ghost use Rattle.std.specs.Prelude.{◌≡◌, true, ◌||◌, [], IfOk, IfErr};
 ghost use Rattle.mob_slice.specs.Operands.{IsPointwise, steady_value, steady_limit};
@@ -23,7 +23,7 @@ fn on_steps<A: Course, B: Course, O: Operation<A::Base, B::Base>>(
     ensures given { IsGiven steady_value steady_limit steady_limit (λ v. v.items) (on_sides A.value_of B.value_of O.result_of (piece_of piece.now)) piece.now.span [] result }
 {
     let value = O::apply(alloc, piece.left.start(), piece.right.start())?;
-    // A call of a method tells the proof what holds of every span.
+    // A method call gives the proof the invariant of a span.
     let _ = piece.span.lower();
     single(alloc, piece.span, value)
 }
@@ -51,7 +51,8 @@ fn steps_of<A: Course, B: Course, O: Operation<A::Base, B::Base>>(
     )
 }
 
-/// The operation on two operands at each instant, as a normal value. Memory alone is refused.
+/// The operation on two operands at each instant, as a normal value. The only error is a failed
+/// allocation.
 pub fn operate<A: Course, B: Course, O: Operation<A::Base, B::Base>>(
     alloc: Global,
     a: Operand<'_, A>,

@@ -12,15 +12,14 @@ ghost use Rattle.mob_arith.specs.Summed.{IsSummed, steady_summed};
 use mob_frac::{Frac, Overflow};
 use mob_slice::{Course, Formula, Line, Steady};
 
-/// A course whose values can be added, subtracted and multiplied by a number. Each is the ordinary
-/// operation on the numbers that the values are, and its fault names F2, exactly where the result
-/// does not fit.
+/// A course whose values can be added, subtracted and multiplied by a number. Each operation is the
+/// ordinary one on the numbers of the values. Its fault is F2, exactly if the result does not fit.
 ///
-/// The law says that these go term by term: the course between the sums of the limits of two
-/// courses on one span has at every instant the sum of their values, and so for differences and
-/// multiples.
+/// By the law of the trait, the operations work on the limits: the course between the sums of the
+/// limits of two courses on one span has at every instant the sum of their values. The same holds
+/// for differences and multiples.
 pub trait Summed: Course {
-    /// The number that a value is.
+    /// The number of a value.
     ghost number: { Self.Base → Ratio };
 
     ghost added: { Self.Base → Self.Base → Self.Base };
@@ -33,11 +32,11 @@ pub trait Summed: Course {
     fn sum(a: &Self::Base, b: &Self::Base) -> Result<Self::Base, Formula>
         ensures sum { IsComputed F2 (sum_parts (number a.now) (number b.now)) (added a.now b.now) result };
 
-    /// The first less the second.
+    /// The difference `a - b`.
     fn difference(a: &Self::Base, b: &Self::Base) -> Result<Self::Base, Formula>
         ensures difference { IsComputed F2 (difference_parts (number a.now) (number b.now)) (subtracted a.now b.now) result };
 
-    /// The multiple by a number.
+    /// The product `a * k`.
     fn scaled(a: &Self::Base, k: &Frac) -> Result<Self::Base, Formula>
         ensures multiple { IsComputed F2 (product_parts (number a.now) k.now) (multiplied a.now k.now) result };
 
@@ -92,7 +91,7 @@ impl Summed for Line {
     ghost laws = { line_summed };
 }
 
-// The outcome of one operation on numbers.
+// The result of one operation on numbers.
 fn computed(number: Result<Frac, Overflow>) -> Result<Frac, Formula>
     ensures computed { MatchResult number (λ x. result ≡ Ok x) (λ _. result ≡ Err (record { formula = F2 })) }
 {

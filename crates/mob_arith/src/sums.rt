@@ -21,7 +21,7 @@ use mob_list::fault::Fault;
 use mob_slice::{Formula, Line, Moving, Operand, Steady};
 use std::alloc::Global;
 
-/// The sum of two operands at each instant. None exactly where at no instant both have a value.
+/// The sum of two operands at each instant. `None` exactly if at no instant both have a value.
 pub fn plus<C: Summed + Drop>(
     alloc: Global,
     a: Operand<'_, C>,
@@ -36,7 +36,7 @@ where
     by_terms::<C, C, C, Sum>(alloc, a, b)
 }
 
-/// The difference of two operands at each instant. None exactly where at no instant both have a
+/// The difference of two operands at each instant. `None` exactly if at no instant both have a
 /// value.
 pub fn minus<C: Summed + Drop>(
     alloc: Global,
@@ -52,8 +52,8 @@ where
     by_terms::<C, C, C, Difference>(alloc, a, b)
 }
 
-/// The multiple of an operand by numbers that go by steps, at each instant. None exactly where at
-/// no instant both have a value.
+/// The product of an operand and numbers that change in steps, at each instant. `None` exactly if
+/// at no instant both have a value.
 pub fn times<C: Summed + Drop>(
     alloc: Global,
     a: Operand<'_, C>,
@@ -68,8 +68,8 @@ where
     by_terms::<C, Steady<Frac>, C, Multiple>(alloc, a, b)
 }
 
-/// The product of a temporal number that goes by steps and of a temporal value, at each instant.
-/// None exactly where at no instant both have a value.
+/// The product of a temporal number that changes in steps and a temporal value, at each instant.
+/// `None` exactly if at no instant both have a value.
 pub fn times_step<C: Summed + Drop>(
     alloc: Global,
     a: &Moving<Steady<Frac>>,
@@ -83,7 +83,7 @@ where
     by_terms::<Steady<Frac>, C, C, Scaling>(alloc, Operand::Moving(a), Operand::Moving(b))
 }
 
-/// The multiple of a temporal value by one number, at each of its instants.
+/// The product of a temporal value and one number, at each of its instants.
 pub fn times_const<C: Summed + Drop>(
     alloc: Global,
     a: &Moving<C>,
@@ -94,7 +94,7 @@ where
     ensures value { IfOk result (λ v. (t : Ratio) → value_at C.value_of v t ≡ option_map (λ x. C.multiplied x k.now) (value_at C.value_of a.now t)) }
     ensures first { IsJudged (flat_map (entries_at_ends C.value_of C.parts_of steady_value steady_parts (λ x k. product_parts (C.number x) k)) (pieces (Slices a.now) (Base k.now))) result }
 {
-    // That `a` has a slice, so that the result has one, is known by this call.
+    // This call gives the proof that `a` has a slice, so that the result has one.
     let _ = a.slices();
     match times(alloc, Operand::Moving(a), Operand::Fixed(k)) {
         Ok(Some(value)) => Ok(value),
@@ -103,13 +103,13 @@ where
     }
 }
 
-/// A number that changes evenly, divided by one number other than 0, at each of its instants.
+/// A number that changes linearly, divided by one number other than 0, at each of its instants.
 pub fn over_const(alloc: Global, a: &Moving<Line>, k: &Frac) -> Result<Moving<Line>, Fault<Formula>>
     requires divides { k.now ≢ whole (pos 0) }
     ensures value { IfOk result (λ v. (t : Ratio) → value_at line_value_of v t ≡ option_map (λ x. x /ℚ k.now) (value_at line_value_of a.now t)) }
     ensures first { IsJudged (flat_map (entries_at_ends line_value_of line_parts_of steady_value steady_parts quotient_parts) (pieces (Slices a.now) (Base k.now))) result }
 {
-    // That `a` has a slice, so that the result has one, is known by this call.
+    // This call gives the proof that `a` has a slice, so that the result has one.
     let _ = a.slices();
     match by_terms::<Line, Steady<Frac>, Line, Quotient>(
         alloc,

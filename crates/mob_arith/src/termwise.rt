@@ -1,4 +1,4 @@
-//! Operations on two operands that go term by term.
+//! Operations on two operands that work on the limits.
 
 ghost use Rattle.std.specs.Prelude.{◌≡◌, true, ◌||◌, ◌++◌, List, IfOk};
 ghost use Rattle.std.specs.List.{flat_map};
@@ -24,15 +24,15 @@ use mob_slice::{Course, Formula, Line, Moving, Operand, Piece, Slice, Steady};
 use mob_sync::Pieces;
 use std::alloc::Global;
 
-/// An operation on the values of two courses that goes term by term: its result goes as a third
-/// course does.
+/// An operation on the values of two courses that works on the limits: its result is a third
+/// course.
 pub trait Termwise<A: Course, B: Course, D: Course> {
     ghost op: { A.Base → B.Base → D.Base };
 
-    /// What has to fit for it.
+    /// The parts of the formula of the result.
     ghost parts: { A.Base → B.Base → List Ratio };
 
-    /// The result. The fault names F2, exactly where a part does not fit.
+    /// The result. The fault is F2, exactly if a part does not fit.
     fn apply(a: &A::Base, b: &B::Base) -> Result<D::Base, Formula>
         ensures result { IsComputed F2 (parts a.now b.now) (op a.now b.now) result };
 
@@ -69,7 +69,7 @@ impl<C: Summed> Termwise<C, C, C> for Difference {
     ghost law = { C.Summed.laws.differences };
 }
 
-/// The multiple by a number that goes by steps.
+/// The product with a number that changes in steps.
 pub struct Multiple;
 
 impl<C: Summed> Termwise<C, Steady<Frac>, C> for Multiple {
@@ -84,7 +84,7 @@ impl<C: Summed> Termwise<C, Steady<Frac>, C> for Multiple {
     ghost law = { C.Summed.laws.multiples };
 }
 
-/// The multiple by a number that goes by steps, which is the first operand.
+/// The product with a number that changes in steps, which is the first operand.
 pub struct Scaling;
 
 impl<C: Summed> Termwise<Steady<Frac>, C, C> for Scaling {
@@ -99,7 +99,7 @@ impl<C: Summed> Termwise<Steady<Frac>, C, C> for Scaling {
     ghost law = { C.Summed.laws.turned };
 }
 
-/// The quotient of a number that changes evenly by one that goes by steps.
+/// The quotient of a number that changes linearly by one that changes in steps.
 pub struct Quotient;
 
 impl Termwise<Line, Steady<Frac>, Line> for Quotient {
@@ -114,7 +114,7 @@ impl Termwise<Line, Steady<Frac>, Line> for Quotient {
     ghost law = { line_divided };
 }
 
-// The quotient of two numbers. (The one by 0, which nobody asks for, is 0.)
+// The quotient of two numbers. (By 0, which no caller passes, it is 0.)
 fn divided(a: &Frac, b: &Frac) -> Result<Frac, Formula>
     ensures result { IsComputed F2 (quotient_parts a.now b.now) (quotient_of a.now b.now) result }
 {
@@ -127,7 +127,7 @@ fn divided(a: &Frac, b: &Frac) -> Result<Frac, Formula>
     }
 }
 
-// The course of the operation on two slices, by its results on their limits.
+// The course of the operation on two slices, from its results on their limits.
 fn course_on<A: Course + Drop, B: Course + Drop, D: Course + Drop, O: Termwise<A, B, D>>(
     left: &Slice<A>,
     right: &Slice<B>,
@@ -167,7 +167,7 @@ where
         Ok(course) => course,
         Err(formula) => return Err(Fault::Because(formula)),
     };
-    // A call of a method tells the proof what holds of every span.
+    // A method call gives the proof the invariant of a span.
     let _ = piece.span.lower();
     listed(
         alloc,
@@ -202,8 +202,8 @@ where
     )
 }
 
-/// The operation on two operands at each instant at which both have a value. None exactly where
-/// there is no such instant.
+/// The operation on two operands at each instant at which both have a value. `None` exactly if no
+/// such instant exists.
 ///
 /// The fault names the formula of the first entry that has a part that does not fit: on each piece
 /// that the operands share, F1 at its ends, then F2 there.

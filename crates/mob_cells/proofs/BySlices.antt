@@ -42,7 +42,7 @@ module _ {C B : Type 0} (value : C → Ratio → Ratio → Ratio → B) (start e
   found [] t o m = m
   found (s ∷ v) t o m = found_by s v t o (has s.span t) refl (found v t o) m
 
-  -- what is left of the rest makes, behind what is there, what is left of all
+  -- the slices already kept, and then those of the rest, are those of the whole
   abbrev pub IsLeft : List (Slice C) → List (Slice C) → List (Slice C) → Type 0
   IsLeft all rest out = (v : List (Slice C)) → AreGivenInOrder (λ v. v) GivesSlice rest v → AreGivenInOrder (λ v. v) GivesSlice all (out ++ v)
 

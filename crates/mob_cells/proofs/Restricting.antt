@@ -1,4 +1,4 @@
--- What is kept on each cell, and on all of them.
+-- The parts kept on each cell, and on all of them.
 use Rattle.std.specs.Prelude.{◌≡◌, Bool, true, false, cond, not, ◌&&◌, ◌||◌, ℕ, List, [], ◌∷◌, ◌++◌, slice_get, Option, Some, None, MatchOption, Result, Ok, Err, MatchResult, refl}
 use Rattle.std.proofs.lemmas.Bool.{and_parts, and_from}
 use Rattle.std.specs.List.{AllByRecursion, flat_map}
@@ -90,7 +90,7 @@ module _ {D B : Type 0} (value : D → Ratio → Ratio → Ratio → B) (start e
       let l : IsPiecewise value start end (λ c. c) (λ v. v) Gives cells slices = is_lifted value start end (λ c. c) (λ v. v) Gives (λ p v k g. (g.ordered, g.inside)) cells slices h a.clear in
       record { ordered = l.ordered; inside = kept_inside s cells slices h a.inside; values = λ t i. found cells t (value_at value slices t) (a.covers t ∙ i) (l.at_each t) }
 
-  -- what is kept of the rest makes, behind what is there, what is kept of all
+  -- the parts already kept, and then those of the rest, are those of the whole
   abbrev pub IsMade : List SpanOf → List SpanOf → List (Slice D) → Type 0
   IsMade all rest out = (v : List (Slice D)) → AreGivenInOrder (λ v. v) Gives rest v → AreGivenInOrder (λ v. v) Gives all (out ++ v)
 
@@ -120,7 +120,7 @@ module _ (parts : Ratio → List Ratio) where
   cut_fits : (s : SpanOf) (rs : List Ratio) (t : Ratio) → AllFit (parts s.lower) → AllFit (parts s.upper) → AllByRecursion (λ t. AllFit (parts t)) rs → IsCut s rs t → AllFit (parts t)
   cut_fits s rs t a b h i = elim i [ inl e ↦ subst (λ z. AllFit (parts z)) (sym e) a | inr k ↦ elim k [ inl e ↦ subst (λ z. AllFit (parts z)) (sym e) b | inr j ↦ in_fits t rs h j ] ]
 
-  -- where the values at the ends of the piece and at the roots fit, so do those at the ends of each
+  -- if the values at the ends of the piece and at the roots fit, so do those at the ends of each
   -- cell
   cells_fit : (s : SpanOf) (rs : List Ratio) (cells : List SpanOf) → EndsFit s → AllByRecursion (λ t. AllFit (parts t)) rs → AllByRecursion (λ c. IsCut s rs c.lower × IsCut s rs c.upper) cells → AllByRecursion EndsFit cells
   cells_fit s rs [] a h k = tt

@@ -1,3 +1,4 @@
+//! Gaps of two courses at the ends of a piece.
 ghost use Rattle.std.specs.Prelude.{◌≡◌, false, IfOk, MatchResult};
 ghost use Rattle.mob_frac.specs.Formula.{AllFit};
 ghost use Rattle.mob_slice.specs.Entries.{IsDecided};
@@ -19,7 +20,7 @@ pub struct EndGaps {
     pub at_upper: Gaps,
 }
 
-// A side of a course that is not steady, on the piece: a copy of such a value asks for no memory.
+// A side of a course that is not steady, on the piece. Copying such a value does not allocate.
 fn on_piece_of<C: Course>(
     alloc: Global,
     side: &Side<'_, C>,
@@ -38,8 +39,8 @@ where
     }
 }
 
-/// The gaps of two operands at the ends of a piece, for courses that are not steady. It takes no
-/// memory.
+/// The gaps of two operands at the ends of a piece, for courses that are not steady. It does not
+/// allocate.
 ///
 /// The fault names the formula of the first entry that does not fit: F1 at the ends of the piece,
 /// then F2, the gaps there.

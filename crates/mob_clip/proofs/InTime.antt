@@ -1,4 +1,4 @@
--- A slice, and the span of time of a box.
+-- A slice and the time of a box.
 use Rattle.std.specs.Prelude.{◌≡◌, Bool, true, false, cond, not, ◌&&◌, ◌||◌, List, [], ◌∷◌, ◌++◌, Option, Some, None, MatchOption, Result, Ok, Err, MatchResult, refl}
 use Rattle.std.proofs.lemmas.Bool.{and_parts}
 use Rattle.std.proofs.Common.{arith, ap, sym, ◌∙◌, subst, inl, inr, true≢false, append_assoc, append-nil}
@@ -40,7 +40,7 @@ use Rattle.mob_clip.specs.Boxes.{entries_of_space, entries_in_time, entries_of_b
 use Rattle.mob_clip.specs.Pieces.{some_span, AreAllOrNothing}
 
 -- ---- a span and a part of it
--- the two sides of a span by themselves
+-- the two ends of a span, each by itself
 abbrev low : Ratio → Bool → Ratio → Bool
 low l i t = before l t || (i && up_to l t)
 
@@ -53,7 +53,7 @@ low_front l t i = grind (arith, before-back l t, before-back t l, before-neither
 high_back : (u t : Ratio) (i : Bool) → low u (not i) t ≡ not (high u i t)
 high_back u t i = grind (arith, before-back u t, before-back t u, before-neither u t)
 
--- an instant is not and_parts before and after a span that has one
+-- an instant is not both before and after a span that has one
 not_both : (m : SpanOf) (t : Ratio) → has_instant m ≡ true → (low m.lower m.lower_inc t || high m.upper m.upper_inc t) ≡ true
 not_both m t h = grind (arith, h, before-trans m.lower t m.upper, before-trans t m.lower m.upper, before-trans m.lower m.upper t, before-neither m.lower t, before-neither t m.upper, before-neither m.lower m.upper)
 
@@ -111,7 +111,7 @@ module _ (s m : SpanOf) (inside : is_inside s m ≡ true) (some : has_instant m 
       or_false false = refl
   three_cells false false ha hb = record { clear = (some, tt, tt); inside = (inside, tt); covers = λ t. ap (λ z. has m t || z) (sym (no_instant (back_span s m) t hb)) ∙ ap (λ z. z || (has m t || has (back_span s m) t)) (sym (no_instant (front_span s m) t ha)) ∙ covers_all t }
 
-  -- what is in the part is not around it
+  -- an instant of the part is not in the parts around it
   pub front_not : (t : Ratio) → has (front_span s m) t ≡ true → has m t ≡ false
   front_not t h = clear_has (front_span s m) m t front_clear h
 
@@ -122,8 +122,8 @@ module _ (s m : SpanOf) (inside : is_inside s m ≡ true) (some : has_instant m 
       by true e = absurd (true≢false (sym h ∙ clear_has m (back_span s m) t back_clear e))
       by false e = e
 
--- ---- what is left around the part
--- a test beside another of which the truth is known
+-- ---- the parts kept around the part
+-- a test next to another one that is false
 nowhere : (a b : Bool) → b ≡ false → false ≡ (a && b)
 nowhere true b e = sym e
 nowhere false b e = refl
@@ -218,7 +218,7 @@ timeless items s want b space r q i e n m = kept_behind plane_value_of (λ c. c.
     (λ o k. subst (λ z. IsFirst (entries_in_time z b.space s) o) (sym n) (subst (λ z. IsFirst (entries_of_space z s s.span) o) e k))
     (subst (λ z. IsKeptBy plane_value_of (λ c. c.from) (λ c. c.to) items (λ t. kept_value want (in_space space (slice_value plane_value_of s t)) (slice_value plane_value_of s t)) z (entries_of_space space s z) q) i m)
 
--- the ends of what is around a part fit where those of the part do
+-- the ends of the parts around a part fit if those of the part do
 module _ (s : Slice PlaneLine) (m : SpanOf) (inside : is_inside s.span m ≡ true) (some : has_instant m ≡ true) (fits : AllFit (at_ends (slice_parts plane_parts_of s) m)) where
   abbrev parts : Ratio → List Ratio
   parts t = slice_parts plane_parts_of s t

@@ -143,7 +143,7 @@ module _ (es : List (Point × Point)) (s : Slice PlaneLine) (sound : IsSound (λ
   abbrev parts : Ratio → List Ratio
   parts t = slice_parts plane_parts_of s t
 
-  -- the entries by the limits of the slice in place of its values at its ends
+  -- the entries by the limits of the slice, instead of its values at its ends
   both_ends : (f : Point → List Ratio) → at_ends (λ t. f (slice_value plane_value_of s t)) s.span ≡ f p ++ f q
   both_ends f = sym (ap (λ z. f z ++ f q) (start_value plane_laws s) ∙ ap (λ z. f (slice_value plane_value_of s s.span.lower) ++ f z) (end_value plane_laws s sound))
 
@@ -211,7 +211,7 @@ module _ (es : List (Point × Point)) (s : Slice PlaneLine) (sound : IsSound (λ
   pub placed_same : map (place_edge s.span) ways ≡ map (placed_edge s) es
   placed_same = map_twice (place_edge s.span) (with_turn p q) (map (beside p q) es) ∙ map_twice (λ b. place_edge s.span (with_turn p q b)) (beside p q) es
 
-  -- ---- the first that does not fit, by the lists that are made so far
+  -- ---- the first that does not fit, by the lists made so far
   pub besides_fail : (f : Fault Formula) → IsPartFault F2 (flat_map (beside_parts p q) es) f → OnCause (λ g. IsFirst (entries_of_edges es s) (Some g)) f
   besides_fail (Because f) h = inr (λ a. h.1 (fit_besides a), ap Some h.0)
   besides_fail NoMemory h = tt

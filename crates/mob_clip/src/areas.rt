@@ -1,4 +1,4 @@
-//! A moving point and a closed rectangle.
+//! The part of a moving point inside a closed rectangle.
 
 ghost use Rattle.mob_slice.specs.declared.formula.Formula.TheVariants.{F2};
 ghost use Rattle.mob_slice.specs.Entries.{IsMadeBy};
@@ -32,7 +32,7 @@ pub struct Sides {
     high: Frac,
 }
 
-// The differences to the sides.
+// The differences to the sides. It is `Overflow` exactly if one does not fit.
 fn to_sides(area: &Area, p: &Point) -> Result<Sides, Overflow>
     ensures value { IsFormula (area_parts area.now p.now) (sides_of area.now p.now) result }
 {
@@ -48,7 +48,8 @@ fn to_sides(area: &Area, p: &Point) -> Result<Sides, Overflow>
     })
 }
 
-// The linear functions by whose signs a point on the way from `p` to `q` is in the area.
+// The linear functions whose signs say whether a point on the segment from `p` to `q` is in the
+// area.
 fn functions(alloc: Global, area: &Area, p: &Point, q: &Point) -> Result<Vec<Ends>, Fault<Formula>>
     ensures functions { IsMadeBy F2 (area_parts area.now p.now ++ area_parts area.now q.now) (λ v. v.items ≡ area_ends area.now p.now q.now) result }
 {
@@ -106,8 +107,11 @@ impl Test for InArea {
     }
 }
 
-/// What is left of a slice on a piece of its span, which is given as a slice too, where being in
-/// the area has the wanted truth value.
+/// The part of a slice on a piece of its span, given as a slice too, on which being in the area has
+/// the wanted result.
+///
+/// The fault names the formula of the first entry that does not fit: F2, the differences to the
+/// sides at the ends of the piece, then F3, their roots, then F1 at these roots.
 pub fn in_area_on(
     alloc: Global,
     slice: &Slice<PlaneLine>,

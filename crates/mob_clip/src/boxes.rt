@@ -1,4 +1,4 @@
-//! A moving point and a box.
+//! The part of a moving point inside a box.
 
 ghost use Rattle.std.specs.Prelude.{◌≡◌, true, false, ◌&&◌, Option, Some, None, MatchResult, IfOk};
 ghost use Rattle.std.specs.List.{flat_map};
@@ -25,8 +25,7 @@ use mob_span::{Span, same_bool};
 use mob_stbox::{Area, StBox};
 use std::alloc::Global;
 
-// What is left of a slice on a piece of its span, where being in the space has the wanted truth
-// value.
+// The part of a slice on a piece of its span on which being in the space has the wanted result.
 fn in_space_on(
     alloc: Global,
     slice: &Slice<PlaneLine>,
@@ -45,7 +44,7 @@ fn in_space_on(
     }
 }
 
-// What of a span comes before a piece of it.
+// The part of a span before a piece of it.
 fn front(span: &Span, part: &Span) -> Option<Span>
     ensures span { result ≡ some_span (front_span span.now part.now) }
 {
@@ -57,7 +56,7 @@ fn front(span: &Span, part: &Span) -> Option<Span>
     )
 }
 
-// What of a span comes after a piece of it.
+// The part of a span after a piece of it.
 fn back(span: &Span, part: &Span) -> Option<Span>
     ensures span { result ≡ some_span (back_span span.now part.now) }
 {
@@ -69,8 +68,8 @@ fn back(span: &Span, part: &Span) -> Option<Span>
     )
 }
 
-// What is left of a slice: some slices on a piece of it, and what is left around that piece, which
-// lies outside of the time.
+// The kept parts of a slice: the given slices on a piece of it, and the parts around that piece,
+// which lie outside the time.
 fn around(
     alloc: Global,
     slice: &Slice<PlaneLine>,
@@ -82,7 +81,7 @@ fn around(
     requires ends { AllFit (at_ends (slice_parts plane_parts_of slice.now) part.now) }
     ensures around { MatchResult result (λ v. AreAround slice.now want part.now middle.items v.items) (λ e. e ≡ Fault.NoMemory) }
 {
-    // A call of a method tells the proof what holds of every span.
+    // A method call gives the proof the invariant of a span.
     let _ = part.lower();
     let outside = same_bool(want, false);
     let mut out = piece_on(alloc, slice, front(&slice.span, part), outside)?;
@@ -92,7 +91,7 @@ fn around(
     Ok(out)
 }
 
-// What is left of a slice beside a span of time.
+// The kept parts of a slice, by a span of time and the space.
 fn in_time_on(
     alloc: Global,
     slice: &Slice<PlaneLine>,
@@ -118,7 +117,7 @@ fn in_time_on(
     around(alloc, slice, &shared, middle, want)
 }
 
-// A copy of the slice, which takes no memory.
+// Copies the slice. It does not allocate.
 fn whole(slice: &Slice<PlaneLine>) -> Slice<PlaneLine>
     requires sound { IsSound (λ c. c.from) (λ c. c.to) slice.now }
     ensures whole { HasValues plane_value_of (λ c. c.from) (λ c. c.to) (slice_value plane_value_of slice.now) slice.now.span result }
@@ -164,7 +163,7 @@ impl<'a> Restriction<PlaneLine> for ToBox<'a> {
     }
 }
 
-// The restriction to the instants at which being in the box has the wanted truth value.
+// The restriction to the instants at which being in the box has the wanted result.
 fn to_box(
     alloc: Global,
     a: &Moving<PlaneLine>,
@@ -178,12 +177,12 @@ fn to_box(
     Ok(normal(alloc, slices)?)
 }
 
-/// The moving point at the instants at which it is in the box. None exactly where there is no such
-/// instant.
+/// The moving point at the instants at which it is in the box. `None` exactly if no such instant
+/// exists.
 ///
 /// The fault names the formula of the first entry that has a part that does not fit: on each slice
-/// that shares an instant with the time of the box F1 at the ends of what they share, then F2, the
-/// differences to the sides there, then F3, their roots, then F1 at these roots.
+/// that shares an instant with the time of the box, F1 at the ends of their intersection, then F2,
+/// the differences to the sides there, then F3, their roots, then F1 at these roots.
 pub fn at_box(
     alloc: Global,
     a: &Moving<PlaneLine>,
@@ -195,10 +194,10 @@ pub fn at_box(
     to_box(alloc, a, b, true)
 }
 
-/// The moving point at the instants at which it is not in the box. None exactly where there is no
-/// such instant.
+/// The moving point at the instants at which it is not in the box. `None` exactly if no such
+/// instant exists.
 ///
-/// The fault is that of `at_box`: the formulas are the same, whatever is left.
+/// The fault is that of `at_box`: the formulas are the same, whatever is kept.
 pub fn minus_box(
     alloc: Global,
     a: &Moving<PlaneLine>,

@@ -1,4 +1,4 @@
-//! What is left of a slice on pieces of its span, and between the changes of a walk.
+//! The parts of a slice kept on pieces of its span, and between the changes of a walk.
 
 ghost use Rattle.std.specs.Prelude.{◌≡◌, ◌++◌, List, true, false, MatchResult};
 ghost use Rattle.mob_frac.specs.Formula.{AllFit};
@@ -20,7 +20,7 @@ use mob_slice::{Formula, PlaneLine, Slice, cut};
 use mob_span::{Span, same_bool};
 use std::alloc::Global;
 
-/// All of a slice on a piece of its span, or nothing.
+/// All of a slice on a piece of its span, or nothing. The only error is a failed allocation.
 pub fn piece_on(
     alloc: Global,
     slice: &Slice<PlaneLine>,
@@ -41,7 +41,7 @@ pub fn piece_on(
     }
 }
 
-// What of a span is before an instant, with that instant where it is included.
+// The part of a span before an instant, including it if `included` is true.
 fn left_of(span: &Span, r: &Frac, included: bool) -> Option<Span>
     ensures span { result ≡ some_span (left_span span.now r.now included) }
 {
@@ -52,7 +52,7 @@ fn left_of(span: &Span, r: &Frac, included: bool) -> Option<Span>
     Span::new(*span.lower(), *r, span.lower_inc(), upper_inc)
 }
 
-// What of a span is behind an instant, with that instant where it is not included before.
+// The part of a span after an instant, including it if the part before does not.
 fn right_of(span: &Span, r: &Frac, included: bool) -> Option<Span>
     ensures span { result ≡ some_span (right_span span.now r.now included) }
 {
@@ -63,8 +63,8 @@ fn right_of(span: &Span, r: &Frac, included: bool) -> Option<Span>
     Span::new(*r, *span.upper(), lower_inc, span.upper_inc())
 }
 
-// Adds what is left of a slice on what of a piece is before an instant, and gives what of the piece
-// is behind it.
+// Appends the part of the slice on the piece before `r`, if it is kept, and returns the rest of the
+// piece.
 fn push_before(
     alloc: Global,
     slice: &Slice<PlaneLine>,
@@ -88,7 +88,7 @@ fn push_before(
     Ok(right_of(&span, r, included))
 }
 
-// Adds what is left of a slice on a last piece.
+// Appends the part of a slice on a last piece, if it is kept.
 fn finish(
     alloc: Global,
     slice: &Slice<PlaneLine>,
@@ -108,15 +108,15 @@ fn finish(
     }
 }
 
-// Whether a point of which so much is known is kept.
+// Whether a point with this tally is kept.
 fn is_kept(want: bool, tally: &Tally) -> bool
     ensures value { result ≡ same_bool want (is_known_in tally.now) }
 {
     same_bool(want, is_in(tally))
 }
 
-/// What is left of a slice where what is known of it by all edges says what is wanted: its own
-/// values there, and nothing elsewhere.
+/// The parts of a slice on which its tally by all edges has the wanted result: with the slice's own
+/// values there, and none elsewhere. The only error is a failed allocation.
 pub fn kept_on(
     alloc: Global,
     slice: &Slice<PlaneLine>,

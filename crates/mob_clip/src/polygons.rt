@@ -1,4 +1,4 @@
-//! A moving point and a polygon.
+//! The part of a moving point inside a polygon.
 
 ghost use Rattle.std.specs.Prelude.{◌↔◌, true, false, IsTrue, IfOk};
 ghost use Rattle.std.specs.List.{flat_map};
@@ -21,7 +21,7 @@ use mob_plane::{Point, Polygon};
 use mob_slice::{Formula, Moving, PlaneLine, Slice};
 use std::alloc::Global;
 
-// What is left of a slice, where being inside the edges has the wanted truth value.
+// The part of a slice on which being inside the edges has the wanted result.
 fn edges_on(
     alloc: Global,
     slice: &Slice<PlaneLine>,
@@ -36,7 +36,7 @@ fn edges_on(
     kept_on(alloc, slice, &steps, want)
 }
 
-// The condition that a position is inside the polygon of some edges.
+// The condition that a position is inside the polygon of the edges.
 #[derive(Drop)]
 struct ToEdges<'a> {
     edges: &'a [(Point, Point)],
@@ -57,8 +57,8 @@ impl<'a> Restriction<PlaneLine> for ToEdges<'a> {
     }
 }
 
-// The restriction to the instants at which being inside the polygon of some edges has the wanted
-// truth value.
+// The restriction to the instants at which being inside the polygon of the edges has the wanted
+// result.
 fn to_edges(
     alloc: Global,
     a: &Moving<PlaneLine>,
@@ -73,7 +73,7 @@ fn to_edges(
     Ok(normal(alloc, slices)?)
 }
 
-// The restriction to the instants at which being inside the polygon has the wanted truth value.
+// The restriction to the instants at which being inside the polygon has the wanted result.
 fn to_polygon(
     alloc: Global,
     a: &Moving<PlaneLine>,
@@ -88,12 +88,12 @@ fn to_polygon(
 }
 
 /// The moving point at the instants at which it is inside the polygon or on its boundary
-/// (MobilityDB's `atGeometry`). None exactly where there is no such instant.
+/// (MobilityDB's `atGeometry`). `None` exactly if no such instant exists.
 ///
 /// The fault names the formula of the first entry that has a part that does not fit: on each slice
 /// F2, the differences of the positions at its two ends to the points of the rings, then F4, their
-/// turns with the edges, then F3, the roots of all of these, then F1 at these roots, whatever is
-/// left there.
+/// turns from the edges, then F3, the roots of all of these, then F1 at these roots, whatever is
+/// kept there.
 pub fn at_polygon(
     alloc: Global,
     a: &Moving<PlaneLine>,
@@ -106,9 +106,9 @@ pub fn at_polygon(
 }
 
 /// The moving point at the instants at which it is outside the polygon and not on its boundary
-/// (MobilityDB's `minusGeometry`). None exactly where there is no such instant.
+/// (MobilityDB's `minusGeometry`). `None` exactly if no such instant exists.
 ///
-/// The fault is that of `at_polygon`: the formulas are the same, whatever is left.
+/// The fault is that of `at_polygon`: the formulas are the same, whatever is kept.
 pub fn minus_polygon(
     alloc: Global,
     a: &Moving<PlaneLine>,
@@ -123,8 +123,8 @@ pub fn minus_polygon(
 /// Whether the moving point is inside the polygon or on its boundary at some rational instant at
 /// which it is defined (MobilityDB's `eIntersects`).
 ///
-/// The fault is that of `at_polygon`: the formulas of all slices are asked for, also behind an
-/// instant that settles the answer.
+/// The fault is that of `at_polygon`: the formulas of all slices are checked, even after an instant
+/// that settles the answer.
 pub fn ever_inside(
     alloc: Global,
     a: &Moving<PlaneLine>,
@@ -135,7 +135,7 @@ pub fn ever_inside(
 {
     match at_polygon(alloc, a, p) {
         Ok(Some(left)) => {
-            // The clause of `slices` says that there is a slice, and so an instant.
+            // The clause of `slices` says that a slice exists, and so an instant.
             let _slices = left.slices();
             Ok(true)
         }

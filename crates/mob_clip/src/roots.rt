@@ -66,7 +66,7 @@ fn place_edge(span: &Span, edge: &EdgeEnds) -> Result<EdgePlaced, Formula>
     })
 }
 
-// Adds the functions of an edge with their roots.
+// Appends the functions of an edge with their roots.
 fn push_placed(
     out: &mut Vec<EdgePlaced>,
     span: &Span,
@@ -75,7 +75,7 @@ fn push_placed(
     requires level { AllByRecursion (IsLevel span.now) (listed_ends edge.now) }
     ensures pushed { IsMadeBy F3 (roots_parts span.now (listed_ends edge.now)) (λ _. out.new.items ≡ out.old.items ++ place_edge span.now edge.now ∷ []) result }
 {
-    // The types of what is added are named here for the proof.
+    // This names the types of the appended item for the proof.
     let _types: (Option<Placed>, Frac) = (None, edge.turn.at_lower);
     let next = match place_edge(span, edge) {
         Ok(next) => next,
@@ -92,7 +92,7 @@ fn placed(alloc: Global, span: &Span, edges: &[EdgeEnds]) -> Result<Vec<EdgePlac
     requires level { AllByRecursion (λ g. AllByRecursion (IsLevel span.now) (listed_ends g)) edges.now }
     ensures made { IsMadeBy F3 (flat_map (λ g. roots_parts span.now (listed_ends g)) edges.now) (λ v. v.items ≡ map (place_edge span.now) edges.now) result }
 {
-    // A call of a method tells the proof what holds of every span.
+    // A method call gives the proof the invariant of a span.
     let _lower = span.lower();
     let mut out = Vec::new(alloc);
     for edge in edges {
@@ -104,7 +104,7 @@ fn placed(alloc: Global, span: &Span, edges: &[EdgeEnds]) -> Result<Vec<EdgePlac
     Ok(out)
 }
 
-// Adds a root, if there is one.
+// Appends a root, if it exists.
 fn push_root(out: &mut Vec<Frac>, root: &Option<Frac>) -> Result<(), AllocError>
     ensures pushed { OnOk result (out.new.items ≡ out.old.items ++ as_list root.now) }
 {
@@ -114,7 +114,7 @@ fn push_root(out: &mut Vec<Frac>, root: &Option<Frac>) -> Result<(), AllocError>
     Ok(())
 }
 
-// Adds the roots of an edge.
+// Appends the roots of an edge.
 fn push_roots(out: &mut Vec<Frac>, edge: &EdgePlaced) -> Result<(), AllocError>
     ensures pushed { OnOk result (out.new.items ≡ out.old.items ++ edge_roots edge.now) }
 {
@@ -175,8 +175,8 @@ fn roots_fit(
     all_fit(alloc, slice, roots.as_slice())
 }
 
-/// The functions of all edges with their roots on a slice, where every entry of a restriction by
-/// these edges fits.
+/// The functions of all edges with their roots on a slice, if every entry of a restriction by these
+/// edges fits. The fault names the formula of the first entry that does not fit.
 pub fn placed_on(
     alloc: Global,
     slice: &Slice<PlaneLine>,

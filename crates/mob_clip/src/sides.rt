@@ -1,4 +1,4 @@
-//! How a point on a straight way lies to edges: the linear functions of which the signs say so.
+//! The linear functions whose signs give the position of a point on a segment relative to edges.
 
 ghost use Rattle.mob_slice.specs.Entries.{IsMadeBy};
 ghost use Rattle.std.specs.Prelude.{◌≡◌, [], ◌∷◌, ◌++◌, map, OnOk};
@@ -15,12 +15,12 @@ use mob_plane::Point;
 use mob_slice::Formula;
 use std::alloc::{AllocError, Global};
 
-/// The differences of a point on its way to another point, by coordinate.
+/// The differences of a point moving along a segment to another point, by coordinate.
 #[derive(Clone, Copy, Drop)]
 pub struct ToPoint {
-    /// To the east.
+    /// The difference to the east.
     pub x: Ends,
-    /// To the north.
+    /// The difference to the north.
     pub y: Ends,
 }
 
@@ -50,7 +50,7 @@ pub struct EdgeEnds {
     pub y_b: Ends,
 }
 
-/// Adds one more at the end.
+/// Appends an item. The only error is a failed allocation.
 pub fn add<T: Drop>(out: &mut Vec<T>, next: T) -> Result<(), AllocError>
     ensures added { OnOk result (out.new.items ≡ out.old.items ++ next ∷ []) }
 {
@@ -58,7 +58,7 @@ pub fn add<T: Drop>(out: &mut Vec<T>, next: T) -> Result<(), AllocError>
     Ok(())
 }
 
-// The differences of the way from `p` to `q` to the point `v`.
+// The differences to the point `v` along the segment from `p` to `q`.
 fn to_point(p: &Point, q: &Point, v: &Point) -> Result<ToPoint, Overflow>
     ensures value { IsFormula (point_parts p.now q.now v.now) (to_point p.now q.now v.now) result }
 {
@@ -78,7 +78,7 @@ fn to_point(p: &Point, q: &Point, v: &Point) -> Result<ToPoint, Overflow>
     })
 }
 
-// The turn of a vector with another.
+// The cross product of two vectors.
 fn turned_by(along: &Frac, rise: &Frac, across: &Frac, up: &Frac) -> Result<Frac, Overflow>
     ensures value { IsFormula (turned_parts along.now rise.now across.now up.now) (turned_by along.now rise.now across.now up.now) result }
 {
@@ -87,7 +87,7 @@ fn turned_by(along: &Frac, rise: &Frac, across: &Frac, up: &Frac) -> Result<Frac
     left.sub(&right)
 }
 
-// The turns of `p` and of `q` with an edge, by their differences to its first end.
+// The turns of `p` and of `q` from an edge, by their differences to its first end.
 fn turning(p: &Point, q: &Point, beside: &Beside) -> Result<Ends, Overflow>
     requires known { IsBeside p.now q.now beside.now }
     ensures value { IsFormula (turning_parts p.now q.now beside.now.edge) (turning p.now q.now beside.now.edge) result }
@@ -107,7 +107,7 @@ struct Known {
     to: ToPoint,
 }
 
-// The differences to a point, which are known where it is the point before.
+// The differences to a point, which are known if it is the end of the edge before.
 fn to_start(p: &Point, q: &Point, v: &Point, known: &Option<Known>) -> Result<ToPoint, Overflow>
     requires known { IsKnown p.now q.now known.now }
     ensures value { IsFormula (point_parts p.now q.now v.now) (to_point p.now q.now v.now) result }
@@ -142,8 +142,9 @@ fn with_differences(
     })
 }
 
-/// The edges with the differences to their ends, of the way from `p` to `q`. Where an edge begins
-/// at the end of the one before, it takes over the differences to it.
+/// The edges with the differences to their ends, along the segment from `p` to `q`. If an edge
+/// begins at the end of the one before, it reuses the differences to it. The fault is F2, exactly
+/// if a difference does not fit, or out of memory.
 pub fn besides(
     alloc: Global,
     edges: &[(Point, Point)],
@@ -173,7 +174,8 @@ pub fn besides(
     Ok(out)
 }
 
-/// The functions of each edge, of the way from `p` to `q`.
+/// The functions of each edge, along the segment from `p` to `q`. The fault is F4, exactly if a
+/// part of a turn does not fit, or out of memory.
 pub fn turned(
     alloc: Global,
     edges: &[Beside],

@@ -98,7 +98,7 @@ module _ {C B : Type 0} {steady copies : Bool} {value : C → Ratio → Ratio �
   steady_fits [] = refl
   steady_fits (p ∷ ps) = first_joined (entries_of_gaps value parts gaps p) (flat_map (entries_of_gaps value parts gaps) ps) None (steady_first p) (steady_fits ps)
 
-  -- so memory alone is refused
+  -- so the only error is a failed allocation
   pub memory_alone : {V : Type 0} (ps : List (PieceOf (SideOf C B) (SideOf C B))) (q : Result V (Fault Formula)) → IsJudged (flat_map (entries_of_gaps value parts gaps) ps) q → IfErr q (λ e. e ≡ NoMemory)
   memory_alone ps (Ok v) h = tt
   memory_alone ps (Err (Because f)) h = none_some f (one_first (flat_map (entries_of_gaps value parts gaps) ps) None (Some f) (steady_fits ps) h)

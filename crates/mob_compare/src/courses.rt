@@ -1,3 +1,4 @@
+//! The six comparisons on two operands.
 ghost use Rattle.std.specs.Prelude.{◌≡◌, true, false, ◌||◌, IfOk, IfErr};
 ghost use Rattle.std.specs.List.{flat_map};
 ghost use Rattle.mob_slice.specs.Comparison.{MayAsk};
@@ -62,7 +63,7 @@ where
     ensures given { IsGiven steady_value steady_limit steady_limit (λ v. v.items) (on_sides C.value_of C.value_of (C.relation rel) (piece_of piece.now)) piece.now.span (entries_of_gaps C.value_of C.parts_of C.gaps_of (piece_of piece.now)) result }
 {
     if C::STEADY {
-        // A call of a method tells the proof what holds of every span.
+        // A method call gives the proof the invariant of a span.
         let _ = piece.span.lower();
         let value = C::relates(rel, piece.left.start(), piece.right.start());
         return single(alloc, piece.span, value);
@@ -96,13 +97,13 @@ where
     )
 }
 
-/// The ordinary comparison of two operands at each instant at which both have a value, the instant
-/// at which they cross included. None exactly where there is no such instant. An order relation is
-/// asked only of values that have an order.
+/// The ordinary comparison of two operands at each instant at which both have a value, including
+/// the instant at which they cross. `None` exactly if no such instant exists. Call it with an order
+/// relation only if the values have an order.
 ///
 /// The fault names the formula of the first entry that has a part that does not fit: on each piece
 /// that the operands share, F1 at its ends, then F2, the gaps there, then F3, the roots of the
-/// gaps. Steady courses have no formula, and memory is the one refusal there.
+/// gaps. Steady courses have no formula, and the only error is a failed allocation.
 pub fn compare<C: Compared + Drop>(
     alloc: Global,
     a: Operand<'_, C>,

@@ -1,3 +1,4 @@
+//! The ever and always comparisons.
 ghost use Rattle.std.specs.Prelude.{◌≡◌, ◌||◌, true, false, IfOk, IsOk, option_map, not};
 ghost use Rattle.std.specs.List.{flat_map};
 ghost use Rattle.mob_span.specs.Flags.{same_bool};
@@ -13,7 +14,7 @@ use mob_slice::{Compared, Formula, Operand, Rel};
 use mob_sync::Pieces;
 use std::alloc::Global;
 
-// The contrary of an answer, where there is one.
+// The negated answer, if it exists.
 fn contrary(answer: Option<bool>) -> Option<bool>
     ensures value { result ≡ option_map not answer }
 {
@@ -23,9 +24,8 @@ fn contrary(answer: Option<bool>) -> Option<bool>
     }
 }
 
-// Whether the comparison has the wanted truth value at some common instant. None exactly where
-// there is no such instant. Every piece is walked, also behind one that has settled the answer:
-// each has its formulas.
+// Whether the comparison has the wanted result at some common instant. `None` exactly if no instant
+// is common. Every piece is visited, even after one that settles the answer: each has its formulas.
 fn sometime<C: Compared + Drop>(
     alloc: Global,
     a: Operand<'_, C>,
@@ -50,12 +50,12 @@ where
 }
 
 /// Whether the comparison holds at some instant at which both operands have a value (the `?` signs;
-/// MobilityDB's ever comparisons). None exactly where there is no such instant. An order relation
-/// is asked only of values that have an order. It takes no memory.
+/// MobilityDB's ever comparisons). `None` exactly if no such instant exists. Call it with an order
+/// relation only if the values have an order. It does not allocate.
 ///
 /// The fault names the formula of the first entry that has a part that does not fit: on each piece
-/// that the operands share F1 at its ends, then F2, the gaps there, also on pieces behind one that
-/// has settled the answer. Steady courses have no formula, and there is an answer always.
+/// that the operands share, F1 at its ends, then F2, the gaps there, even on pieces after one that
+/// settles the answer. Steady courses have no formula, and no error.
 pub fn ever<C: Compared + Drop>(
     alloc: Global,
     a: Operand<'_, C>,
@@ -74,8 +74,8 @@ where
 }
 
 /// Whether the comparison holds at every instant at which both operands have a value (the `%`
-/// signs; MobilityDB's always comparisons). None exactly where there is no such instant. An order
-/// relation is asked only of values that have an order. It takes no memory.
+/// signs; MobilityDB's always comparisons). `None` exactly if no such instant exists. Call it with
+/// an order relation only if the values have an order. It does not allocate.
 ///
 /// The fault is that of `ever`.
 pub fn always<C: Compared + Drop>(

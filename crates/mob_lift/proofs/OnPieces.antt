@@ -1,4 +1,4 @@
--- What an operator gives on one piece, where it gives one slice.
+-- The result of an operator on one piece, if it is one slice.
 use Rattle.std.specs.Prelude.{◌≡◌, true, List, [], ◌∷◌, Some, None, Result, Ok, Err, MatchResult, IfErr, refl}
 use Rattle.std.specs.List.{flat_map}
 use Rattle.std.proofs.Common.{ap, sym, ◌∙◌}
@@ -21,7 +21,7 @@ use Rattle.mob_lift.specs.Given.{AreOn, IsGiven, on_sides}
 pub one_on : {C B : Type 0} (value : C → Ratio → Ratio → Ratio → B) (start end : C → B) (f : Ratio → B) (r : SpanOf) (s : Slice C) (slices : List (Slice C)) → slices ≡ s ∷ [] → HasValues value start end f r s → AreOn value start end f r slices
 one_on value start end f r s slices e h = rw e (one_kept value start end (λ t. Some (f t)) f r s h (λ t k. refl))
 
--- what one slice as a list says of a piece
+-- one slice as a list is the result on a piece
 pub on_one : {C B V : Type 0} (value : C → Ratio → Ratio → Ratio → B) (start end : C → B) (items : V → List (Slice C)) (f : Ratio → B) (span : SpanOf) (entries : List Entry) (r : Result V (Fault Formula)) (made c : C) → c ≡ made
     → HasValues value start end f span (record { span = span; course = made })
     → IsFirst entries None
@@ -41,7 +41,7 @@ no_first : {P : Type 0} (f : Formula) (ps : List P) → IsFirst (flat_map (λ p.
 no_first f [] h = none_some f (sym h)
 no_first f (p ∷ ps) h = no_first f ps h
 
--- where there is no entry, memory alone is refused
+-- with no entries, the only error is out of memory
 pub memory_only : {P V : Type 0} (ps : List P) (r : Result V (Fault Formula)) → IsJudged (flat_map (λ p. []) ps) r → IfErr r (λ e. e ≡ NoMemory)
 memory_only ps (Ok v) h = tt
 memory_only ps (Err (Because f)) h = absurd (no_first f ps h)

@@ -1,4 +1,4 @@
--- What an operator gives on all pieces of two operands.
+-- The result of an operator on all pieces of two operands.
 use Rattle.std.specs.Prelude.{◌≡◌, true, ◌||◌, List, map, Some, None, option_map, Result, Err, IfOk, refl}
 use Rattle.std.specs.List.{flat_map}
 use Rattle.std.specs.Iterator.{Yields, Drains, YieldsFirstBy}
@@ -39,9 +39,9 @@ module _ {A X B Y D Z V : Type 0} (value : A → Ratio → Ratio → Ratio → X
         ∙ pieces_value op value value' a b m t;
   }
 
-  -- Where the closure gave the operation on each piece, or the formula of the first entry of that
-  -- piece, the whole is the operation on the two operands, judged by the entries of all pieces.
-  -- These two facts an operator has to know of its closure.
+  -- If the closure returned the operation on each piece, or the formula of the first entry of that
+  -- piece that does not fit, the whole is the operation on the two operands, judged by the entries
+  -- of all pieces. An operator has to know these two facts of its closure.
   pub whole : (entries : PieceOf (SideOf A X) (SideOf B Y) → List Entry) {I W : Type 0} (rest : I → List (PieceOf (SideOf A X) (SideOf B Y))) (list : W → List (Slice D)) (walk : I) (a : OperandOf A X) (b : OperandOf B Y) → (has_slices a || has_slices b) ≡ true → rest walk ≡ pieces a b → (gives : Piece A B X Y → V → Type 0) (fails : Formula → Piece A B X Y → Type 0) (r : Result W (Fault Formula))
       → ((p : Piece A B X Y) (v : V) → gives p v → AreOn result start end (on_sides value value' op (piece_of p)) p.span (items v) × IsFirst (entries (piece_of p)) None)
       → ((f : Formula) (p : Piece A B X Y) → fails f p → IsFirst (entries (piece_of p)) (Some f))

@@ -63,12 +63,12 @@ module _ (d : Ratio) where
       split [] ys zs r f h = f r h
       split (x ∷ xs) ys zs r f h = ⊎_elim (λ m. inl (m.0, split xs ys zs r f m.1)) (λ m. inr m) h
 
-  -- the square of a distance that is not below 0 fits, and the rest is as it is
+  -- if the square of a distance of at least 0 fits, only the other entries matter
   pub within_fits : {V : Type 0} (ps : List PointPiece) (r : Result V Formula) → before d nil ≡ false → AllFit (distance_parts d) → IsDecided (flat_map (entries_of_reach (d *ℚ d)) ps) r → IsDecided (entries_of_within d ps) r
   within_fits ps (Ok v) h fit k = rw h (squares_fit fit ps None k)
   within_fits ps (Err e) h fit k = rw h (squares_fit fit ps (Some e) k)
 
-  -- it does not fit, where there is a piece
+  -- if it does not fit, it is the first fault as soon as a piece exists
   pub within_unfit : (ps : List PointPiece) → before d nil ≡ false → (¬ AllFit (distance_parts d)) → IsDecided {V = Option Bool} (entries_of_within d ps) (cond (are_some ps) (Err (record { formula = F6 })) (Ok None))
   within_unfit [] h bad = rw h refl
   within_unfit (p ∷ ps) h bad = rw h (inr (bad, refl))

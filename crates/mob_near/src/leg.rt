@@ -1,3 +1,4 @@
+//! The difference of two moving points on a piece of time.
 ghost use Rattle.std.specs.Prelude.{◌≡◌, true, IfOk};
 ghost use Rattle.mob_span.specs.Neighbours.{is_inside};
 ghost use Rattle.mob_slice.specs.Computed.{IsComputed};
@@ -19,29 +20,29 @@ use mob_slice::{Formula, Piece, PlaneLine, Side, Slice};
 use mob_span::Span;
 use std::alloc::Global;
 
-/// The difference of two points on a piece of time: it goes straight from (x0, y0) to (x1, y1).
+/// The difference of two points on a piece of time: a straight segment from (x0, y0) to (x1, y1).
 #[derive(Clone, Copy, Drop)]
 pub struct Leg {
-    /// How far the first point is to the east of the second at the lower end.
+    /// The difference to the east at the lower end: the first point minus the second.
     pub x0: Frac,
-    /// And to the north.
+    /// The difference to the north at the lower end.
     pub y0: Frac,
-    /// How far to the east at the upper end.
+    /// The difference to the east at the upper end.
     pub x1: Frac,
-    /// And to the north.
+    /// The difference to the north at the upper end.
     pub y1: Frac,
 }
 
-/// The squares of the distances at both ends of a piece.
+/// The squared distances at both ends of a piece.
 #[derive(Clone, Copy, Drop)]
 pub struct Squares {
-    /// That at the lower end.
+    /// The squared distance at the lower end.
     pub first: Frac,
-    /// That at the upper end.
+    /// The squared distance at the upper end.
     pub last: Frac,
 }
 
-// Where a slice is at the two ends of a piece of its span.
+// The points of a slice at the two ends of a piece of its span.
 fn ends_on(
     alloc: Global,
     slice: &Slice<PlaneLine>,
@@ -58,7 +59,7 @@ fn ends_on(
     }
 }
 
-// Where a side is at the two ends of a piece.
+// The points of a side at the two ends of a piece.
 fn ends_of(
     alloc: Global,
     side: &Side<'_, PlaneLine>,
@@ -77,7 +78,7 @@ fn ends_of(
     }
 }
 
-// The leg of the difference of two ways.
+// The leg of the difference of two linear motions.
 fn leg_between(
     left: &PlaneLine,
     right: &PlaneLine,
@@ -99,8 +100,8 @@ fn leg_between(
     })
 }
 
-/// How the difference of the two points goes on the piece. What is known of its lower end is taken
-/// over, and what is computed at its upper end is kept.
+/// The difference of the two points on the piece. Known results at its lower end are reused, and
+/// those at its upper end are kept.
 ///
 /// The fault names the formula of the first entry that does not fit: F1 at the ends of the piece,
 /// then F2, the differences there.
@@ -124,8 +125,7 @@ pub fn leg_on(
     leg_between(&left, &right, &mut last.apart)
 }
 
-/// The squares of the distances at both ends. The fault names F6, exactly where a part of one does
-/// not fit.
+/// The squared distances at both ends. The fault is F6, exactly if a part of one does not fit.
 pub fn squares_at_ends(leg: &Leg, squared: &mut Option<Squared>) -> Result<Squares, Formula>
     ensures value { IsComputed F6 (squares_parts leg.now) (squares_of leg.now) result }
 {

@@ -1,4 +1,4 @@
-//! How near two points come on one piece of time.
+//! The nearness of two points on one piece of time.
 ghost use Rattle.std.specs.Prelude.{◌≡◌, ◌&&◌, ◌||◌, IfOk};
 ghost use Rattle.mob_quadratic.specs.Quadratic.{reaches_by, infimum_by};
 ghost use Rattle.mob_slice.specs.Entries.{IsDecided};
@@ -15,8 +15,8 @@ use mob_slice::{Formula, Piece, PlaneLine};
 use mob_span::Span;
 use std::alloc::Global;
 
-// Whether the bound is reached at some instant of a span longer than one, by the squares at its
-// ends and whether the nearest point reaches it.
+// Whether the bound is reached at some instant of a span longer than an instant, from the squares
+// at its ends and from whether the nearest point reaches it.
 fn reaches_by(span: &Span, squares: &Squares, square: &Frac, between: bool) -> bool
     ensures value { result ≡ reaches_by square.now squares.now.first squares.now.last span.now.lower_inc span.now.upper_inc between }
 {
@@ -30,7 +30,7 @@ fn reaches_by(span: &Span, squares: &Squares, square: &Frac, between: bool) -> b
         || between
 }
 
-/// Whether the square of the distance is at most `square` at some instant of the piece.
+/// Whether the squared distance is at most `square` at some instant of the piece.
 ///
 /// The fault names the formula of the first entry that does not fit: F1 at the ends of the piece,
 /// F2, the difference there, F6, the squares there, and F5, the nearest point between.
@@ -61,7 +61,7 @@ pub fn piece_reaches(
     }
 }
 
-// The greatest lower bound of the squares: that of the nearest point, else the smaller one at an
+// The greatest lower bound of the squares: that of the nearest point, or else the smaller one at an
 // end.
 fn infimum_by(squares: &Squares, between: Option<Frac>) -> Frac
     ensures value { result ≡ infimum_by squares.now.first squares.now.last between }
@@ -72,9 +72,9 @@ fn infimum_by(squares: &Squares, between: Option<Frac>) -> Frac
     }
 }
 
-/// The greatest lower bound of the square of the distance on the piece.
+/// The greatest lower bound of the squared distance on the piece.
 ///
-/// The fault names the formula of the first entry that does not fit, as that of `piece_reaches`.
+/// The fault is that of `piece_reaches`.
 pub fn piece_approach(
     alloc: Global,
     piece: &Piece<'_, PlaneLine, PlaneLine>,

@@ -1,4 +1,4 @@
--- What is cut out of a temporal value.
+-- The parts cut out of a temporal value.
 use Rattle.std.specs.Prelude.{◌≡◌, Bool, true, List, [], ◌∷◌, map, Option, Some, None, option_map, Result, Ok, Err, MatchResult, IfOk, refl}
 use Rattle.std.specs.List.{flat_map, AllByRecursion}
 use Rattle.std.specs.Iterator.{Yields, Drains, YieldsFirstBy}
@@ -36,7 +36,7 @@ use Rattle.mob_lift.proofs.Judged.{judged}
 use Rattle.mob_cells.specs.Restricted.{where_wanted, AreRestricted}
 use Rattle.mob_restrict.specs.Cuts.{entry_of_cut}
 
--- one cut, or why it was not given
+-- one cut, or the reason why it failed
 module _ {C : Type 0} (lines : C → Ratio → Ratio → Ratio → List Ratio) (p : PieceOf (Slice C) SpanOf) where
   pub cut_fails : (copies : Bool) (f : Fault Formula) → IsLookFault copies (at_ends (slice_parts lines p.left) p.span) f → OnCause (λ f. IsFirst (entry_of_cut lines p) (Some f)) f
   cut_fails copies (Because f) h = inr (h.1, ap Some h.0)
@@ -50,7 +50,7 @@ all_units : (rs : List SpanOf) → AllByRecursion (λ r. Unit {0}) rs
 all_units [] = tt
 all_units (r ∷ rs) = (tt, all_units rs)
 
--- the slices of the pieces hold them
+-- the slices of the pieces contain them
 pub met_hold : {C B : Type 0} (start end : C → B) (v : List (Slice C)) (spans : List SpanOf) → IsOrdered start end v → AllByRecursion (HoldsMet start end) (shared_pieces (λ s. s.span) (λ r. r) v spans)
 met_hold {C} start end v spans h = firsts (shared_pieces (λ s. s.span) (λ r. r) v spans) (meets_hold (λ s. s.span) (λ r. r) (IsSound start end) (λ r. Unit {0}) v spans (all_sound start end v h) (all_units spans))
   where
@@ -91,7 +91,7 @@ module _ {C B P V I W : Type 0} (value : C → Ratio → Ratio → Ratio → B) 
         ∙ wanted_there (value_at value v t) (piece_at (λ r. r) spans t) (in_some spans t) (there (λ r. r) spans t);
   }
 
-  -- what the cuts of all pieces say of the whole
+  -- the result for the whole, from the cuts of all pieces
   pub whole_within : (r : Result W (Fault Formula))
       → IfOk r (λ all. (ps : List P) × Drains (YieldsFirstBy view rest) walk ps × IsPiecewise value start end span items gives ps (list all))
       → ((f : Formula) → r ≡ Err (Because f) → (ps : List P) × (t : I) × Yields (YieldsFirstBy view rest) walk ps t × IsFirstFailure gives (fails f) ps)

@@ -1,3 +1,4 @@
+//! Restriction to the instants of a set, or to all others.
 ghost use Rattle.std.specs.Prelude.{true, false, IfOk};
 ghost use Rattle.std.specs.List.{flat_map};
 ghost use Rattle.mob_span.specs.Meets.{shared_pieces};
@@ -70,7 +71,7 @@ where
     within(alloc, a, when.spans())
 }
 
-// Its slices at the instants that the set has not: those that the set leaves of its time.
+// Its slices at the instants that are not in the set: those in the remainders of its time.
 fn outside<C: Course + Drop>(
     alloc: Global,
     a: &Moving<C>,
@@ -86,7 +87,7 @@ where
     let Some(time) = whole(slices) else {
         return Ok(Vec::new(alloc));
     };
-    // A call of a method tells the proof what holds of every span.
+    // A method call gives the proof the invariant of a span.
     let _ = time.lower();
     match remainders(alloc, &time, spans) {
         Ok(left) => within(alloc, a, left.as_slice()),
@@ -94,11 +95,11 @@ where
     }
 }
 
-/// The temporal value at the instants of the set (MobilityDB's `atTime`). None exactly where no
+/// The temporal value at the instants of the set (MobilityDB's `atTime`). `None` exactly if no
 /// instant is left.
 ///
-/// The fault names F1, exactly where a part of it does not fit at an end of what a slice and a span
-/// of the set share.
+/// The fault is F1, exactly if a part of it does not fit at an end of the intersection of a slice
+/// and a span of the set, or out of memory.
 pub fn at_time<C: Course + Drop>(
     alloc: Global,
     a: &Moving<C>,
@@ -113,11 +114,11 @@ where
     Ok(normal(alloc, slices)?)
 }
 
-/// The temporal value at the instants that are not of the set (MobilityDB's `minusTime`). None
-/// exactly where no instant is left.
+/// The temporal value at the instants that are not in the set (MobilityDB's `minusTime`). `None`
+/// exactly if no instant is left.
 ///
-/// The fault names F1, exactly where `at_time` passes it: the cuts of the one are those of the
-/// other.
+/// The fault is F1, exactly if it is for `at_time`, since both cut at the same instants, or out of
+/// memory.
 pub fn minus_time<C: Course + Drop>(
     alloc: Global,
     a: &Moving<C>,

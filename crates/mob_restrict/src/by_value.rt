@@ -1,3 +1,4 @@
+//! Restriction to the instants at which a value is taken, or to all others.
 ghost use Rattle.std.specs.Prelude.{◌≡◌, true, false, IfOk};
 ghost use Rattle.std.specs.List.{flat_map};
 ghost use Rattle.mob_slice.specs.Slices.{IsSound};
@@ -15,7 +16,7 @@ use mob_slice::{Compared, Course, Formula, Moving, Rel, Slice, cut};
 use mob_span::same_bool;
 use std::alloc::Global;
 
-// What is left of a slice of a course that is not steady.
+// The part of a slice that is kept, for a course that is not steady.
 fn on_lines<C: Compared + Drop>(
     alloc: Global,
     slice: &Slice<C>,
@@ -48,7 +49,7 @@ where
     )
 }
 
-// What is left of a slice of a steady course: all of it, or nothing.
+// The part of a slice of a steady course that is kept: all of it, or nothing.
 fn on_steps<C: Compared + Drop>(
     alloc: Global,
     slice: &Slice<C>,
@@ -71,7 +72,7 @@ where
     }
 }
 
-// The condition that a value is a given one.
+// The condition that a value equals a given one.
 #[derive(Drop)]
 struct ToValue<'a, C: Course> {
     value: &'a C::Base,
@@ -98,7 +99,7 @@ where
     }
 }
 
-// The restriction to the instants at which equality with the value has the wanted truth value.
+// The restriction to the instants at which equality with the value has the wanted result.
 fn to_value<C: Compared + Drop>(
     alloc: Global,
     a: &Moving<C>,
@@ -114,8 +115,8 @@ where
     Ok(normal(alloc, slices)?)
 }
 
-/// The temporal value at the instants at which it is that value (MobilityDB's `atValues`). None
-/// exactly where there is no such instant.
+/// The temporal value at the instants at which it equals the given value (MobilityDB's `atValues`).
+/// `None` exactly if no such instant exists.
 ///
 /// The fault names the formula of the first entry that has a part that does not fit: on each slice
 /// F2, the gaps to that value at its ends, then F3, their roots, then F1 at these roots. Steady
@@ -133,10 +134,10 @@ where
     to_value::<C>(alloc, a, value, true)
 }
 
-/// The temporal value at the instants at which it is not that value (MobilityDB's `minusValues`).
-/// None exactly where there is no such instant.
+/// The temporal value at the instants at which it differs from the given value (MobilityDB's
+/// `minusValues`). `None` exactly if no such instant exists.
 ///
-/// The fault is that of `at_value`: the formulas are the same, whatever is left.
+/// The fault is that of `at_value`: the formulas are the same, whatever is kept.
 pub fn minus_value<C: Compared + Drop>(
     alloc: Global,
     a: &Moving<C>,

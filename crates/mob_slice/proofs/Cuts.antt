@@ -130,7 +130,7 @@ pub fault_second : (copies : Bool) (p q : List Ratio) (f : Fault Formula) → Is
 fault_second copies p q (Because f) h = (h.0, λ all. h.1 (all_second p q all))
 fault_second copies p q NoMemory h = h
 
--- why the first or the second end was not given
+-- the reason why the first or the second end has no value
 module _ (parts : Ratio → List Ratio) (r : SpanOf) where
   pub first_fault : (copies : Bool) (t : Ratio) (f : Fault Formula) → t ≡ r.lower → IsLookFault copies (parts t) f → IsLookFault copies (at_ends parts r) f
   first_fault copies t f e h = fault_first copies (parts r.lower) (parts r.upper) f (subst (λ z. IsLookFault copies (parts z) f) e h)

@@ -1,4 +1,4 @@
--- What a call on a pair says of the piece.
+-- The meaning, for a piece, of a call on a pair.
 use Rattle.std.specs.Prelude.{◌≡◌, Bool, true, List, [], ◌∷◌, Result, Ok}
 use Rattle.std.specs.List.{AllByRecursion}
 use Rattle.std.proofs.Common.{sym, subst}
@@ -51,7 +51,7 @@ module _ {C : Type 0} (parts : C → Ratio → Ratio → Ratio → List Ratio) (
   pub both_fit : AllFit lefts → AllFit rights → AllFit (piece_parts parts q)
   both_fit h k = all_both lefts rights h k
 
--- what is given on a piece of the walk is ordered and lies in the piece
+-- the result on a piece of the walk is ordered and lies in the piece
 pub share_sound : {C B V : Type 0} (value : C → Ratio → Ratio → Ratio → B) (start end : C → B) (parts : C → Ratio → Ratio → Ratio → List Ratio) (items : V → List (Slice C)) (returns : Pair C C → Result V (Fault Formula) → Type 0) (x : V)
     → ((p : Pair C C) → has_instant p.span ≡ true → IsPairFit start end start end p → returns p (Ok x) → AreFull value start end p.span (items x) × AllFit (piece_parts parts (pair_of p)))
     → (p : Share C) → has_instant (share_span p) ≡ true → HoldsShare start end (share_of p) → IsShareGiven value start end parts items returns p (Ok x) → IsOrdered start end (items x) × AreInside (share_span p) (items x)

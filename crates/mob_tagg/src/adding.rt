@@ -1,4 +1,4 @@
-//! What is added to an aggregate over time.
+//! Adding values to an aggregate over time.
 
 ghost use Rattle.std.specs.Prelude.{◌≡◌, [], ◌∷◌, IfOk, MatchResult, option_map, pos};
 ghost use Rattle.std.specs.List.{flat_map};
@@ -24,8 +24,7 @@ use mob_slice::{Course, Formula, Moving, Pair, Slice, Steady, cut};
 use std::alloc::{AllocError, Global};
 use std::cell::Cell;
 
-// The sum on a piece that two values share. What the piece before it made at its end is not made
-// twice.
+// The sum on a piece that two values share. It reuses the results at the end of the piece before.
 fn sum_on<C: Summed + Drop>(
     alloc: Global,
     pair: &Pair<'_, C, C>,
@@ -54,7 +53,7 @@ where
         Err(fault) => return Err(fault),
     };
     keep(alloc, memo, pair.right, left, right, &to);
-    // A call of a method tells the proof what holds of every span.
+    // A method call gives the proof the invariant of a span.
     let _ = pair.span.lower();
     Ok(Slice {
         span: pair.span,
@@ -62,7 +61,7 @@ where
     })
 }
 
-/// The sum of two values where both are defined, and the one that is where one is.
+/// The sum of two values if both are defined, or else the one that is.
 ///
 /// The fault names the formula of the first entry of the sum of the two that has a part that does
 /// not fit: on each piece that they share, F1 at its ends, then F2 there.
@@ -102,7 +101,7 @@ pub fn one() -> Frac
     }
 }
 
-/// 1 where a value is defined.
+/// 1 at each instant at which a value is defined. The only error is a failed allocation.
 pub fn ones_of<C: Course>(alloc: Global, a: &Moving<C>) -> Result<Moving<Steady<Frac>>, AllocError>
     ensures value { IfOk result (λ r. (t : Ratio) → value_at steady_value r t ≡ option_map (λ x. whole (pos 1)) (value_at C.value_of a.now t)) }
 {
@@ -131,7 +130,8 @@ fn and_on(
     single(alloc, pair.span, value)
 }
 
-/// Whether both are true where both are defined, and the one that is where one is.
+/// The conjunction of two values if both are defined, or else the one that is. The only error is a
+/// failed allocation.
 pub fn and_in(
     alloc: Global,
     total: &Moving<Steady<bool>>,
@@ -166,7 +166,8 @@ fn or_on(
     single(alloc, pair.span, value)
 }
 
-/// Whether one is true where both are defined, and the one that is where one is.
+/// The disjunction of two values if both are defined, or else the one that is. The only error is a
+/// failed allocation.
 pub fn or_in(
     alloc: Global,
     total: &Moving<Steady<bool>>,

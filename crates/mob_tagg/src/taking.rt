@@ -1,5 +1,5 @@
-//! Two temporal values as one: where both are defined what a closure makes of both, else the one
-//! that is.
+//! Two temporal values merged: the result of a closure if both are defined, or else the one that
+//! is.
 
 ghost use Rattle.std.specs.Prelude.{◌≡◌, ◌≢◌, [], ◌∷◌, Ok, Err, IfOk, IfErr, MatchResult};
 ghost use Rattle.std.specs.Fn.{FnReturnsAt};
@@ -53,8 +53,8 @@ where
     }
 }
 
-// Whether all parts of F1 of both slices fit at the ends of a piece. Courses that go by steps have
-// none.
+// Whether all parts of F1 of both slices fit at the ends of a piece. Courses that change in steps
+// have none.
 fn cuts_fit<C: Course + Drop>(alloc: Global, pair: &Pair<'_, C, C>) -> Result<(), Fault<Formula>>
 where
     C::Base: Drop,
@@ -75,7 +75,7 @@ where
     Ok(())
 }
 
-// What is given on one piece of the walk.
+// The result on one piece of the walk.
 fn on_share<'a, C: Course + Drop, F: Fn(&Pair<'a, C, C>) -> Result<Vec<Slice<C>>, Fault<Formula>>>(
     alloc: Global,
     share: &Share<'a, C>,
@@ -94,8 +94,9 @@ where
     }
 }
 
-/// The slices of two values, and what `both` makes of the pieces that they share, where `both`
-/// itself judges F1 at the ends of a piece.
+/// The slices of two values, and the results of `both` on the pieces that they share. `both` itself
+/// checks F1 at the ends of a piece. The fault names the formula of the first shared piece that
+/// fails: F1, if a part of it does not fit at an end, or that of `both`.
 pub fn together<
     'a,
     C: Course + Drop,
@@ -127,7 +128,7 @@ where
     )
 }
 
-// The slice that is given on one piece of the walk.
+// The slice on one piece of the walk.
 fn slice_on_share<'a, C: Course + Drop, F: Fn(&Pair<'a, C, C>) -> Result<Slice<C>, Fault<Formula>>>(
     alloc: Global,
     share: &Share<'a, C>,
@@ -146,8 +147,8 @@ where
     }
 }
 
-// How many pieces two values have where neither has a gap: one for each end of a slice, and one
-// where the first begins before the second, or behind it. A list grows where more come.
+// The expected number of pieces of two values without gaps: one for each end of a slice, and one if
+// the first begins before the second, or after it. The list grows if more come.
 fn expected<C>(lefts: &[Slice<C>], rights: &[Slice<C>]) -> usize {
     let mut lefts = lefts;
     let mut rights = rights;
@@ -172,8 +173,10 @@ fn expected<C>(lefts: &[Slice<C>], rights: &[Slice<C>]) -> usize {
     }
 }
 
-/// The slices of two values, and the one slice that `both` makes of each piece that they share. As
-/// in `together`, `both` itself judges F1 at the ends of a piece. No list is made for a piece.
+/// The slices of two values, and the one slice that `both` returns on each piece that they share.
+/// As in `together`, `both` itself checks F1 at the ends of a piece. No list is allocated for a
+/// piece. The fault names the formula of the first shared piece that fails: F1, if a part of it
+/// does not fit at an end, or that of `both`.
 pub fn merged<
     'a,
     C: Course + Drop,
@@ -208,7 +211,7 @@ where
     )
 }
 
-// What `both` makes of a piece, where all parts of F1 fit at its ends.
+// The result of `both` on a piece, if all parts of F1 fit at its ends.
 fn on_pair<'a, C: Course + Drop, F: Fn(&Pair<'a, C, C>) -> Result<Vec<Slice<C>>, Fault<Formula>>>(
     alloc: Global,
     pair: &Pair<'a, C, C>,
@@ -226,12 +229,12 @@ where
     }
 }
 
-/// Two values as one: at each instant at which both are defined what `both` makes of them, where
-/// one is, its value, and elsewhere none.
+/// Two values merged: at each instant at which both are defined, the result of `both`; if one is,
+/// its value; and elsewhere none.
 ///
-/// For each piece that the two share `both` gives ordered slices that have exactly the instants of
-/// that piece. `Passed` comes from the first shared piece on which a part of F1 of one of the two
-/// does not fit at an end, and then it is F1, or on which `both` answered it.
+/// For each piece that the two share, `both` returns ordered slices that have exactly the instants
+/// of that piece. A fault with a formula comes from the first shared piece on which a part of F1 of
+/// one of the two does not fit at an end, and then it is F1, or on which `both` returned it.
 pub fn either<
     'a,
     C: Course + Drop,
@@ -261,7 +264,7 @@ where
 }
 
 /// The normal value of these slices, of which there is at least one: at every instant it has the
-/// value of the slices. The one error is a failed allocation.
+/// value of the slices. The only error is a failed allocation.
 pub fn normal_of<C: Course + Drop>(
     alloc: Global,
     slices: Vec<Slice<C>>,

@@ -13,7 +13,7 @@ use crate::line::{Line, PlaneLine};
 use mob_frac::Frac;
 use mob_plane::Point;
 
-// The first less the second. The fault names F2, exactly where the difference does not fit.
+// The difference `a - b`. The fault is F2, exactly if the difference does not fit.
 fn gap(a: &Frac, b: &Frac) -> Result<Frac, Formula>
     ensures gap { IsComputed F2 (difference_parts a.now b.now) (a.now -ℚ b.now) result }
 {
@@ -42,7 +42,7 @@ impl Compared for Line {
     ghost laws = { line_comparison };
 }
 
-// Whether two points are one may be asked of them, and no order.
+// Points can be tested for equality, and have no order.
 impl Compared for PlaneLine {
     ghost relation = { point_relates };
 

@@ -1,5 +1,5 @@
-//! Values that change evenly: from one limit to the other in a straight line, as the unit functions
-//! of the sliced representation.
+//! Values that change linearly, from one limit to the other, as the unit functions of the sliced
+//! representation.
 
 ghost use Rattle.std.specs.Prelude.{◌≡◌, true, false, ⊤};
 ghost use Rattle.mob_ratio.specs.Order.{same, up_to};
@@ -22,8 +22,8 @@ use mob_plane::Point;
 use mob_span::Span;
 use std::alloc::{AllocError, Global};
 
-// Whether the line from `x0` at `l` to `y` at `u` passes `x1` at `m`: no step is computed that
-// might not fit.
+// Whether the line from `x0` at `l` to `y` at `u` passes through `x1` at `m`. No step of the test
+// can overflow.
 fn is_straight(x0: &Frac, x1: &Frac, y: &Frac, l: &Frac, m: &Frac, u: &Frac) -> bool
     requires first { up_to l.now m.now ≡ true }
     requires second { up_to m.now u.now ≡ true }
@@ -63,7 +63,7 @@ fn value_in(x0: &Frac, x1: &Frac, span: &Span, t: &Frac) -> Result<Frac, Fault<F
     }
 }
 
-/// A number that changes evenly. On a span of one instant both limits are equal.
+/// A number that changes linearly. On a span of one instant both limits are equal.
 #[derive(Clone, Copy, Debug, Drop)]
 pub struct Line {
     /// The number at the lower end of the span.
@@ -127,8 +127,8 @@ impl Course for Line {
     ghost laws = { line_laws };
 }
 
-/// A point that moves evenly on a straight line: each coordinate changes evenly. On a span of one
-/// instant both limits are equal.
+/// A point that moves linearly: each coordinate changes linearly. On a span of one instant both
+/// limits are equal.
 #[derive(Clone, Copy, Debug, Drop)]
 pub struct PlaneLine {
     /// The point at the lower end of the span.
