@@ -1,4 +1,4 @@
--- The result, on one piece, of an operation that works on the limits.
+-- The result, on one piece, of an operation that is computed from the limits.
 use Rattle.std.specs.Prelude.{◌≡◌, Bool, true, false, List, ◌++◌, Some, None, refl}
 use Rattle.std.proofs.Common.{ap, sym, ◌∙◌, subst, inl, inr}
 use Rattle.mob_ratio.specs.Ratio.{Ratio}

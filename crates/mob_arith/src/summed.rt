@@ -15,9 +15,9 @@ use mob_slice::{Course, Formula, Line, Steady};
 /// A course whose values can be added, subtracted and multiplied by a number. Each operation is the
 /// ordinary one on the numbers of the values. Its fault is F2, exactly if the result does not fit.
 ///
-/// By the law of the trait, the operations work on the limits: the course between the sums of the
-/// limits of two courses on one span has at every instant the sum of their values. The same holds
-/// for differences and multiples.
+/// By the law of the trait, the operations are computed from the limits: the course between the
+/// sums of the limits of two courses on one span has at every instant the sum of their values. The
+/// same holds for differences and multiples.
 pub trait Summed: Course {
     /// The number of a value.
     ghost number: { Self.Base → Ratio };

@@ -1,4 +1,4 @@
-//! Operations on two operands that work on the limits.
+//! Operations on two operands that are computed from the limits of their slices.
 
 ghost use Rattle.std.specs.Prelude.{◌≡◌, true, ◌||◌, ◌++◌, List, IfOk};
 ghost use Rattle.std.specs.List.{flat_map};
@@ -24,8 +24,8 @@ use mob_slice::{Course, Formula, Line, Moving, Operand, Piece, Slice, Steady};
 use mob_sync::Pieces;
 use std::alloc::Global;
 
-/// An operation on the values of two courses that works on the limits: its result is a third
-/// course.
+/// An operation on the values of two courses that is computed from their limits: its result is a
+/// third course.
 pub trait Termwise<A: Course, B: Course, D: Course> {
     ghost op: { A.Base → B.Base → D.Base };
 

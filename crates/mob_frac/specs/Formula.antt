@@ -1,7 +1,6 @@
 -- Formulas: an operation on numbers takes several steps, and each step has to fit. The parts of a
 -- formula are the results of its steps in lowest terms, in the order in which they are written. The
--- part lists of all formulas are here, each under the letter and number by which a refusal names
--- it.
+-- part lists of all formulas are here, each under the letter and number by which an error names it.
 use Rattle.std.specs.Prelude.{◌≡◌, cond, ◌&&◌, ◌||◌, List, [], ◌∷◌, Result, MatchResult}
 use Rattle.mob_ratio.specs.Ratio.{Ratio, ◌+ℚ◌, ◌-ℚ◌, ◌*ℚ◌, ◌/ℚ◌}
 use Rattle.mob_ratio.specs.Order.{before, same}

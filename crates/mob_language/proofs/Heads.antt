@@ -55,7 +55,7 @@ many_stops p test h (c ∷ cs) each = h c each.0
 pub many_head : {p : ℕ → Bool} {test : ℕ → Bool} → Apart p test → NoHead (ManyOf p) test
 many_head {p} {test} h text v said = subst (Stops test) (sym said.is) (many_stops p test h v said.each)
 
--- a text that stops more bytes stops fewer
+-- a rest that stops a test also stops a narrower one
 pub stops_less : (test some : ℕ → Bool) → ((c : ℕ) → test c ≡ false → some c ≡ false) → (rest : Text) → Stops test rest → Stops some rest
 stops_less test some h [] s = tt
 stops_less test some h (c ∷ cs) s = h c s

@@ -77,7 +77,7 @@ module _ {C : Type 0} (parts : C → Ratio → Ratio → Ratio → List Ratio) w
   first_fails [] n = absurd (n tt)
   first_fails (p ∷ ps) n = ⊎_elim (λ m. inl (m, first_fails ps (λ k. n (m, k)))) (λ m. inr (m, refl)) (parts_or (at_ends (slice_parts parts p.left) p.span))
 
-  -- two lists of cuts that fit together give the same error
+  -- if two lists of cuts fit or fail together, they give the same error
   judged_alike : {V : Type 0} (ps qs : List (PieceOf (Slice C) SpanOf)) (r : Result V (Fault Formula)) → (CutsFit ps → CutsFit qs) → (CutsFit qs → CutsFit ps) → IsJudged (flat_map (entry_of_cut parts) ps) r → IsJudged (flat_map (entry_of_cut parts) qs) r
   judged_alike ps qs (Ok v) f g h = none_first qs (f (cuts_fit ps h))
   judged_alike ps qs (Err (Because e)) f g h = let m = one_fails ps e h in subst (λ o. IsFirst (flat_map (entry_of_cut parts) qs) o) (sym m.0) (first_fails qs (λ k. m.1 (g k)))
