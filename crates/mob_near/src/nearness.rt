@@ -43,7 +43,7 @@ fn never(shared: bool) -> Option<bool>
 
 // The square of a distance does not fit, where a piece asks for it.
 fn passed_where(shared: bool) -> Result<Option<bool>, Formula>
-    ensures value { result ≡ cond shared (Err (record { formula = F6 })) (Ok None) }
+    ensures value { result ≡ cond shared (Err F6) (Ok None) }
 {
     if shared {
         return Err(Formula::F6);
