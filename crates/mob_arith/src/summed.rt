@@ -93,7 +93,7 @@ impl Summed for Line {
 
 // The result of one operation on numbers.
 fn computed(number: Result<Frac, Overflow>) -> Result<Frac, Formula>
-    ensures computed { MatchResult number (λ x. result ≡ Ok x) (λ _. result ≡ Err (record { formula = F2 })) }
+    ensures computed { MatchResult number (λ x. result ≡ Ok x) (λ _. result ≡ Err F2) }
 {
     match number {
         Ok(value) => Ok(value),

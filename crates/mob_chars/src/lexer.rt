@@ -31,8 +31,8 @@ fn token_length(text: &[u8]) -> Option<(TokenKind, usize)>
 /// The tokens of a text, in order; the last is its end. Only blanks and comments stand between
 /// them.
 ///
-/// The fault is a place exactly where a character begins no token or a string is not closed, with the
-/// first such place.
+/// The fault is a place exactly where a character begins no token or a string is not closed, with
+/// the first such place.
 pub fn tokens(alloc: Global, text: &str) -> Result<Items<Token>, LexFault>
     requires short { length text.now < 2 ^ 32 }
     ensures all { IfOk result (λ ts. tokens_of text.now ≡ Ok ts) }

@@ -69,7 +69,7 @@ module _ (d : Ratio) where
   within_fits ps (Err e) h fit k = rw h (squares_fit fit ps (Some e) k)
 
   -- if it does not fit, it is the first fault as soon as a piece exists
-  pub within_unfit : (ps : List PointPiece) → before d nil ≡ false → (¬ AllFit (distance_parts d)) → IsDecided {V = Option Bool} (entries_of_within d ps) (cond (are_some ps) (Err (record { formula = F6 })) (Ok None))
+  pub within_unfit : (ps : List PointPiece) → before d nil ≡ false → (¬ AllFit (distance_parts d)) → IsDecided {V = Option Bool} (entries_of_within d ps) (cond (are_some ps) (Err (F6)) (Ok None))
   within_unfit [] h bad = rw h refl
   within_unfit (p ∷ ps) h bad = rw h (inr (bad, refl))
 

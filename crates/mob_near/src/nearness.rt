@@ -44,7 +44,7 @@ fn never(shared: bool) -> Option<bool>
 
 // The error that the square of the distance does not fit, if some piece computes it.
 fn passed_where(shared: bool) -> Result<Option<bool>, Formula>
-    ensures value { result ≡ cond shared (Err (record { formula = F6 })) (Ok None) }
+    ensures value { result ≡ cond shared (Err F6) (Ok None) }
 {
     if shared {
         return Err(Formula::F6);

@@ -123,8 +123,9 @@ fn truths_in<U: Uniting<Steady<bool>>>(
 
 /// Brings one more value into an aggregate, where `state` is that of the values without it.
 ///
-/// The fault names the formula that adding the value passes: F2 of `+` for a count or a sum, and for
-/// a sum over time the first formula of `+` at each instant. NULL is left out but by `count(*)`.
+/// The fault names the formula that adding the value passes: F2 of `+` for a count or a sum, and
+/// for a sum over time the first formula of `+` at each instant. NULL is left out but by
+/// `count(*)`.
 pub fn state_in(
     alloc: Global,
     agg: Agg,

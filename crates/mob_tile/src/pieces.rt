@@ -230,8 +230,8 @@ fn on_slice(
     pieces_at(alloc, grid, range, slice, cells.as_slice())
 }
 
-/// The pieces of all slices, in order of time. The fault names the first formula of a slice that has
-/// a part that does not fit.
+/// The pieces of all slices, in order of time. The fault names the first formula of a slice that
+/// has a part that does not fit.
 pub fn pieces_of(
     alloc: Global,
     grid: &Grid,

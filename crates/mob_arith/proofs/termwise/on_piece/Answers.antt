@@ -18,7 +18,7 @@ returns-in-Err-course_on g c =
     let h = c.in-Ok.ensures.slice in
     let k = c.in-Ok-on.ensures.slice in
     let fault = c.in-Err-course_on.ensures.course in
-    record { given = limits_fail g.A.Course.value_of g.A.Course.parts_of g.B.Course.value_of g.B.Course.parts_of g.O.Termwise.parts (piece_of c.args.piece.now) h.1 k.1 c.in-Err-course_on.field-0.formula _ _ _ _ h.0.from k.0.from h.0.to k.0.to fault.0 fault.1 }
+    record { given = limits_fail g.A.Course.value_of g.A.Course.parts_of g.B.Course.value_of g.B.Course.parts_of g.O.Termwise.parts (piece_of c.args.piece.now) h.1 k.1 c.in-Err-course_on.formula _ _ _ _ h.0.from k.0.from h.0.to k.0.to fault.0 fault.1 }
 
 pub returns : goal.returns
 returns g c =
