@@ -1,4 +1,4 @@
--- What an operation that goes term by term gives on one piece.
+-- The result, on one piece, of an operation that is computed from the limits.
 use Rattle.std.specs.Prelude.{◌≡◌, Bool, true, false, List, ◌++◌, Some, None, refl}
 use Rattle.std.proofs.Common.{ap, sym, ◌∙◌, subst, inl, inr}
 use Rattle.mob_ratio.specs.Ratio.{Ratio}
@@ -9,25 +9,26 @@ use Rattle.mob_span.specs.Meets.{PieceOf}
 use Rattle.mob_slice.specs.Course.{IsCourse}
 use Rattle.mob_slice.specs.Look.{IsLookFault}
 use Rattle.mob_slice.specs.Sides.{SideOf, side_at, side_parts, at_ends, HasValues}
-use Rattle.mob_slice.specs.Entries.{Entry, IsFirst, OnFormula, operator_fault}
+use Rattle.mob_list.specs.Faults.{OnCause}
+use Rattle.mob_slice.specs.Entries.{Entry, IsFirst}
 use Rattle.mob_slice.specs.declared.slice.Slice.{Slice}
 use Rattle.mob_slice.specs.declared.formula.Formula.{Formula}
 use Rattle.mob_slice.specs.declared.formula.Formula.TheVariants.{F2}
-use Rattle.mob_slice.specs.declared.formula.LookFault.{LookFault}
-use Rattle.mob_slice.specs.declared.formula.LookFault.TheVariants.{Passed, NoMemory}
+use Rattle.mob_list.specs.declared.fault.Fault.{Fault}
+use Rattle.mob_list.specs.declared.fault.Fault.TheVariants.{Because, NoMemory}
 use Rattle.mob_slice.proofs.Cuts.{all_both, all_first, all_second}
 use Rattle.mob_arith.specs.Summed.{IsTermwise}
 use Rattle.mob_arith.specs.Termwise.{entries_at_ends}
 
--- a slice on a span of one instant has one limit
+-- a slice on a span of one instant has equal limits
 level_of : {C B : Type 0} (value : C → Ratio → Ratio → Ratio → B) (start end : C → B) (e : Ratio → B) (r : SpanOf) (n : Slice C) → HasValues value start end e r n → before r.lower r.upper ≡ false → start n.course ≡ end n.course
 level_of value start end e r n i z = i.sound.level (subst (λ s. before s.lower s.upper ≡ false) (sym i.on) z)
 
 value_of : {C B : Type 0} (value : C → Ratio → Ratio → Ratio → B) (start end : C → B) (e : Ratio → B) (r : SpanOf) (n : Slice C) → HasValues value start end e r n → (t : Ratio) → has r t ≡ true → value n.course r.lower r.upper t ≡ e t
 value_of value start end e r n i t z = subst (λ s. value n.course s.lower s.upper t ≡ e t) i.on (i.same t z)
 
--- the operation on the limits of two slices on one span makes a slice with the operation at each
--- instant
+-- the operation on the limits of two slices on one span makes a slice that has the operation at
+-- each instant
 module _ {D Z : Type 0} {steady copies : Bool} {result : D → Ratio → Ratio → Ratio → Z} {first last : D → Z} {can_make : Z → Z → Type 0} {make : Z → Z → D} {continues : D → D → Ratio → Ratio → Ratio → Bool} {lines : D → Ratio → Ratio → Ratio → List Ratio} (laws : IsCourse steady copies result first last can_make make continues lines)
     {A X B Y : Type 0} (value : A → Ratio → Ratio → Ratio → X) (start end : A → X) (value' : B → Ratio → Ratio → Ratio → Y) (start' end' : B → Y) (op : X → Y → Z) (law : (c : A) (d : B) (lower upper : Ratio) → IsTermwise value start end value' start' end' result can_make make op c d lower upper)
     (f : Ratio → X) (g : Ratio → Y) (r : SpanOf) (l : Slice A) (m : Slice B) (h : HasValues value start end f r l) (k : HasValues value' start' end' g r m) (a b : Z) (p : a ≡ op (start l.course) (start' m.course)) (q : b ≡ op (end l.course) (end' m.course)) where
@@ -57,12 +58,12 @@ module _ {A X B Y : Type 0} (value : A → Ratio → Ratio → Ratio → X) (lin
   abbrev entries : List Entry
   entries = entries_at_ends value lines value' lines' parts p
 
-  pub left_fails : (copies : Bool) (f : LookFault) → IsLookFault copies lefts f → OnFormula (λ f. IsFirst entries (Some f)) (operator_fault f)
-  left_fails copies (Passed f) h = inr (λ k. h.1 (all_first lefts rights k), ap Some h.0)
+  pub left_fails : (copies : Bool) (f : Fault Formula) → IsLookFault copies lefts f → OnCause (λ f. IsFirst entries (Some f)) f
+  left_fails copies (Because f) h = inr (λ k. h.1 (all_first lefts rights k), ap Some h.0)
   left_fails copies NoMemory h = tt
 
-  pub right_fails : (copies : Bool) (f : LookFault) → IsLookFault copies rights f → OnFormula (λ f. IsFirst entries (Some f)) (operator_fault f)
-  right_fails copies (Passed f) h = inr (λ k. h.1 (all_second lefts rights k), ap Some h.0)
+  pub right_fails : (copies : Bool) (f : Fault Formula) → IsLookFault copies rights f → OnCause (λ f. IsFirst entries (Some f)) f
+  right_fails copies (Because f) h = inr (λ k. h.1 (all_second lefts rights k), ap Some h.0)
   right_fails copies NoMemory h = tt
 
   module _ (fl : AllFit lefts) (fr : AllFit rights) where

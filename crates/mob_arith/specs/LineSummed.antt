@@ -1,4 +1,4 @@
--- Lines meet the laws of sums, differences and multiples: each of them is a line between the
+-- Lines satisfy the laws of sums, differences and multiples: each result is a line between the
 -- results at the two ends.
 use Rattle.std.specs.Prelude.{refl, ⊤}
 use Rattle.std.proofs.Common.{sym}
@@ -24,6 +24,6 @@ line_summed = record {
   multiple_is = λ x k. refl;
 }
 
--- and so are quotients by a number that goes by steps
+-- and so is the quotient by a number that changes in steps
 pub line_divided : (c : Line) (d : Steady Ratio) (lower upper : Ratio) → IsTermwise line_value_of (λ c. c.from) (λ c. c.to) steady_value steady_limit steady_limit line_value_of (λ a b. ⊤) (λ a b. record { from = a; to = b }) quotient_of c d lower upper
 line_divided c d l u = record { made = tt; same = λ t. line_at-scale c.from c.to (inverse d.value) l u t }

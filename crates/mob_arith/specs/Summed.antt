@@ -5,16 +5,16 @@ use Rattle.mob_slice.specs.Operands.{steady_value, steady_limit}
 use Rattle.mob_slice.specs.declared.steady.Steady.{Steady}
 use Rattle.mob_arith.specs.Operations.{sum_of, difference_of, product_of}
 
--- An operation goes term by term: the course whose two limits are the operation on those of c and
--- d, on one span, has at every instant the operation on their values. `value`, `start` and `end`
--- are of the course of c, those with a stroke of that of d, and `result`, `can_make` and `make` of
--- that of the result.
+-- An operation is computed from the limits: the course between the results on the limits of c and
+-- d, on one span, has at every instant the result on their values. `value`, `start` and `end` are
+-- of the course of c, the primed ones of that of d, and `result`, `can_make` and `make` of that of
+-- the result.
 pub record IsTermwise {A X B Y D Z : Type 0} (value : A → Ratio → Ratio → Ratio → X) (start end : A → X) (value' : B → Ratio → Ratio → Ratio → Y) (start' end' : B → Y) (result : D → Ratio → Ratio → Ratio → Z) (can_make : Z → Z → Type 0) (make : Z → Z → D) (op : X → Y → Z) (c : A) (d : B) (lower upper : Ratio) : Type 0 where
   pub made : can_make (op (start c) (start' d)) (op (end c) (end' d))
   pub same : (t : Ratio) → result (make (op (start c) (start' d)) (op (end c) (end' d))) lower upper t ≡ op (value c lower upper t) (value' d lower upper t)
 
--- So do sums, differences and multiples by a number that goes by steps, which stands on either
--- side; and they are the ordinary ones of the numbers that the values are.
+-- Sums, differences and multiples by a number that changes in steps, on either side, are computed
+-- from the limits too. They are the ordinary operations on the numbers of the values.
 pub record IsSummed {C B : Type 0} (value : C → Ratio → Ratio → Ratio → B) (start end : C → B) (can_make : B → B → Type 0) (make : B → B → C) (number : B → Ratio) (sum difference : B → B → B) (multiple : B → Ratio → B) : Type 0 where
   pub sums : (c d : C) (lower upper : Ratio) → IsTermwise value start end value start end value can_make make sum c d lower upper
   pub differences : (c d : C) (lower upper : Ratio) → IsTermwise value start end value start end value can_make make difference c d lower upper
@@ -25,7 +25,7 @@ pub record IsSummed {C B : Type 0} (value : C → Ratio → Ratio → Ratio → 
   pub difference_is : (x y : B) → number (difference x y) ≡ number x -ℚ number y
   pub multiple_is : (x : B) (k : Ratio) → number (multiple x k) ≡ number x *ℚ k
 
--- steady courses of numbers meet them
+-- steady courses of numbers satisfy them
 pub steady_summed : IsSummed {C = Steady Ratio} {B = Ratio} (λ c lower upper t. c.value) (λ c. c.value) (λ c. c.value) (λ a b. a ≡ b) (λ a b. record { value = a }) (λ x. x) sum_of difference_of product_of
 steady_summed = record {
   sums = λ c d l u. record { made = refl; same = λ t. refl };

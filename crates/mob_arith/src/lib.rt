@@ -1,4 +1,5 @@
-//! Sums, differences and multiples of numbers, logic and the joining of texts, instant by instant.
+//! Sums, differences and multiples of numbers, logic, and concatenation of texts, instant by
+//! instant.
 #![tactic(auto)]
 
 mod logic;

@@ -1,4 +1,4 @@
-//! The logic of temporal truth values.
+//! The logic of temporal booleans.
 
 ghost use Rattle.std.specs.Prelude.{◌≡◌, true, ◌||◌, not, IfOk, option_map};
 ghost use Rattle.mob_ratio.specs.Ratio.{Ratio};
@@ -12,8 +12,8 @@ use crate::operation::{Conjunction, Disjunction, Exclusion};
 use mob_slice::{Moving, Operand, Steady};
 use std::alloc::{AllocError, Global};
 
-/// Whether both operands are true, at each instant at which both have a value. None exactly where
-/// there is no such instant.
+/// Whether both operands are true, at each instant at which both have a value. `None` exactly if no
+/// such instant exists. The only error is a failed allocation.
 pub fn and(
     alloc: Global,
     a: Operand<'_, Steady<bool>>,
@@ -25,8 +25,8 @@ pub fn and(
     operate::<Steady<bool>, Steady<bool>, Conjunction>(alloc, a, b)
 }
 
-/// Whether an operand is true, at each instant at which both have a value. None exactly where there
-/// is no such instant.
+/// Whether at least one operand is true, at each instant at which both have a value. `None` exactly
+/// if no such instant exists. The only error is a failed allocation.
 pub fn or(
     alloc: Global,
     a: Operand<'_, Steady<bool>>,
@@ -38,11 +38,11 @@ pub fn or(
     operate::<Steady<bool>, Steady<bool>, Disjunction>(alloc, a, b)
 }
 
-/// The other truth value at each instant.
+/// The negation at each instant. The only error is a failed allocation.
 pub fn not(alloc: Global, a: &Moving<Steady<bool>>) -> Result<Moving<Steady<bool>>, AllocError>
     ensures value { IfOk result (λ v. (t : Ratio) → value_at steady_value v t ≡ option_map not (value_at steady_value a.now t)) }
 {
-    // That `a` has a slice, so that the result has one, is known by this call.
+    // This call gives the proof that `a` has a slice, so that the result has one.
     let _ = a.slices();
     match operate::<Steady<bool>, Steady<bool>, Exclusion>(
         alloc,

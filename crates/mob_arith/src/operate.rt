@@ -1,4 +1,4 @@
-//! An operation without formulas on two operands that go by steps.
+//! An operation without formulas on two operands that change in steps.
 
 ghost use Rattle.std.specs.Prelude.{◌≡◌, true, ◌||◌, [], IfOk, IfErr};
 ghost use Rattle.mob_slice.specs.Operands.{IsPointwise, steady_value, steady_limit};
@@ -7,8 +7,9 @@ ghost use Rattle.mob_lift.specs.Given.{IsGiven, on_sides, AreLifted};
 
 use crate::operation::Operation;
 use mob_lift::{lift, single};
+use mob_list::fault::Fault;
 use mob_normal::normal;
-use mob_slice::{Course, Moving, OpFault, Operand, Piece, Slice, Steady};
+use mob_slice::{Course, Formula, Moving, Operand, Piece, Slice, Steady};
 use mob_sync::Pieces;
 use std::alloc::{AllocError, Global};
 
@@ -16,16 +17,13 @@ use std::alloc::{AllocError, Global};
 fn on_steps<A: Course, B: Course, O: Operation<A::Base, B::Base>>(
     alloc: Global,
     piece: &Piece<'_, A, B>,
-) -> Result<Vec<Slice<Steady<O::Value>>>, OpFault>
+) -> Result<Vec<Slice<Steady<O::Value>>>, Fault<Formula>>
     requires left { A.STEADY ≡ true }
     requires right { B.STEADY ≡ true }
     ensures given { IsGiven steady_value steady_limit steady_limit (λ v. v.items) (on_sides A.value_of B.value_of O.result_of (piece_of piece.now)) piece.now.span [] result }
 {
-    let value = match O::apply(alloc, piece.left.start(), piece.right.start()) {
-        Ok(value) => value,
-        Err(_) => return Err(OpFault::NoMemory),
-    };
-    // A call of a method tells the proof what holds of every span.
+    let value = O::apply(alloc, piece.left.start(), piece.right.start())?;
+    // A method call gives the proof the invariant of a span.
     let _ = piece.span.lower();
     single(alloc, piece.span, value)
 }
@@ -35,17 +33,17 @@ fn steps_of<A: Course, B: Course, O: Operation<A::Base, B::Base>>(
     alloc: Global,
     a: Operand<'_, A>,
     b: Operand<'_, B>,
-) -> Result<Vec<Slice<Steady<O::Value>>>, OpFault>
+) -> Result<Vec<Slice<Steady<O::Value>>>, Fault<Formula>>
     requires left { A.STEADY ≡ true }
     requires right { B.STEADY ≡ true }
     requires moving { (has_slices (operand_of a) || has_slices (operand_of b)) ≡ true }
     ensures slices { IfOk result (λ all. AreLifted A.value_of B.value_of steady_value steady_limit steady_limit O.result_of (operand_of a.entry) (operand_of b.entry) all.items) }
-    ensures memory { IfErr result (λ e. e ≡ OpFault.NoMemory) }
+    ensures memory { IfErr result (λ e. e ≡ Fault.NoMemory) }
 {
     lift(
         alloc,
         Pieces::new(a, b),
-        |piece: &Piece<'_, A, B>| -> Result<Vec<Slice<Steady<O::Value>>>, OpFault>
+        |piece: &Piece<'_, A, B>| -> Result<Vec<Slice<Steady<O::Value>>>, Fault<Formula>>
             requires left { A.STEADY ≡ true }
             requires right { B.STEADY ≡ true }
             ensures given { IsGiven steady_value steady_limit steady_limit (λ v. v.items) (on_sides A.value_of B.value_of O.result_of (piece_of piece.now)) piece.now.span [] result }
@@ -53,7 +51,8 @@ fn steps_of<A: Course, B: Course, O: Operation<A::Base, B::Base>>(
     )
 }
 
-/// The operation on two operands at each instant, as a normal value. Memory alone is refused.
+/// The operation on two operands at each instant, as a normal value. The only error is a failed
+/// allocation.
 pub fn operate<A: Course, B: Course, O: Operation<A::Base, B::Base>>(
     alloc: Global,
     a: Operand<'_, A>,
@@ -66,8 +65,8 @@ pub fn operate<A: Course, B: Course, O: Operation<A::Base, B::Base>>(
 {
     let slices = match steps_of::<A, B, O>(alloc, a, b) {
         Ok(slices) => slices,
-        Err(OpFault::NoMemory) => return Err(AllocError),
-        Err(OpFault::Passed { .. }) => unreachable!(),
+        Err(Fault::NoMemory) => return Err(AllocError),
+        Err(Fault::Because(_)) => unreachable!(),
     };
     match normal(alloc, slices) {
         Ok(value) => Ok(value),

@@ -7,14 +7,14 @@ use mob_list::text::Text;
 use mob_slice::BaseValue;
 use std::alloc::{AllocError, Global};
 
-/// An ordinary operation on two base values. No part of it can fail to fit.
+/// An ordinary operation on two base values. It never overflows.
 pub trait Operation<A, B> {
     /// The type of the result.
     type Value: BaseValue + Drop;
 
     ghost result_of: { A → B → Self.Value };
 
-    /// The result.
+    /// The result. The only error is a failed allocation.
     fn apply(alloc: Global, a: &A, b: &B) -> Result<Self::Value, AllocError>
         ensures answer { IfOk result (λ z. z ≡ result_of a.now b.now) };
 }
@@ -32,7 +32,7 @@ impl Operation<bool, bool> for Conjunction {
     }
 }
 
-/// Whether one is true, or both.
+/// Whether at least one is true.
 pub(crate) struct Disjunction;
 
 impl Operation<bool, bool> for Disjunction {

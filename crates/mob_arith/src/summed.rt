@@ -10,17 +10,16 @@ ghost use Rattle.mob_arith.specs.LineSummed.{line_summed};
 ghost use Rattle.mob_arith.specs.Summed.{IsSummed, steady_summed};
 
 use mob_frac::{Frac, Overflow};
-use mob_slice::{Course, Formula, Line, Passed, Steady};
+use mob_slice::{Course, Formula, Line, Steady};
 
-/// A course whose values can be added, subtracted and multiplied by a number. Each is the ordinary
-/// operation on the numbers that the values are, and its fault names F2, exactly where the result
-/// does not fit.
+/// A course whose values can be added, subtracted and multiplied by a number. Each operation is the
+/// ordinary one on the numbers of the values. Its fault is F2, exactly if the result does not fit.
 ///
-/// The law says that these go term by term: the course between the sums of the limits of two
-/// courses on one span has at every instant the sum of their values, and so for differences and
-/// multiples.
+/// By the law of the trait, the operations are computed from the limits: the course between the
+/// sums of the limits of two courses on one span has at every instant the sum of their values. The
+/// same holds for differences and multiples.
 pub trait Summed: Course {
-    /// The number that a value is.
+    /// The number of a value.
     ghost number: { Self.Base → Ratio };
 
     ghost added: { Self.Base → Self.Base → Self.Base };
@@ -30,15 +29,15 @@ pub trait Summed: Course {
     ghost multiplied: { Self.Base → Ratio → Self.Base };
 
     /// The sum.
-    fn sum(a: &Self::Base, b: &Self::Base) -> Result<Self::Base, Passed>
+    fn sum(a: &Self::Base, b: &Self::Base) -> Result<Self::Base, Formula>
         ensures sum { IsComputed F2 (sum_parts (number a.now) (number b.now)) (added a.now b.now) result };
 
-    /// The first less the second.
-    fn difference(a: &Self::Base, b: &Self::Base) -> Result<Self::Base, Passed>
+    /// The difference `a - b`.
+    fn difference(a: &Self::Base, b: &Self::Base) -> Result<Self::Base, Formula>
         ensures difference { IsComputed F2 (difference_parts (number a.now) (number b.now)) (subtracted a.now b.now) result };
 
-    /// The multiple by a number.
-    fn scaled(a: &Self::Base, k: &Frac) -> Result<Self::Base, Passed>
+    /// The product `a * k`.
+    fn scaled(a: &Self::Base, k: &Frac) -> Result<Self::Base, Formula>
         ensures multiple { IsComputed F2 (product_parts (number a.now) k.now) (multiplied a.now k.now) result };
 
     ghost laws: { IsSummed Self.value_of Self.start_of Self.end_of Self.can_make Self.make number added subtracted multiplied };
@@ -53,15 +52,15 @@ impl Summed for Steady<Frac> {
 
     ghost multiplied = { product_of };
 
-    fn sum(a: &Frac, b: &Frac) -> Result<Frac, Passed> {
+    fn sum(a: &Frac, b: &Frac) -> Result<Frac, Formula> {
         computed(a.add(b))
     }
 
-    fn difference(a: &Frac, b: &Frac) -> Result<Frac, Passed> {
+    fn difference(a: &Frac, b: &Frac) -> Result<Frac, Formula> {
         computed(a.sub(b))
     }
 
-    fn scaled(a: &Frac, k: &Frac) -> Result<Frac, Passed> {
+    fn scaled(a: &Frac, k: &Frac) -> Result<Frac, Formula> {
         computed(a.mul(k))
     }
 
@@ -77,29 +76,27 @@ impl Summed for Line {
 
     ghost multiplied = { product_of };
 
-    fn sum(a: &Frac, b: &Frac) -> Result<Frac, Passed> {
+    fn sum(a: &Frac, b: &Frac) -> Result<Frac, Formula> {
         computed(a.add(b))
     }
 
-    fn difference(a: &Frac, b: &Frac) -> Result<Frac, Passed> {
+    fn difference(a: &Frac, b: &Frac) -> Result<Frac, Formula> {
         computed(a.sub(b))
     }
 
-    fn scaled(a: &Frac, k: &Frac) -> Result<Frac, Passed> {
+    fn scaled(a: &Frac, k: &Frac) -> Result<Frac, Formula> {
         computed(a.mul(k))
     }
 
     ghost laws = { line_summed };
 }
 
-// The outcome of one operation on numbers.
-fn computed(number: Result<Frac, Overflow>) -> Result<Frac, Passed>
-    ensures computed { MatchResult number (λ x. result ≡ Ok x) (λ _. result ≡ Err (record { formula = F2 })) }
+// The result of one operation on numbers.
+fn computed(number: Result<Frac, Overflow>) -> Result<Frac, Formula>
+    ensures computed { MatchResult number (λ x. result ≡ Ok x) (λ _. result ≡ Err F2) }
 {
     match number {
         Ok(value) => Ok(value),
-        Err(_) => Err(Passed {
-            formula: Formula::F2,
-        }),
+        Err(_) => Err(Formula::F2),
     }
 }

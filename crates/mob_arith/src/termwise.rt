@@ -1,4 +1,4 @@
-//! Operations on two operands that go term by term.
+//! Operations on two operands that are computed from the limits of their slices.
 
 ghost use Rattle.std.specs.Prelude.{◌≡◌, true, ◌||◌, ◌++◌, List, IfOk};
 ghost use Rattle.std.specs.List.{flat_map};
@@ -18,23 +18,22 @@ ghost use Rattle.mob_arith.specs.Termwise.{entries_at_ends};
 use crate::summed::Summed;
 use mob_frac::Frac;
 use mob_lift::{lift, listed};
+use mob_list::fault::Fault;
 use mob_normal::normal;
-use mob_slice::{
-    Course, Formula, Line, Moving, OpFault, Operand, Passed, Piece, Slice, Steady, operator_fault,
-};
+use mob_slice::{Course, Formula, Line, Moving, Operand, Piece, Slice, Steady};
 use mob_sync::Pieces;
 use std::alloc::Global;
 
-/// An operation on the values of two courses that goes term by term: its result goes as a third
-/// course does.
+/// An operation on the values of two courses that is computed from their limits: its result is a
+/// third course.
 pub trait Termwise<A: Course, B: Course, D: Course> {
     ghost op: { A.Base → B.Base → D.Base };
 
-    /// What has to fit for it.
+    /// The parts of the formula of the result.
     ghost parts: { A.Base → B.Base → List Ratio };
 
-    /// The result. `Passed` names F2, exactly where a part does not fit.
-    fn apply(a: &A::Base, b: &B::Base) -> Result<D::Base, Passed>
+    /// The result. The fault is F2, exactly if a part does not fit.
+    fn apply(a: &A::Base, b: &B::Base) -> Result<D::Base, Formula>
         ensures result { IsComputed F2 (parts a.now b.now) (op a.now b.now) result };
 
     ghost law: { (c : A) (d : B) (lower upper : Ratio) → IsTermwise A.value_of A.start_of A.end_of B.value_of B.start_of B.end_of D.value_of D.can_make D.make op c d lower upper };
@@ -48,7 +47,7 @@ impl<C: Summed> Termwise<C, C, C> for Sum {
 
     ghost parts = { λ x y. sum_parts (C.number x) (C.number y) };
 
-    fn apply(a: &C::Base, b: &C::Base) -> Result<C::Base, Passed> {
+    fn apply(a: &C::Base, b: &C::Base) -> Result<C::Base, Formula> {
         C::sum(a, b)
     }
 
@@ -63,14 +62,14 @@ impl<C: Summed> Termwise<C, C, C> for Difference {
 
     ghost parts = { λ x y. difference_parts (C.number x) (C.number y) };
 
-    fn apply(a: &C::Base, b: &C::Base) -> Result<C::Base, Passed> {
+    fn apply(a: &C::Base, b: &C::Base) -> Result<C::Base, Formula> {
         C::difference(a, b)
     }
 
     ghost law = { C.Summed.laws.differences };
 }
 
-/// The multiple by a number that goes by steps.
+/// The product with a number that changes in steps.
 pub struct Multiple;
 
 impl<C: Summed> Termwise<C, Steady<Frac>, C> for Multiple {
@@ -78,14 +77,14 @@ impl<C: Summed> Termwise<C, Steady<Frac>, C> for Multiple {
 
     ghost parts = { λ x k. product_parts (C.number x) k };
 
-    fn apply(a: &C::Base, b: &Frac) -> Result<C::Base, Passed> {
+    fn apply(a: &C::Base, b: &Frac) -> Result<C::Base, Formula> {
         C::scaled(a, b)
     }
 
     ghost law = { C.Summed.laws.multiples };
 }
 
-/// The multiple by a number that goes by steps, which is the first operand.
+/// The product with a number that changes in steps, which is the first operand.
 pub struct Scaling;
 
 impl<C: Summed> Termwise<Steady<Frac>, C, C> for Scaling {
@@ -93,14 +92,14 @@ impl<C: Summed> Termwise<Steady<Frac>, C, C> for Scaling {
 
     ghost parts = { λ k x. product_parts (C.number x) k };
 
-    fn apply(a: &Frac, b: &C::Base) -> Result<C::Base, Passed> {
+    fn apply(a: &Frac, b: &C::Base) -> Result<C::Base, Formula> {
         C::scaled(b, a)
     }
 
     ghost law = { C.Summed.laws.turned };
 }
 
-/// The quotient of a number that changes evenly by one that goes by steps.
+/// The quotient of a number that changes linearly by one that changes in steps.
 pub struct Quotient;
 
 impl Termwise<Line, Steady<Frac>, Line> for Quotient {
@@ -108,15 +107,15 @@ impl Termwise<Line, Steady<Frac>, Line> for Quotient {
 
     ghost parts = { quotient_parts };
 
-    fn apply(a: &Frac, b: &Frac) -> Result<Frac, Passed> {
+    fn apply(a: &Frac, b: &Frac) -> Result<Frac, Formula> {
         divided(a, b)
     }
 
     ghost law = { line_divided };
 }
 
-// The quotient of two numbers. (The one by 0, which nobody asks for, is 0.)
-fn divided(a: &Frac, b: &Frac) -> Result<Frac, Passed>
+// The quotient of two numbers. (By 0, which no caller passes, it is 0.)
+fn divided(a: &Frac, b: &Frac) -> Result<Frac, Formula>
     ensures result { IsComputed F2 (quotient_parts a.now b.now) (quotient_of a.now b.now) result }
 {
     if b.is_zero() {
@@ -124,17 +123,15 @@ fn divided(a: &Frac, b: &Frac) -> Result<Frac, Passed>
     }
     match a.div(b) {
         Ok(value) => Ok(value),
-        Err(_) => Err(Passed {
-            formula: Formula::F2,
-        }),
+        Err(_) => Err(Formula::F2),
     }
 }
 
-// The course of the operation on two slices, by its results on their limits.
+// The course of the operation on two slices, from its results on their limits.
 fn course_on<A: Course + Drop, B: Course + Drop, D: Course + Drop, O: Termwise<A, B, D>>(
     left: &Slice<A>,
     right: &Slice<B>,
-) -> Result<D, Passed>
+) -> Result<D, Formula>
 where
     A::Base: Drop,
     B::Base: Drop,
@@ -150,7 +147,7 @@ where
 fn on_piece<A: Course + Drop, B: Course + Drop, D: Course + Drop, O: Termwise<A, B, D>>(
     alloc: Global,
     piece: &Piece<'_, A, B>,
-) -> Result<Vec<Slice<D>>, OpFault>
+) -> Result<Vec<Slice<D>>, Fault<Formula>>
 where
     A::Base: Drop,
     B::Base: Drop,
@@ -160,17 +157,17 @@ where
 {
     let left = match piece.left.on(alloc, &piece.span) {
         Ok(left) => left,
-        Err(fault) => return Err(operator_fault(fault)),
+        Err(fault) => return Err(fault),
     };
     let right = match piece.right.on(alloc, &piece.span) {
         Ok(right) => right,
-        Err(fault) => return Err(operator_fault(fault)),
+        Err(fault) => return Err(fault),
     };
     let course = match course_on::<A, B, D, O>(&left, &right) {
         Ok(course) => course,
-        Err(Passed { formula }) => return Err(OpFault::Passed { formula }),
+        Err(formula) => return Err(Fault::Because(formula)),
     };
-    // A call of a method tells the proof what holds of every span.
+    // A method call gives the proof the invariant of a span.
     let _ = piece.span.lower();
     listed(
         alloc,
@@ -186,7 +183,7 @@ fn lifted<A: Course + Drop, B: Course + Drop, D: Course + Drop, O: Termwise<A, B
     alloc: Global,
     a: Operand<'_, A>,
     b: Operand<'_, B>,
-) -> Result<Vec<Slice<D>>, OpFault>
+) -> Result<Vec<Slice<D>>, Fault<Formula>>
 where
     A::Base: Drop,
     B::Base: Drop,
@@ -198,23 +195,23 @@ where
     lift(
         alloc,
         Pieces::new(a, b),
-        |piece: &Piece<'_, A, B>| -> Result<Vec<Slice<D>>, OpFault>
+        |piece: &Piece<'_, A, B>| -> Result<Vec<Slice<D>>, Fault<Formula>>
             requires holds { HoldsPiece A.start_of A.end_of B.start_of B.end_of (piece_of piece.now) }
             ensures given { IsGiven D.value_of D.start_of D.end_of (λ v. v.items) (on_sides A.value_of B.value_of O.op (piece_of piece.now)) piece.now.span (entries_at_ends A.value_of A.parts_of B.value_of B.parts_of O.parts (piece_of piece.now)) result }
         { on_piece::<A, B, D, O>(alloc, piece) },
     )
 }
 
-/// The operation on two operands at each instant at which both have a value. None exactly where
-/// there is no such instant.
+/// The operation on two operands at each instant at which both have a value. `None` exactly if no
+/// such instant exists.
 ///
-/// `Passed` names the formula of the first entry that has a part that does not fit: on each piece
+/// The fault names the formula of the first entry that has a part that does not fit: on each piece
 /// that the operands share, F1 at its ends, then F2 there.
 pub fn by_terms<A: Course + Drop, B: Course + Drop, D: Course + Drop, O: Termwise<A, B, D>>(
     alloc: Global,
     a: Operand<'_, A>,
     b: Operand<'_, B>,
-) -> Result<Option<Moving<D>>, OpFault>
+) -> Result<Option<Moving<D>>, Fault<Formula>>
 where
     A::Base: Drop,
     B::Base: Drop,
@@ -224,8 +221,5 @@ where
     ensures first { IsJudged (flat_map (entries_at_ends A.value_of A.parts_of B.value_of B.parts_of O.parts) (pieces (operand_of a.entry) (operand_of b.entry))) result }
 {
     let slices = lifted::<A, B, D, O>(alloc, a, b)?;
-    match normal(alloc, slices) {
-        Ok(value) => Ok(value),
-        Err(_) => Err(OpFault::NoMemory),
-    }
+    Ok(normal(alloc, slices)?)
 }

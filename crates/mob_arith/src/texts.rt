@@ -1,4 +1,4 @@
-//! The joining of temporal texts.
+//! The concatenation of temporal texts.
 
 ghost use Rattle.std.specs.Prelude.{◌≡◌, true, ◌||◌, IfOk};
 ghost use Rattle.mob_slice.specs.Sides.{operand_of, has_slices, given_at};
@@ -11,8 +11,8 @@ use mob_list::text::Text;
 use mob_slice::{Moving, Operand, Steady};
 use std::alloc::{AllocError, Global};
 
-/// The first text followed by the second, at each instant at which both have a value. None exactly
-/// where there is no such instant.
+/// The first text followed by the second, at each instant at which both have a value. `None`
+/// exactly if no such instant exists. The only error is a failed allocation.
 pub fn join_text(
     alloc: Global,
     a: Operand<'_, Steady<Text>>,

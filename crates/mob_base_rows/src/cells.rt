@@ -6,7 +6,8 @@ ghost use Rattle.mob_ratio.specs.Order.{before};
 use crate::lines::{fraction, span};
 use mob_cells::{Cells, Ends, root};
 use mob_frac::Frac;
-use mob_slice::OpFault;
+use mob_list::fault::Fault;
+use mob_slice::Formula;
 use mob_span::Span;
 use std::alloc::Global;
 
@@ -81,29 +82,23 @@ fn functions_have_roots(rt: HostRuntime) {
 }
 
 // The cells of one function.
-fn of_one(alloc: Global, span: Span, first: Ends) -> Result<Cells, OpFault>
+fn of_one(alloc: Global, span: Span, first: Ends) -> Result<Cells, Fault<Formula>>
     requires long { before span.lower span.upper ≡ true }
     ensures one { IfOk result (λ c. c.functions ≡ first ∷ []) }
 {
     let mut functions = Vec::new(alloc);
-    if functions.push(first).is_err() {
-        return Err(OpFault::NoMemory);
-    }
+    functions.push(first)?;
     Cells::new(alloc, span, functions)
 }
 
 // The cells of two functions.
-fn of_two(alloc: Global, span: Span, first: Ends, next: Ends) -> Result<Cells, OpFault>
+fn of_two(alloc: Global, span: Span, first: Ends, next: Ends) -> Result<Cells, Fault<Formula>>
     requires long { before span.lower span.upper ≡ true }
     ensures two { IfOk result (λ c. c.functions ≡ first ∷ next ∷ []) }
 {
     let mut functions = Vec::new(alloc);
-    if functions.push(first).is_err() {
-        return Err(OpFault::NoMemory);
-    }
-    if functions.push(next).is_err() {
-        return Err(OpFault::NoMemory);
-    }
+    functions.push(first)?;
+    functions.push(next)?;
     Cells::new(alloc, span, functions)
 }
 

@@ -47,16 +47,16 @@ module _ {C B : Type 0} (value : C → Ratio → Ratio → Ratio → B) (lines :
     pub both_ends : (g h : Gaps) → g ≡ gaps (start l.course) (start r.course) → h ≡ gaps (end l.course) (end r.course) → record { at_lower = g; at_upper = h } ≡ end_gaps value gaps p
     both_ends g h e f = λ i. record { at_lower = (e ∙ low) i; at_upper = (f ∙ high) i }
 
--- ---- and so at each instant between
+-- ---- at each instant between them
 module _ {C B : Type 0} {steady copies : Bool} {value : C → Ratio → Ratio → Ratio → B} {start end : C → B} {can_make : B → B → Type 0} {make : B → B → C} {continues : C → C → Ratio → Ratio → Ratio → Bool} {parts : C → Ratio → Ratio → Ratio → List Ratio} (laws : IsCourse steady copies value start end can_make make continues parts)
     {relation : Rel → B → B → Bool} {gaps : B → B → Gaps} {ordered : Bool} (comparison : IsComparison steady ordered value start end relation gaps) where
-  -- a side has its values on the piece as a slice
+  -- a side, as a slice on the piece, has its values
   on_side : (q : SideOf C B) (r : SpanOf) → HoldsSide start end q r → has_instant r ≡ true → (s : Slice C) × HasValues value start end (side_at value q) r s
   on_side (Moves s) r h k = let v : Ratio → B = λ t. value s.course s.span.lower s.span.upper t in (record { span = r; course = make (v r.lower) (v r.upper) }, cut_is laws s r (v r.lower) (v r.upper) h.1 k refl refl)
   on_side (Stays b) r h k = (record { span = r; course = make b b }, level_is laws b b b r k refl refl)
 
-  -- the gaps of two courses on a piece go evenly from those at its lower end to those at the upper
-  -- one
+  -- the gaps of two courses on a piece change linearly from those at its lower end to those at the
+  -- upper one
   pub gaps_on : (p : PieceOf (SideOf C B) (SideOf C B)) → HoldsPiece start end start end p → has_instant p.span ≡ true → steady ≡ false → (t : Ratio) → has p.span t ≡ true → gaps (side_at value p.left t) (side_at value p.right t) ≡ gaps_at (piece_gaps value gaps p p.span.lower) (piece_gaps value gaps p p.span.upper) p.span.lower p.span.upper t
   gaps_on p held some e t i =
       let l = on_side p.left p.span held.0 some in

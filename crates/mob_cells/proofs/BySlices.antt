@@ -8,11 +8,12 @@ use Rattle.mob_slice.specs.Slices.{value_at, IsOrdered, IsSound, IsClearOf, OfHe
 use Rattle.mob_span.specs.Neighbours.{is_clear}
 use Rattle.mob_span.specs.Pieces.{piece_at, PiecesAreClear}
 use Rattle.mob_slice.specs.Cut.{slice_value}
-use Rattle.mob_slice.specs.Entries.{Entry, IsFirst, OnFormula}
+use Rattle.mob_list.specs.Faults.{OnCause}
+use Rattle.mob_slice.specs.Entries.{Entry, IsFirst}
 use Rattle.mob_slice.specs.declared.slice.Slice.{Slice}
 use Rattle.mob_slice.specs.declared.formula.Formula.{Formula}
-use Rattle.mob_slice.specs.declared.formula.OpFault.{OpFault}
-use Rattle.mob_slice.specs.declared.formula.OpFault.TheVariants.{Passed, NoMemory}
+use Rattle.mob_list.specs.declared.fault.Fault.{Fault}
+use Rattle.mob_list.specs.declared.fault.Fault.TheVariants.{Because, NoMemory}
 use Rattle.mob_lifted.specs.OnPiece.{AreKeptOn}
 use Rattle.mob_cells.specs.Restricted.{kept_value}
 use Rattle.mob_cells.specs.Restricted.{where_wanted, AreRestricted}
@@ -41,7 +42,7 @@ module _ {C B : Type 0} (value : C → Ratio → Ratio → Ratio → B) (start e
   found [] t o m = m
   found (s ∷ v) t o m = found_by s v t o (has s.span t) refl (found v t o) m
 
-  -- what is left of the rest makes, behind what is there, what is left of all
+  -- the slices already kept, and then those of the rest, are those of the whole
   abbrev pub IsLeft : List (Slice C) → List (Slice C) → List (Slice C) → Type 0
   IsLeft all rest out = (v : List (Slice C)) → AreGivenInOrder (λ v. v) GivesSlice rest v → AreGivenInOrder (λ v. v) GivesSlice all (out ++ v)
 
@@ -64,8 +65,8 @@ module _ {A : Type 0} (entries : A → List Entry) where
   pub fitting_step : (all rest later : List A) (x : A) → rest ≡ x ∷ later → IsFirst (entries x) None → IsFitting entries all rest → IsFitting entries all later
   fitting_step all rest later x e h m = record { pass = λ r k. m.pass r (subst (λ z. IsFirst (flat_map entries z) r) (sym e) (first_joined (entries x) (flat_map entries later) r h k)) }
 
-  pub fitting_fails : (all rest later : List A) (x : A) (f : OpFault) → rest ≡ x ∷ later → IsFitting entries all rest → OnFormula (λ g. IsFirst (entries x) (Some g)) f → OnFormula (λ g. IsFirst (flat_map entries all) (Some g)) f
-  fitting_fails all rest later x (Passed g) e m h = m.pass (Some g) (subst (λ z. IsFirst (flat_map entries z) (Some g)) (sym e) (first_front (entries x) (flat_map entries later) g h))
+  pub fitting_fails : (all rest later : List A) (x : A) (f : Fault Formula) → rest ≡ x ∷ later → IsFitting entries all rest → OnCause (λ g. IsFirst (entries x) (Some g)) f → OnCause (λ g. IsFirst (flat_map entries all) (Some g)) f
+  fitting_fails all rest later x (Because g) e m h = m.pass (Some g) (subst (λ z. IsFirst (flat_map entries z) (Some g)) (sym e) (first_front (entries x) (flat_map entries later) g h))
   fitting_fails all rest later x NoMemory e m h = tt
 
   pub fitting_end : (all rest : List A) → rest ≡ [] → IsFitting entries all rest → IsFirst (flat_map entries all) None

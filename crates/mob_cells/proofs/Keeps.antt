@@ -1,4 +1,4 @@
--- On a cell a line keeps its sign.
+-- A line keeps its sign on a cell.
 use Rattle.std.specs.Prelude.{◌≡◌, Bool, true, false, not, ◌&&◌, ◌||◌, refl}
 use Rattle.std.proofs.lemmas.Bool.{and_parts}
 use Rattle.std.proofs.Common.{arith}

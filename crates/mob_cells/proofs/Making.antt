@@ -1,4 +1,4 @@
--- Cells, a function at a time.
+-- Cells, one function at a time.
 use Rattle.std.specs.Prelude.{◌≡◌, ◌⊎◌, Bool, true, false, cond, ◌&&◌, ◌||◌, ℕ, zero, suc, List, [], ◌∷◌, ◌++◌, map, slice_get, length, get_or, ◌<◌, Option, Some, None, MatchOption, refl}
 use Rattle.std.proofs.lemmas.Bool.{and_parts}
 use Rattle.std.specs.List.{AllByRecursion}
@@ -55,7 +55,7 @@ new_apart : (r : Option Ratio) (cells : List SpanOf) → MatchOption r (Unit {0}
 new_apart None cells = tt
 new_apart (Some r) cells = split_self r cells
 
--- ---- where the cells are cut
+-- ---- the instants at which the cells are cut
 pub in_front : {A : Type 0} (x : A) (xs ys : List A) → IsIn x xs → IsIn x (xs ++ ys)
 in_front x [] ys h = absurd h
 in_front x (z ∷ xs) ys h = elim h [ inl e ↦ inl e | inr k ↦ inr (in_front x xs ys k) ]
@@ -201,7 +201,7 @@ split_step r rest later c out out' all e n m = rw (n, append_assoc out (split_on
 pub split_end : (r : Ratio) (rest out all : List SpanOf) → rest ≡ [] → out ++ split_at r rest ≡ all → out ≡ all
 split_end r rest out all e m = sym (append-nil out) ∙ (rw e at m)
 
--- ---- what callers see
+-- ---- definitions for callers
 inside_of : (s : SpanOf) (cells : List SpanOf) → AllByRecursion (λ c. is_cell_of s c ≡ true) cells → AllByRecursion (λ c. is_inside s c ≡ true) cells
 inside_of s cells h = each_on (λ c. is_cell_of s c ≡ true) (λ c. is_inside s c ≡ true) (λ c k. (and_parts (is_cell c) (is_inside s c) k).1) cells h
 

@@ -13,7 +13,7 @@ use Rattle.mob_slice.specs.Cut.{slice_value, slice_parts}
 use Rattle.mob_slice.specs.declared.slice.Slice.{Slice}
 
 module _ {C B : Type 0} {steady copies : Bool} {value : C → Ratio → Ratio → Ratio → B} {start end : C → B} {can_make : B → B → Type 0} {make : B → B → C} {continues : C → C → Ratio → Ratio → Ratio → Bool} {parts : C → Ratio → Ratio → Ratio → List Ratio} (laws : IsCourse steady copies value start end can_make make continues parts) where
-  -- the values at its own ends are given and not computed
+  -- the values at its own ends are stored, not computed
   pub own_ends : (s : Slice C) → at_ends (slice_parts parts s) s.span ≡ []
   own_ends s = rw (laws.lower_parts s.course s.span.lower s.span.upper, laws.upper_parts s.course s.span.lower s.span.upper) refl
 

@@ -1,4 +1,4 @@
--- What is kept on each cell, and on all of them.
+-- The parts kept on each cell, and on all of them.
 use Rattle.std.specs.Prelude.{◌≡◌, Bool, true, false, cond, not, ◌&&◌, ◌||◌, ℕ, List, [], ◌∷◌, ◌++◌, slice_get, Option, Some, None, MatchOption, Result, Ok, Err, MatchResult, refl}
 use Rattle.std.proofs.lemmas.Bool.{and_parts, and_from}
 use Rattle.std.specs.List.{AllByRecursion, flat_map}
@@ -18,11 +18,12 @@ use Rattle.mob_span.specs.Flags.{same_bool}
 use Rattle.mob_slice.specs.Pieces.{AreInside}
 use Rattle.mob_cells.specs.Cells.{IsIn}
 use Rattle.mob_slice.specs.Sides.{HasValues, at_ends}
-use Rattle.mob_slice.specs.Entries.{IsFirst, OnFormula, IsPartFault}
+use Rattle.mob_list.specs.Faults.{OnCause}
+use Rattle.mob_slice.specs.Entries.{IsFirst, IsPartFault}
 use Rattle.mob_slice.specs.declared.slice.Slice.{Slice}
 use Rattle.mob_slice.specs.declared.formula.Formula.TheVariants.{F1}
-use Rattle.mob_slice.specs.declared.formula.OpFault.{OpFault}
-use Rattle.mob_slice.specs.declared.formula.OpFault.TheVariants.{Passed, NoMemory}
+use Rattle.mob_list.specs.declared.fault.Fault.{Fault}
+use Rattle.mob_list.specs.declared.fault.Fault.TheVariants.{Because, NoMemory}
 use Rattle.mob_slice.proofs.Cuts.{all_both, all_first, all_second}
 use Rattle.mob_cells.specs.Cells.{AreCells, AreCutAt, IsCut, IsSomeEnd}
 use Rattle.mob_lifted.specs.OnPiece.{AreKeptOn}
@@ -30,6 +31,7 @@ use Rattle.mob_cells.specs.Restricted.{kept_value}
 use Rattle.mob_lifted.specs.Piecewise.{AreGivenInOrder, IsPiecewise}
 use Rattle.mob_lifted.proofs.Making.{is_lifted}
 use Rattle.mob_lifted.proofs.OnOnePiece.{one_kept}
+use Rattle.mob_slice.specs.declared.formula.Formula.{Formula}
 
 -- ---- one cell
 module _ {C B : Type 0} (value : C → Ratio → Ratio → Ratio → B) (start end : C → B) where
@@ -40,7 +42,7 @@ module _ {C B : Type 0} (value : C → Ratio → Ratio → Ratio → B) (start e
   pub kept_is : (f : Ratio → B) (c : SpanOf) (part : Slice C) (want : Bool) (keeps : List Ordering → Bool) (signs : Ratio → List Ordering) (os : List Ordering) (k : Bool) → HasValues value start end f c part → ((t : Ratio) → has c t ≡ true → os ≡ signs t) → k ≡ same_bool want (keeps os) → AreKeptOn value start end (λ t. kept_value want (keeps (signs t)) (f t)) c (cond k (part ∷ []) [])
   kept_is f c part want keeps signs os k h n e = kept_by f (λ t. kept_value want (keeps (signs t)) (f t)) c part k h (λ t i. ap (λ z. cond (same_bool want (keeps z)) (Some (f t)) None) (sym (n t i)) ∙ ap (λ b. cond b (Some (f t)) None) (sym e))
 
-  pub cell_is : {V : Type 0} (items : V → List (Slice C)) (r : Result V OpFault) (f : Ratio → B) (c : SpanOf) (part : Slice C) (want : Bool) (keeps : List Ordering → Bool) (signs : Ratio → List Ordering) (os : List Ordering) (k : Bool) (fits : List Ratio) → HasValues value start end f c part → AllFit fits → ((t : Ratio) → has c t ≡ true → os ≡ signs t) → k ≡ same_bool want (keeps os) → MatchResult r (λ v. items v ≡ cond k (part ∷ []) []) (λ e. e ≡ NoMemory) → MatchResult r (λ v. AreKeptOn value start end (λ t. kept_value want (keeps (signs t)) (f t)) c (items v) × AllFit fits) (IsPartFault F1 fits)
+  pub cell_is : {V : Type 0} (items : V → List (Slice C)) (r : Result V (Fault Formula)) (f : Ratio → B) (c : SpanOf) (part : Slice C) (want : Bool) (keeps : List Ordering → Bool) (signs : Ratio → List Ordering) (os : List Ordering) (k : Bool) (fits : List Ratio) → HasValues value start end f c part → AllFit fits → ((t : Ratio) → has c t ≡ true → os ≡ signs t) → k ≡ same_bool want (keeps os) → MatchResult r (λ v. items v ≡ cond k (part ∷ []) []) (λ e. e ≡ NoMemory) → MatchResult r (λ v. AreKeptOn value start end (λ t. kept_value want (keeps (signs t)) (f t)) c (items v) × AllFit fits) (IsPartFault F1 fits)
   cell_is items (Ok v) f c part want keeps signs os k fits h a n e m = (rw m (kept_is f c part want keeps signs os k h n e), a)
   cell_is items (Err fault) f c part want keeps signs os k fits h a n e m = rw m tt
 
@@ -88,7 +90,7 @@ module _ {D B : Type 0} (value : D → Ratio → Ratio → Ratio → B) (start e
       let l : IsPiecewise value start end (λ c. c) (λ v. v) Gives cells slices = is_lifted value start end (λ c. c) (λ v. v) Gives (λ p v k g. (g.ordered, g.inside)) cells slices h a.clear in
       record { ordered = l.ordered; inside = kept_inside s cells slices h a.inside; values = λ t i. found cells t (value_at value slices t) (a.covers t ∙ i) (l.at_each t) }
 
-  -- what is kept of the rest makes, behind what is there, what is kept of all
+  -- the parts already kept, and then those of the rest, are those of the whole
   abbrev pub IsMade : List SpanOf → List SpanOf → List (Slice D) → Type 0
   IsMade all rest out = (v : List (Slice D)) → AreGivenInOrder (λ v. v) Gives rest v → AreGivenInOrder (λ v. v) Gives all (out ++ v)
 
@@ -118,7 +120,7 @@ module _ (parts : Ratio → List Ratio) where
   cut_fits : (s : SpanOf) (rs : List Ratio) (t : Ratio) → AllFit (parts s.lower) → AllFit (parts s.upper) → AllByRecursion (λ t. AllFit (parts t)) rs → IsCut s rs t → AllFit (parts t)
   cut_fits s rs t a b h i = elim i [ inl e ↦ subst (λ z. AllFit (parts z)) (sym e) a | inr k ↦ elim k [ inl e ↦ subst (λ z. AllFit (parts z)) (sym e) b | inr j ↦ in_fits t rs h j ] ]
 
-  -- where the values at the ends of the piece and at the roots fit, so do those at the ends of each
+  -- if the values at the ends of the piece and at the roots fit, so do those at the ends of each
   -- cell
   cells_fit : (s : SpanOf) (rs : List Ratio) (cells : List SpanOf) → EndsFit s → AllByRecursion (λ t. AllFit (parts t)) rs → AllByRecursion (λ c. IsCut s rs c.lower × IsCut s rs c.upper) cells → AllByRecursion EndsFit cells
   cells_fit s rs [] a h k = tt
@@ -150,6 +152,6 @@ module _ (parts : Ratio → List Ratio) where
   pub fits_end : (all rest : List SpanOf) → rest ≡ [] → (AllByRecursion EndsFit rest → AllByRecursion EndsFit all) → AllByRecursion EndsFit all
   fits_end all rest e m = m (rw e tt)
 
-pub kept_fault : (parts : List Ratio) (all : List Ratio) (f : OpFault) → IsPartFault F1 parts f → ((¬ AllFit parts) → ¬ AllFit all) → OnFormula (λ g. IsFirst (record { formula = F1; parts = all } ∷ []) (Some g)) f
-kept_fault parts all (Passed f) h g = inr (g h.1, ap Some h.0)
+pub kept_fault : (parts : List Ratio) (all : List Ratio) (f : Fault Formula) → IsPartFault F1 parts f → ((¬ AllFit parts) → ¬ AllFit all) → OnCause (λ g. IsFirst (record { formula = F1; parts = all } ∷ []) (Some g)) f
+kept_fault parts all (Because f) h g = inr (g h.1, ap Some h.0)
 kept_fault parts all NoMemory h g = tt

@@ -1,4 +1,4 @@
--- The sign on a cell, as it is looked up.
+-- The sign on a cell, in the form that the search uses.
 use Rattle.std.specs.Prelude.{◌≡◌, Bool, true, false, cond, ◌↔◌, IsTrue, Some, None, refl}
 use Rattle.std.proofs.Common.{sym, ◌∙◌, true≢false, Equal}
 use Rattle.mob_ratio.specs.Ratio.{Ratio}

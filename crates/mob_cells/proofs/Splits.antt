@@ -42,7 +42,7 @@ cut_some c r h k = (rw h refl, rw (before-self r) refl, rw k refl)
 cut_clear : (c : SpanOf) (r : Ratio) → (is_clear (until c r) (instant_span r) ≡ true) × (is_clear (instant_span r) (beyond c r) ≡ true)
 cut_clear c r = (rw (before-self r) refl, rw (before-self r) refl)
 
--- what is clear of c is clear of its parts
+-- a span clear of c is clear of the parts of c
 on_head : (p c : SpanOf) (r : Ratio) (rest : List SpanOf) → is_clear p c ≡ true → (b : Bool) → OfHead (λ c d. is_clear c d ≡ true) p (cond b (until c r ∷ instant_span r ∷ beyond c r ∷ []) (c ∷ []) ++ rest)
 on_head p c r rest h true = h
 on_head p c r rest h false = h
@@ -90,7 +90,7 @@ split_has r (c ∷ cells) t = has_by c r (split_at r cells) t (before c.lower r 
 pub split_are : (s : SpanOf) (r : Ratio) (cells : List SpanOf) → AreSplit s cells → AreSplit s (split_at r cells)
 split_are s r cells h = record { clear = split_clear r cells h.clear; are = split_cells s r cells h.are; covers = λ t. split_has r cells t ∙ h.covers t }
 
--- a cut at r keeps q out
+-- a cut at r keeps q outside the interiors
 cut_out : (q r : Ratio) (c : SpanOf) → before c.lower r ≡ true → before r c.upper ≡ true → NoneWithin q c → NoneWithin q (until c r) × NoneWithin q (instant_span r) × NoneWithin q (beyond c r)
 cut_out q r c h k n = (
   grind (arith, h, k, n, before-trans q r c.upper),

@@ -14,9 +14,9 @@ use Rattle.mob_cells.specs.declared.linear.Ends.{Ends}
 use Rattle.mob_cells.specs.declared.signs.Placed.{Placed}
 use Rattle.mob_cells.specs.Roots.{function_at, IsLevel, root_of, roots}
 
--- ---- what callers see
+-- ---- definitions for callers
 
--- x stands in a list
+-- x is in a list
 abbrev pub IsIn : {A : Type 0} → A → List A → Type 0
 IsIn x [] = ⊥
 IsIn x (y ∷ ys) = (x ≡ y) ⊎ IsIn x ys
@@ -57,21 +57,21 @@ sign_number Less = negsuc 0
 sign_number Equal = pos 0
 sign_number Greater = pos 1
 
--- ---- how they are made
+-- ---- how cells are made
 
 -- the span of one instant
 abbrev pub instant_span : Ratio → SpanOf
 instant_span t = record { lower = t; upper = t; lower_inc = true; upper_inc = true }
 
--- what lies strictly between the ends
+-- the part strictly between the ends
 abbrev pub inner : SpanOf → SpanOf
 inner s = record { lower = s.lower; upper = s.upper; lower_inc = false; upper_inc = false }
 
--- what of s is before r
+-- the part of s before r
 abbrev pub until : SpanOf → Ratio → SpanOf
 until s r = record { lower = s.lower; upper = r; lower_inc = s.lower_inc; upper_inc = false }
 
--- what of s is after r
+-- the part of s after r
 abbrev pub beyond : SpanOf → Ratio → SpanOf
 beyond s r = record { lower = r; upper = s.upper; lower_inc = false; upper_inc = s.upper_inc }
 
@@ -83,11 +83,11 @@ abbrev pub split_at : Ratio → List SpanOf → List SpanOf
 split_at r [] = []
 split_at r (c ∷ cells) = split_one r c ++ split_at r cells
 
--- the ends of s that it has, and what is between
+-- the ends of s that it includes, and the part between
 abbrev pub start_cells : SpanOf → List SpanOf
 start_cells s = cond (before s.lower s.upper) (cond s.lower_inc (instant_span s.lower ∷ []) [] ++ inner s ∷ cond s.upper_inc (instant_span s.upper ∷ []) []) (s ∷ [])
 
--- one instant, or what lies strictly between two
+-- one instant, or the open interval between two
 abbrev pub is_cell : SpanOf → Bool
 is_cell c = (before c.lower c.upper && not c.lower_inc && not c.upper_inc) || (up_to c.lower c.upper && up_to c.upper c.lower && c.lower_inc && c.upper_inc)
 
@@ -101,7 +101,7 @@ pub record AreSplit (s : SpanOf) (cells : List SpanOf) : Type 0 where
   pub are : AllByRecursion (λ c. is_cell_of s c ≡ true) cells
   pub covers : (t : Ratio) → in_some cells t ≡ has s t
 
--- q does not lie strictly inside c
+-- q is not strictly inside c
 abbrev pub NoneWithin : Ratio → SpanOf → Type 0
 NoneWithin q c = (before c.lower q && before q c.upper) ≡ false
 
@@ -117,7 +117,7 @@ IsApart cells p = MatchOption p.root (Unit {0}) (λ r. AllByRecursion (NoneWithi
 abbrev pub functions_of : List Placed → List Ends
 functions_of placed = map (λ p. p.ends) placed
 
--- what holds of the cells and the functions with their roots
+-- the facts on the cells and on the functions with their roots
 pub record AreSigned (s : SpanOf) (placed : List Placed) (cells : List SpanOf) : Type 0 where
   pub are : AreSplit s cells
   pub good : AllByRecursion (IsPlaced s) placed

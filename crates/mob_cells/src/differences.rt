@@ -1,3 +1,4 @@
+//! Gaps of two courses at the ends of a piece.
 ghost use Rattle.std.specs.Prelude.{◌≡◌, false, IfOk, MatchResult};
 ghost use Rattle.mob_frac.specs.Formula.{AllFit};
 ghost use Rattle.mob_slice.specs.Entries.{IsDecided};
@@ -5,7 +6,8 @@ ghost use Rattle.mob_slice.specs.Sides.{HasValues, HoldsPiece, HoldsSide, at_end
 ghost use Rattle.mob_slice.specs.declared.formula.Formula.TheVariants.{F1};
 ghost use Rattle.mob_cells.specs.Gaps.{end_gaps, entries_of_ends};
 
-use mob_slice::{Compared, Course, Gaps, LookFault, Passed, Piece, Side, Slice};
+use mob_list::fault::Fault;
+use mob_slice::{Compared, Course, Formula, Gaps, Piece, Side, Slice};
 use mob_span::Span;
 use std::alloc::Global;
 
@@ -18,34 +20,34 @@ pub struct EndGaps {
     pub at_upper: Gaps,
 }
 
-// A side of a course that is not steady, on the piece: a copy of such a value asks for no memory.
+// A side of a course that is not steady, on the piece. Copying such a value does not allocate.
 fn on_piece_of<C: Course>(
     alloc: Global,
     side: &Side<'_, C>,
     span: &Span,
-) -> Result<Slice<C>, Passed>
+) -> Result<Slice<C>, Formula>
 where
     C::Base: Drop,
     requires moves { C.STEADY ≡ false }
     requires holds { HoldsSide C.start_of C.end_of (side_of side.now) span.now }
-    ensures slice { MatchResult result (λ s. HasValues C.value_of C.start_of C.end_of (side_at C.value_of (side_of side.now)) span.now s × AllFit (at_ends (side_parts C.parts_of (side_of side.now)) span.now)) (λ e. (e.formula ≡ F1) × (¬ AllFit (at_ends (side_parts C.parts_of (side_of side.now)) span.now))) }
+    ensures slice { MatchResult result (λ s. HasValues C.value_of C.start_of C.end_of (side_at C.value_of (side_of side.now)) span.now s × AllFit (at_ends (side_parts C.parts_of (side_of side.now)) span.now)) (λ e. (e ≡ F1) × (¬ AllFit (at_ends (side_parts C.parts_of (side_of side.now)) span.now))) }
 {
     match side.on(alloc, span) {
         Ok(slice) => Ok(slice),
-        Err(LookFault::Passed { formula }) => Err(Passed { formula }),
-        Err(LookFault::NoMemory) => unreachable!(),
+        Err(Fault::Because(formula)) => Err(formula),
+        Err(Fault::NoMemory) => unreachable!(),
     }
 }
 
-/// The gaps of two operands at the ends of a piece, for courses that are not steady. It takes no
-/// memory.
+/// The gaps of two operands at the ends of a piece, for courses that are not steady. It does not
+/// allocate.
 ///
-/// `Passed` names the formula of the first entry that does not fit: F1 at the ends of the piece,
+/// The fault names the formula of the first entry that does not fit: F1 at the ends of the piece,
 /// then F2, the gaps there.
 pub fn gaps_at_ends<C: Compared + Drop>(
     alloc: Global,
     piece: &Piece<'_, C, C>,
-) -> Result<EndGaps, Passed>
+) -> Result<EndGaps, Formula>
 where
     C::Base: Drop,
     requires moves { C.STEADY ≡ false }

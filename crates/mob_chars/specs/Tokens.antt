@@ -3,8 +3,8 @@ use Rattle.std.specs.Prelude.{◌≡◌, ◌+◌, ◌-◌, ℕ, zero, suc, List,
 use Rattle.mob_chars.specs.declared.token.TokenKind.{TokenKind}
 use Rattle.mob_chars.specs.declared.token.TokenKind.TheVariants.{Word, Number, Str, Sign, End}
 use Rattle.mob_chars.specs.declared.token.Token.{Token}
-use Rattle.mob_chars.specs.declared.token.LexFault.{LexFault}
-use Rattle.mob_chars.specs.declared.token.LexFault.TheVariants.{Lexical, NoMemory}
+use Rattle.mob_list.specs.declared.fault.Fault.{Fault}
+use Rattle.mob_list.specs.declared.fault.Fault.TheVariants.{Because, NoMemory}
 use Rattle.mob_chars.specs.Scan.{is_letter, is_quote, begins_number, word_length, number_length, string_length, gap_length}
 use Rattle.mob_chars.specs.Signs.{sign_length}
 
@@ -53,6 +53,6 @@ abbrev pub tokens_of : List ℕ → Result (List Token) ℕ
 tokens_of text = tokens_from text 0 0
 
 -- why a text has no tokens: there is none at that place, or memory was wanted
-abbrev pub IsLexFault : List ℕ → LexFault → Type 0
-IsLexFault text (Lexical place) = tokens_of text ≡ Err place
+abbrev pub IsLexFault : List ℕ → Fault ℕ → Type 0
+IsLexFault text (Because place) = tokens_of text ≡ Err place
 IsLexFault text NoMemory = Unit {0}

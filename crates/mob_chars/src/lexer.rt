@@ -6,6 +6,7 @@ use crate::scan::{
     begins_number, gap_length, is_letter, number_length, quoted_length, sign_length, word_length,
 };
 use crate::token::{LexFault, Token, TokenKind};
+use mob_list::fault::Fault;
 use mob_list::items::Items;
 use std::alloc::Global;
 
@@ -30,8 +31,8 @@ fn token_length(text: &[u8]) -> Option<(TokenKind, usize)>
 /// The tokens of a text, in order; the last is its end. Only blanks and comments stand between
 /// them.
 ///
-/// Answers `Lexical` exactly where a character begins no token or a string is not closed, with the
-/// first such place.
+/// The fault is a place exactly where a character begins no token or a string is not closed, with
+/// the first such place.
 pub fn tokens(alloc: Global, text: &str) -> Result<Items<Token>, LexFault>
     requires short { length text.now < 2 ^ 32 }
     ensures all { IfOk result (λ ts. tokens_of text.now ≡ Ok ts) }
@@ -47,7 +48,7 @@ pub fn tokens(alloc: Global, text: &str) -> Result<Items<Token>, LexFault>
             at += gap;
         } else {
             let Some((kind, size)) = token_length(rest) else {
-                return Err(LexFault::Lexical { place: at as u32 });
+                return Err(Fault::Because(at as u32));
             };
             found.push(Token {
                 kind,

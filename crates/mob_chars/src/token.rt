@@ -1,6 +1,6 @@
 //! What a token is, and why a text has none.
 
-use std::alloc::{AllocError, AllocFailed};
+use mob_list::fault::Fault;
 
 /// What a token is.
 #[derive(Clone, Copy, Debug, PartialEq, Eq)]
@@ -28,37 +28,6 @@ pub struct Token {
     pub to: u32,
 }
 
-/// Why a text has no tokens.
-#[derive(Clone, Copy, Debug, PartialEq, Eq)]
-pub enum LexFault {
-    /// A character begins no token, or a string is not closed: the place of that character, or of
-    /// the opening quote.
-    Lexical {
-        /// The place, in bytes from 0.
-        place: u32,
-    },
-    /// There was no memory for the tokens.
-    NoMemory,
-}
-
-impl From<AllocError> for LexFault {
-    ghost use Rattle.std.specs.Prelude.{◌≡◌};
-    ghost use Rattle.mob_chars.specs.declared.token.LexFault.TheVariants.{NoMemory};
-
-    ghost from_gives = { λ _ e. e ≡ NoMemory };
-
-    fn from(_: AllocError) -> LexFault {
-        LexFault::NoMemory
-    }
-}
-
-impl<T: Drop> From<AllocFailed<T>> for LexFault {
-    ghost use Rattle.std.specs.Prelude.{◌≡◌};
-    ghost use Rattle.mob_chars.specs.declared.token.LexFault.TheVariants.{NoMemory};
-
-    ghost from_gives = { λ _ e. e ≡ NoMemory };
-
-    fn from(_: AllocFailed<T>) -> LexFault {
-        LexFault::NoMemory
-    }
-}
+/// Why a text has no tokens: the place, in bytes from 0, of a character that begins no token, or of
+/// the opening quote of a string that is not closed; or out of memory.
+pub type LexFault = Fault<u32>;

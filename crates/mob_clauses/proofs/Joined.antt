@@ -7,7 +7,7 @@ use Rattle.mob_ast.specs.Trees.{tree_of, from_of}
 use Rattle.mob_typed.specs.declared.typed.ConstText.{ConstText}
 use Rattle.mob_typed.specs.Trees.{TypedTree}
 use Rattle.mob_scope.specs.declared.scope.ScopeTable.{ScopeTable}
-use Rattle.mob_scope.specs.declared.fault.Fault.{Fault}
+use Rattle.mob_list.specs.declared.fault.Fault.{Fault}
 use Rattle.mob_scope.specs.Answers.{Mistake, StopsTyping}
 use Rattle.mob_expression.specs.Steps.{one_more}
 use Rattle.mob_scope.specs.Scopes.{ScopeParts, source_of, sources_of}
@@ -43,7 +43,7 @@ module _ (s : ScopeParts) (k n : ℕ) (fs : List FromTable) (i : ℕ) (done : Li
     next = so_far ∙ ap (λ ys. behind done (joins_from s k n (map from_of ys)) cs) (drop_more fs i f within ∙ ap (λ y. y ∷ drop (i + 1) fs) (sym at))
         ∙ ap (λ j. behind done (one_more (condition (seen_by_on s j n) (option_map tree_of f.on)) (joins_from s j (n + 1) (map from_of (drop (i + 1) fs)))) cs) (sym begins)
 
-    pub join_fails : (e : Fault) → StopsTyping e (own cs) → StopsTyping e whole
+    pub join_fails : (e : Fault Mistake) → StopsTyping e (own cs) → StopsTyping e whole
     join_fails e h = fails_along e (behind done (one_more own others) cs) whole next (fails_behind own others cs e done h)
 
     pub join_made : (x : Option TypedTree) (ds : List ConstText) (after : List (Option TypedTree)) → own cs ≡ Ok (x, ds) → after ≡ done ++ x ∷ [] → whole ≡ behind after others ds

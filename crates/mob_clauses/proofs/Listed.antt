@@ -6,7 +6,7 @@ use Rattle.mob_ast.specs.declared.statement.Item.{Item}
 use Rattle.mob_ast.specs.Trees.{tree_of, item_of}
 use Rattle.mob_typed.specs.Trees.{TypedTree}
 use Rattle.mob_typed.specs.declared.typed.ConstText.{ConstText}
-use Rattle.mob_scope.specs.declared.fault.Fault.{Fault}
+use Rattle.mob_list.specs.declared.fault.Fault.{Fault}
 use Rattle.mob_scope.specs.Answers.{Mistake, ◌>>=◌, StopsTyping}
 use Rattle.mob_scope.specs.Scopes.{ScopeParts}
 use Rattle.mob_expression.proofs.Wrongs.{fails_along, fails_bind}
@@ -23,7 +23,7 @@ module _ (s : ScopeParts) (g : Option (List ColumnNumbers)) (items : List Item) 
     next : whole ≡ (with_item s g o (item_of x) cs >>= others)
     next = so_far ∙ ap (λ ys. with_items s g o (map item_of ys) cs) (drop_more items i x within ∙ ap (λ y. y ∷ drop (i + 1) items) (sym at))
 
-    pub item_fails : (e : Fault) → StopsTyping e (with_item s g o (item_of x) cs) → StopsTyping e whole
+    pub item_fails : (e : Fault Mistake) → StopsTyping e (with_item s g o (item_of x) cs) → StopsTyping e whole
     item_fails e h = fails_along e (with_item s g o (item_of x) cs >>= others) whole next (fails_bind e (with_item s g o (item_of x) cs) others h)
 
     pub item_made : (p : OutputLists) (ds : List ConstText) → with_item s g o (item_of x) cs ≡ Ok (p, ds) → whole ≡ with_items s g p (map item_of (drop (i + 1) items)) ds
@@ -41,7 +41,7 @@ module _ (s : ScopeParts) (groups : List Expr) (i : ℕ) (done : List TypedTree)
     next_group : whole ≡ (typed_group s (tree_of x) >>= later)
     next_group = so_far ∙ ap (λ ys. with_groups s done (map tree_of ys)) (drop_more groups i x within ∙ ap (λ y. y ∷ drop (i + 1) groups) (sym at))
 
-    pub group_fails : (e : Fault) → StopsTyping e (typed_group s (tree_of x)) → StopsTyping e whole
+    pub group_fails : (e : Fault Mistake) → StopsTyping e (typed_group s (tree_of x)) → StopsTyping e whole
     group_fails e h = fails_along e (typed_group s (tree_of x) >>= later) whole next_group (fails_bind e (typed_group s (tree_of x)) later h)
 
     pub group_made : (g : TypedTree) (after : List TypedTree) → typed_group s (tree_of x) ≡ Ok g → after ≡ done ++ g ∷ [] → whole ≡ with_groups s after (map tree_of (drop (i + 1) groups))

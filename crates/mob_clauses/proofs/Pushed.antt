@@ -7,8 +7,8 @@ use Rattle.mob_ast.specs.declared.types.SqlType.{SqlType}
 use Rattle.mob_typed.specs.Statements.{ColumnList}
 use Rattle.mob_typed.specs.Trees.{typed, none}
 use Rattle.mob_typed.specs.Selects.{Output}
-use Rattle.mob_scope.specs.declared.fault.Fault.{Fault}
-use Rattle.mob_scope.specs.declared.fault.Fault.TheVariants.{Wrong as Refused, NoMemory}
+use Rattle.mob_list.specs.declared.fault.Fault.{Fault}
+use Rattle.mob_list.specs.declared.fault.Fault.TheVariants.{Because, NoMemory}
 use Rattle.mob_scope.specs.Answers.{Mistake, StopsTyping}
 use Rattle.mob_expression.proofs.Lists.{drop_at}
 use Rattle.mob_clauses.specs.Outputs.{columns_of_table}
@@ -35,8 +35,8 @@ pub columns_done : (from k : ℕ) (columns : ColumnList) (p : ℕ) (before : Lis
 columns_done from k columns p before last = ap (λ cs. before ++ columns_of_table from k cs p) (drop_all k columns last) ∙ append-nil before
 
 -- what stops where there is nothing to refuse is a failed allocation
-pub still_free : {X Y : Type 0} (e : Fault) (x : X) (y : Y) → StopsTyping e (good x) → StopsTyping e (good y)
-still_free (Refused kind place) x y h = absurd (cc)
+pub still_free : {X Y : Type 0} (e : Fault Mistake) (x : X) (y : Y) → StopsTyping e (good x) → StopsTyping e (good y)
+still_free (Because wrong) x y h = absurd (cc)
 still_free NoMemory x y h = tt
 
 -- one item more of a list

@@ -14,9 +14,10 @@ use crate::keys::{key_items, limit_of, typed_groups, typed_keys};
 use crate::outputs::{Outputs, outputs_of};
 use crate::tables::scope_tables;
 use mob_ast::{Expr, SelectTree};
+use mob_list::fault::Fault;
 use mob_list::items::Items;
 use mob_list::text::Text;
-use mob_scope::fault::Fault;
+use mob_scope::fault::Mistake;
 use mob_scope::scope::Scope;
 use mob_typed::{ConstText, TExpr, TypedSelect};
 use std::alloc::Global;
@@ -58,7 +59,7 @@ fn typed_conditions(
     scope: &Scope<'_>,
     consts: &mut Items<ConstText>,
     select: &SelectTree,
-) -> Result<Conditions, Fault>
+) -> Result<Conditions, Fault<Mistake>>
     ensures typed { TypesTo conditions_seen result consts.new (typed_conditions (scope_of scope.now) (select_of select.now) consts.old) }
 {
     let joins = typed_joins(alloc, scope, consts, select.from.as_slice())?;
@@ -74,7 +75,7 @@ fn typed_arrangement(
     consts: &mut Items<ConstText>,
     outputs: &Outputs<'_>,
     select: &SelectTree,
-) -> Result<Arrangement, Fault>
+) -> Result<Arrangement, Fault<Mistake>>
     ensures typed { TypesTo arrangement_seen result consts.new (typed_arrangement (scope_of scope.now) grouping.now (outputs_seen outputs.now) (select_of select.now) consts.old) }
 {
     let groups = typed_groups(alloc, scope, select.groups.as_slice())?;
@@ -143,7 +144,7 @@ pub fn typed_clauses(
     scope: &Scope<'_>,
     consts: &mut Items<ConstText>,
     select: &SelectTree,
-) -> Result<TypedSelect, Fault>
+) -> Result<TypedSelect, Fault<Mistake>>
     ensures typed { TypesTo select_seen result consts.new (typed_clauses (scope_of scope.now) (select_of select.now) consts.old) }
 {
     let grouped = is_grouped(select);
@@ -162,7 +163,7 @@ pub fn clauses_to_go(
     scope: &Scope<'_>,
     consts: &mut Items<ConstText>,
     cond: &Option<Expr>,
-) -> Result<TypedSelect, Fault>
+) -> Result<TypedSelect, Fault<Mistake>>
     ensures typed { (table : Word) → TypesTo select_seen result consts.new (typed_clauses (scope_of scope.now) (rows_to_go table (option_map tree_of cond.now)) consts.old) }
 {
     let mut joins = Items::new(alloc);

@@ -11,8 +11,9 @@ ghost use Rattle.mob_clauses.specs.Conditions.{tree_place, is_bool, condition, s
 use mob_ast::{Expr, FromTable, Kind, SqlType};
 use mob_expression::expression::type_expr;
 use mob_expression::operators::type_of;
+use mob_list::fault::Fault;
 use mob_list::items::Items;
-use mob_scope::fault::Fault;
+use mob_scope::fault::Mistake;
 use mob_scope::scope::{Scope, number};
 use mob_typed::{ConstText, TExpr};
 use std::alloc::Global;
@@ -31,7 +32,7 @@ pub fn condition(
     scope: &Scope<'_>,
     consts: &mut Items<ConstText>,
     cond: &Option<Expr>,
-) -> Result<Option<TExpr>, Fault>
+) -> Result<Option<TExpr>, Fault<Mistake>>
     ensures is_bool { TypesTo (option_map typed_of) result consts.new (condition (scope_of scope.now) (option_map tree_of cond.now) consts.old) }
 {
     let Some(cond) = cond else {
@@ -39,10 +40,10 @@ pub fn condition(
     };
     let value = type_expr(alloc, scope, consts, cond)?;
     if !is_bool(type_of(&value)) {
-        return Err(Fault::Wrong {
+        return Err(Fault::Because(Mistake {
             kind: Kind::NoSuchOperator,
             place: tree_place(cond),
-        });
+        }));
     }
     Ok(Some(value))
 }
@@ -66,7 +67,11 @@ fn source_start(start: usize, place: usize, on: &Option<Expr>) -> usize
 // What the ON of this table of FROM sees: the tables of its source up to the table itself. A number
 // past 32 bits is answered as out of memory, and so is a table that FROM does not have.
 #[tactic(auto, using(crate::proofs::Joined::part_seen))]
-fn seen_by_on<'a>(scope: &Scope<'a>, start: usize, place: usize) -> Result<Scope<'a>, Fault>
+fn seen_by_on<'a>(
+    scope: &Scope<'a>,
+    start: usize,
+    place: usize,
+) -> Result<Scope<'a>, Fault<Mistake>>
     ensures part { AnswersAs scope_of result (Ok (seen_by_on (scope_of scope.now) start place)) }
 {
     let Some(end) = place.checked_add(1) else {
@@ -94,7 +99,7 @@ fn typed_on(
     start: usize,
     place: usize,
     on: &Option<Expr>,
-) -> Result<Option<TExpr>, Fault>
+) -> Result<Option<TExpr>, Fault<Mistake>>
     ensures typed { TypesTo (option_map typed_of) result consts.new (condition (seen_by_on (scope_of scope.now) start place) (option_map tree_of on.now) consts.old) }
 {
     let seen = seen_by_on(scope, start, place)?;
@@ -108,7 +113,7 @@ fn joins_behind(
     consts: &mut Items<ConstText>,
     first: Items<Option<TExpr>>,
     others: &[FromTable],
-) -> Result<Items<Option<TExpr>>, Fault>
+) -> Result<Items<Option<TExpr>>, Fault<Mistake>>
     ensures in_order { TypesTo (map (option_map typed_of)) result consts.new (behind (map (option_map typed_of) first) (joins_from (scope_of scope.now) 0 1 (map from_of others.now)) consts.old) }
 {
     let mut joins = first;
@@ -132,7 +137,7 @@ pub fn typed_joins(
     scope: &Scope<'_>,
     consts: &mut Items<ConstText>,
     from: &[FromTable],
-) -> Result<Items<Option<TExpr>>, Fault>
+) -> Result<Items<Option<TExpr>>, Fault<Mistake>>
     ensures in_order { TypesTo (map (option_map typed_of)) result consts.new (typed_joins (scope_of scope.now) (map from_of from.now) consts.old) }
 {
     let mut joins = Items::new(alloc);

@@ -9,11 +9,12 @@ ghost use Rattle.mob_typed.specs.Selects.{output_of};
 ghost use Rattle.mob_clauses.specs.Outputs.{is_aggregate_call, is_aggregate_item, is_grouped, group_column, grouping, is_same_column, is_column, is_ungrouped, any_ungrouped};
 
 use mob_ast::{Expr, Item, Node, SelectTree};
+use mob_list::fault::Fault;
 use mob_list::items::Items;
 use mob_list::text::Text;
 use mob_operators::{Op, is_aggregate};
 use mob_scope::columns::column_named;
-use mob_scope::fault::Fault;
+use mob_scope::fault::Mistake;
 use mob_scope::scope::Scope;
 use mob_typed::TExpr;
 use std::alloc::Global;
@@ -66,7 +67,7 @@ fn push_group_column(
     scope: &Scope<'_>,
     columns: &mut Items<(u32, u32)>,
     e: &Expr,
-) -> Result<(), Fault>
+) -> Result<(), Fault<Mistake>>
     ensures last { AnswersAs (λ _. columns.new) result (Ok (columns.old ++ group_column (scope_of scope.now) (tree_of e.now))) }
 {
     match &e.node {
@@ -75,7 +76,7 @@ fn push_group_column(
                 columns.push((found.from, found.column))?;
                 Ok(())
             }
-            Err(Fault::Wrong { .. }) => Ok(()),
+            Err(Fault::Because(_)) => Ok(()),
             Err(Fault::NoMemory) => Err(Fault::NoMemory),
         },
         _ => Ok(()),
@@ -87,7 +88,7 @@ fn group_columns(
     alloc: Global,
     scope: &Scope<'_>,
     groups: &[Expr],
-) -> Result<Items<(u32, u32)>, Fault>
+) -> Result<Items<(u32, u32)>, Fault<Mistake>>
     ensures found { AnswersAs (λ v. v) result (Ok (flat_map (group_column (scope_of scope.now)) (map tree_of groups.now))) }
 {
     let mut columns = Items::new(alloc);
@@ -104,7 +105,7 @@ pub fn grouping(
     grouped: bool,
     scope: &Scope<'_>,
     groups: &[Expr],
-) -> Result<Option<Items<(u32, u32)>>, Fault>
+) -> Result<Option<Items<(u32, u32)>>, Fault<Mistake>>
     ensures columns { AnswersAs (λ v. v) result (Ok (grouping grouped (scope_of scope.now) (map tree_of groups.now))) }
 {
     if !grouped {

@@ -18,10 +18,11 @@ use mob_expression::constants::column_leaf;
 use mob_expression::expression::type_expr;
 use mob_expression::operators::type_of;
 use mob_expression::words::has_digits_alone;
+use mob_list::fault::Fault;
 use mob_list::items::Items;
 use mob_list::text::Text;
 use mob_scope::columns::column_named;
-use mob_scope::fault::{Fault, unless};
+use mob_scope::fault::{Mistake, unless};
 use mob_scope::scope::{Found, Scope, number};
 use mob_typed::{Agg, ConstText, TExpr, copy_of};
 use std::alloc::Global;
@@ -36,7 +37,7 @@ fn is_key(ty: SqlType) -> bool
 }
 
 // A column that is found as one of GROUP BY, which is of a type of keys.
-fn group_of(alloc: Global, place: u32, found: Found) -> Result<TExpr, Fault>
+fn group_of(alloc: Global, place: u32, found: Found) -> Result<TExpr, Fault<Mistake>>
     ensures judged { AnswersAs typed_of result (group_of place found) }
 {
     unless(!is_key(found.ty), Kind::NoSuchOperator, place)?;
@@ -45,7 +46,7 @@ fn group_of(alloc: Global, place: u32, found: Found) -> Result<TExpr, Fault>
 
 // A column of GROUP BY.
 #[tactic(auto, using(mob_expression::proofs::TreeFacts::tree_is))]
-fn typed_group(alloc: Global, scope: &Scope<'_>, e: &Expr) -> Result<TExpr, Fault>
+fn typed_group(alloc: Global, scope: &Scope<'_>, e: &Expr) -> Result<TExpr, Fault<Mistake>>
     ensures typed { AnswersAs typed_of result (typed_group (scope_of scope.now) (tree_of e.now)) }
 {
     match &e.node {
@@ -53,10 +54,10 @@ fn typed_group(alloc: Global, scope: &Scope<'_>, e: &Expr) -> Result<TExpr, Faul
             let found = column_named(scope, table, column)?;
             group_of(alloc, e.place, found)
         }
-        _ => Err(Fault::Wrong {
+        _ => Err(Fault::Because(Mistake {
             kind: Kind::NoSuchOperator,
             place: e.place,
-        }),
+        })),
     }
 }
 
@@ -65,7 +66,7 @@ pub fn typed_groups(
     alloc: Global,
     scope: &Scope<'_>,
     groups: &[Expr],
-) -> Result<Items<TExpr>, Fault>
+) -> Result<Items<TExpr>, Fault<Mistake>>
     ensures in_order { AnswersAs (map typed_of) result (with_groups (scope_of scope.now) [] (map tree_of groups.now)) }
 {
     let mut done = Items::new(alloc);
@@ -138,7 +139,7 @@ fn aliased<'a>(outputs: &'a Outputs<'_>, e: &Expr) -> Option<(usize, (&'a TExpr,
 }
 
 // The number of the column of the answer that a key means.
-fn key_item(outputs: &Outputs<'_>, key: &Key) -> Result<Option<u32>, Fault>
+fn key_item(outputs: &Outputs<'_>, key: &Key) -> Result<Option<u32>, Fault<Mistake>>
     ensures by_alias { AnswersAs (λ n. n) result (Ok (key_item (outputs_seen outputs.now) (key_of key.now))) }
 {
     match aliased(outputs, &key.value) {
@@ -152,7 +153,7 @@ pub fn key_items(
     alloc: Global,
     outputs: &Outputs<'_>,
     keys: &[Key],
-) -> Result<Items<Option<u32>>, Fault>
+) -> Result<Items<Option<u32>>, Fault<Mistake>>
     ensures in_order { AnswersAs (λ v. v) result (Ok (map (key_item (outputs_seen outputs.now)) (map key_of keys.now))) }
 {
     let mut items = Items::new(alloc);
@@ -170,21 +171,21 @@ fn plain_key(
     groups: &Option<Items<(u32, u32)>>,
     consts: &mut Items<ConstText>,
     e: &Expr,
-) -> Result<TExpr, Fault>
+) -> Result<TExpr, Fault<Mistake>>
     ensures judged { TypesTo typed_of result consts.new (plain_key (scope_of scope.now) groups.now (tree_of e.now) consts.old) }
 {
     let value = type_expr(alloc, scope, consts, e)?;
     if !is_key(type_of(&value)) {
-        return Err(Fault::Wrong {
+        return Err(Fault::Because(Mistake {
             kind: Kind::NoSuchOperator,
             place: tree_place(e),
-        });
+        }));
     }
     if is_ungrouped(groups, &value) {
-        return Err(Fault::Wrong {
+        return Err(Fault::Because(Mistake {
             kind: Kind::NoSuchOperator,
             place: tree_place(e),
-        });
+        }));
     }
     Ok(value)
 }
@@ -197,7 +198,7 @@ fn key_value(
     consts: &mut Items<ConstText>,
     outputs: &Outputs<'_>,
     e: &Expr,
-) -> Result<TExpr, Fault>
+) -> Result<TExpr, Fault<Mistake>>
     ensures judged { TypesTo typed_of result consts.new (key_value (scope_of scope.now) groups.now (tree_of e.now) (aliased (outputs_seen outputs.now) (tree_of e.now)) consts.old) }
 {
     let Some((_, (value, ty))) = aliased(outputs, e) else {
@@ -214,7 +215,7 @@ fn typed_key(
     consts: &mut Items<ConstText>,
     outputs: &Outputs<'_>,
     key: &Key,
-) -> Result<(TExpr, bool), Fault>
+) -> Result<(TExpr, bool), Fault<Mistake>>
     ensures judged { TypesTo key_seen result consts.new (typed_key (scope_of scope.now) groups.now (outputs_seen outputs.now) (key_of key.now) consts.old) }
 {
     let value = key_value(alloc, scope, groups, consts, outputs, &key.value)?;
@@ -229,7 +230,7 @@ pub fn typed_keys(
     consts: &mut Items<ConstText>,
     outputs: &Outputs<'_>,
     keys: &[Key],
-) -> Result<Items<(TExpr, bool)>, Fault>
+) -> Result<Items<(TExpr, bool)>, Fault<Mistake>>
     ensures in_order { TypesTo (map key_seen) result consts.new (typed_keys (scope_of scope.now) groups.now (outputs_seen outputs.now) (map key_of keys.now) consts.old) }
 {
     let mut done = Items::new(alloc);
@@ -258,7 +259,7 @@ fn limit_value(text: &str) -> Option<u64>
 }
 
 /// The number of LIMIT. A text that is not 1 to 18 digits is refused.
-pub fn limit_of(limit: &Option<Word>) -> Result<Option<u64>, Fault>
+pub fn limit_of(limit: &Option<Word>) -> Result<Option<u64>, Fault<Mistake>>
     ensures number { AnswersAs (λ n. n) result (limit_of limit.now) }
 {
     let Some(word) = limit else {
@@ -266,9 +267,9 @@ pub fn limit_of(limit: &Option<Word>) -> Result<Option<u64>, Fault>
     };
     match limit_value(word.text.as_str()) {
         Some(number) => Ok(Some(number)),
-        None => Err(Fault::Wrong {
+        None => Err(Fault::Because(Mistake {
             kind: Kind::BadCount,
             place: word.place,
-        }),
+        })),
     }
 }

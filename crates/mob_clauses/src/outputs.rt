@@ -14,11 +14,12 @@ use mob_ast::{Expr, Item, Kind, Node, SqlType, Word};
 use mob_expression::constants::leaf;
 use mob_expression::expression::{type_expr, type_operands};
 use mob_expression::operators::type_of;
+use mob_list::fault::Fault;
 use mob_list::items::Items;
 use mob_list::text::Text;
 use mob_operators::{AggKind, Op, aggregate_row, is_aggregate};
 use mob_scope::column_list::Columns;
-use mob_scope::fault::Fault;
+use mob_scope::fault::Mistake;
 use mob_scope::scope::{Scope, ScopeTable, number};
 use mob_typed::{Agg, ConstText, TExpr};
 use std::alloc::{AllocError, Global};
@@ -43,7 +44,7 @@ fn push_column(
     ty: SqlType,
     name: &str,
     place: u32,
-) -> Result<(), Fault>
+) -> Result<(), Fault<Mistake>>
     ensures last { AnswersAs (λ _. map output_of columns.new.items) result (Ok (map output_of columns.old.items ++ (typed op ty place none, name.now) ∷ [])) }
 {
     let name = Text::from_str(alloc, name)?;
@@ -58,7 +59,7 @@ fn push_columns(
     from: u32,
     source: &Columns,
     place: u32,
-) -> Result<(), Fault>
+) -> Result<(), Fault<Mistake>>
     ensures behind { AnswersAs (λ _. map output_of columns.new.items) result (Ok (map output_of columns.old.items ++ columns_of_table from 0 source.now place)) }
 {
     for index in 0..source.len() {
@@ -75,7 +76,7 @@ fn push_all(
     columns: &mut Vec<(TExpr, Text)>,
     from: &[ScopeTable<'_>],
     place: u32,
-) -> Result<(), Fault>
+) -> Result<(), Fault<Mistake>>
     ensures behind { AnswersAs (λ _. map output_of columns.new.items) result (Ok (map output_of columns.old.items ++ all_outputs 0 (sources_of from.now) place)) }
 {
     for (index, source) in from.iter().enumerate() {
@@ -145,20 +146,24 @@ fn push_alias<'a>(
 }
 
 // The expression of an aggregate and the aggregate over it.
-fn aggregated(name: &str, place: u32, args: Vec<TExpr>) -> Result<(TExpr, Option<Agg>), Fault>
+fn aggregated(
+    name: &str,
+    place: u32,
+    args: Vec<TExpr>,
+) -> Result<(TExpr, Option<Agg>), Fault<Mistake>>
     ensures judged { AnswersAs value_seen result (aggregated name.now place (map typed_of args.items)) }
 {
     let Some(value) = lone_operand(args) else {
-        return Err(Fault::Wrong {
+        return Err(Fault::Because(Mistake {
             kind: Kind::NoSuchOperator,
             place,
-        });
+        }));
     };
     let Some((kind, ty)) = aggregate_row(name, type_of(&value)) else {
-        return Err(Fault::Wrong {
+        return Err(Fault::Because(Mistake {
             kind: Kind::NoSuchOperator,
             place,
-        });
+        }));
     };
     Ok((value, Some(Agg { kind, ty, place })))
 }
@@ -180,7 +185,7 @@ fn aggregate_value(
     name: &str,
     place: u32,
     operands: &[Expr],
-) -> Result<(TExpr, Option<Agg>), Fault>
+) -> Result<(TExpr, Option<Agg>), Fault<Mistake>>
     ensures typed { TypesTo value_seen result consts.new (aggregate_value (scope_of scope.now) name.now place (trees_of operands.now) consts.old) }
 {
     let args = type_operands(alloc, scope, consts, operands)?;
@@ -194,15 +199,15 @@ fn plain_value(
     groups: &Option<Items<(u32, u32)>>,
     consts: &mut Items<ConstText>,
     e: &Expr,
-) -> Result<(TExpr, Option<Agg>), Fault>
+) -> Result<(TExpr, Option<Agg>), Fault<Mistake>>
     ensures typed { TypesTo value_seen result consts.new (plain_value (scope_of scope.now) groups.now (tree_of e.now) consts.old) }
 {
     let value = type_expr(alloc, scope, consts, e)?;
     if is_ungrouped(groups, &value) {
-        return Err(Fault::Wrong {
+        return Err(Fault::Because(Mistake {
             kind: Kind::NoSuchOperator,
             place: tree_place(e),
-        });
+        }));
     }
     Ok((value, None))
 }
@@ -215,7 +220,7 @@ fn item_value(
     groups: &Option<Items<(u32, u32)>>,
     consts: &mut Items<ConstText>,
     e: &Expr,
-) -> Result<(TExpr, Option<Agg>), Fault>
+) -> Result<(TExpr, Option<Agg>), Fault<Mistake>>
     ensures typed { TypesTo value_seen result consts.new (item_value (scope_of scope.now) groups.now (tree_of e.now) consts.old) }
 {
     match &e.node {
@@ -236,7 +241,7 @@ fn push_output<'a>(
     value: (TExpr, Option<Agg>),
     name: Text,
     alias: &'a Option<Word>,
-) -> Result<(), Fault>
+) -> Result<(), Fault<Mistake>>
     ensures last { AnswersAs (λ _. outputs_seen outputs.new) result (Ok (with_output (outputs_seen outputs.old) (value_seen value) name alias.now)) }
 {
     let position = outputs.columns.len();
@@ -256,7 +261,7 @@ fn push_one<'a>(
     outputs: &mut Outputs<'a>,
     value: &Expr,
     alias: &'a Option<Word>,
-) -> Result<(), Fault>
+) -> Result<(), Fault<Mistake>>
     ensures typed { TypesTo (λ _. outputs_seen outputs.new) result consts.new (with_item (scope_of scope.now) groups.now (outputs_seen outputs.old) (one (tree_of value.now) alias.now) consts.old) }
 {
     let name = output_name(alloc, alias, value, outputs.columns.len())?;
@@ -270,7 +275,7 @@ fn push_count<'a>(
     outputs: &mut Outputs<'a>,
     place: u32,
     alias: &'a Option<Word>,
-) -> Result<(), Fault>
+) -> Result<(), Fault<Mistake>>
     ensures last { AnswersAs (λ _. outputs_seen outputs.new) result (Ok (with_output (outputs_seen outputs.old) (counting place) (count_name alias.now (length (outputs_seen outputs.old).columns)) alias.now)) }
 {
     let name = count_name(alloc, alias, outputs.columns.len())?;
@@ -309,7 +314,7 @@ fn all_outputs(
     alloc: Global,
     from: &[ScopeTable<'_>],
     place: u32,
-) -> Result<Vec<(TExpr, Text)>, Fault>
+) -> Result<Vec<(TExpr, Text)>, Fault<Mistake>>
     ensures all { AnswersAs (λ v. map output_of v.items) result (Ok (all_outputs 0 (sources_of from.now) place)) }
 {
     let mut columns = Vec::new(alloc);
@@ -324,21 +329,21 @@ fn push_every(
     groups: &Option<Items<(u32, u32)>>,
     outputs: &mut Outputs<'_>,
     place: u32,
-) -> Result<(), Fault>
+) -> Result<(), Fault<Mistake>>
     ensures behind { AnswersAs (λ _. outputs_seen outputs.new) result (with_every (scope_of scope.now) groups.now (outputs_seen outputs.old) place) }
 {
     if scope.from.is_empty() {
-        return Err(Fault::Wrong {
+        return Err(Fault::Because(Mistake {
             kind: Kind::UnknownName,
             place,
-        });
+        }));
     }
     let more = all_outputs(alloc, scope.from, place)?;
     if any_ungrouped(groups, &more) {
-        return Err(Fault::Wrong {
+        return Err(Fault::Because(Mistake {
             kind: Kind::NoSuchOperator,
             place,
-        });
+        }));
     }
     push_no_aggs(&mut outputs.aggs, &more)?;
     push_more(&mut outputs.columns, more)?;
@@ -353,7 +358,7 @@ fn push_item<'a>(
     consts: &mut Items<ConstText>,
     outputs: &mut Outputs<'a>,
     item: &'a Item,
-) -> Result<(), Fault>
+) -> Result<(), Fault<Mistake>>
     ensures typed { TypesTo (λ _. outputs_seen outputs.new) result consts.new (with_item (scope_of scope.now) groups.now (outputs_seen outputs.old) (item_of item.now) consts.old) }
 {
     match item {
@@ -372,7 +377,7 @@ pub fn outputs_of<'a>(
     groups: &Option<Items<(u32, u32)>>,
     consts: &mut Items<ConstText>,
     items: &'a [Item],
-) -> Result<Outputs<'a>, Fault>
+) -> Result<Outputs<'a>, Fault<Mistake>>
     ensures listed { TypesTo outputs_seen result consts.new (with_items (scope_of scope.now) groups.now no_outputs (map item_of items.now) consts.old) }
 {
     let mut outputs = Outputs {

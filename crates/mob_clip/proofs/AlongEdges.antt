@@ -1,4 +1,4 @@
--- A moving point and edges: what is known of it by their signs is whether it is inside.
+-- A moving point and edges: its tally by their signs says whether it is inside.
 use Rattle.std.specs.Prelude.{◌≡◌, Bool, true, List, [], ◌∷◌, map, None, Result, Ok, Err, MatchResult, refl}
 use Rattle.std.specs.List.{AllByRecursion}
 use Rattle.std.proofs.Common.{ap, sym, ◌∙◌}
@@ -16,8 +16,8 @@ use Rattle.mob_slice.specs.Lines.{plane_value_of}
 use Rattle.mob_slice.specs.Entries.{Entry, IsFirst}
 use Rattle.mob_slice.specs.declared.slice.Slice.{Slice}
 use Rattle.mob_slice.specs.declared.line.PlaneLine.{PlaneLine}
-use Rattle.mob_slice.specs.declared.formula.OpFault.{OpFault}
-use Rattle.mob_slice.specs.declared.formula.OpFault.TheVariants.{NoMemory}
+use Rattle.mob_list.specs.declared.fault.Fault.{Fault}
+use Rattle.mob_list.specs.declared.fault.Fault.TheVariants.{NoMemory}
 use Rattle.mob_lifted.specs.OnPiece.{AreKeptOn, IsKeptBy}
 use Rattle.mob_cells.specs.Restricted.{kept_value}
 use Rattle.mob_lifted.proofs.OnOnePiece.{kept_same}
@@ -28,6 +28,7 @@ use Rattle.mob_clip.specs.Pieces.{is_known_in}
 use Rattle.mob_clip.specs.Polygons.{is_inside_edges}
 use Rattle.mob_clip.proofs.Knowing.{known_inside}
 use Rattle.mob_clip.proofs.Judging.{are_placed, level_ways, ways, placed_same}
+use Rattle.mob_slice.specs.declared.formula.Formula.{Formula}
 
 from_sign : (x0 x1 a l u t : Ratio) → sign_of (line_at (x0 -ℚ a) (x1 -ℚ a) l u t) ≡ sign_of (line_at x0 x1 l u t -ℚ a)
 from_sign x0 x1 a l u t = ap sign_of (sym (line_at-from x0 x1 a l u t))
@@ -57,8 +58,8 @@ inside_along s es ps t k e h = ap is_known_in (h ∙ ap (λ z. tally_all (map (�
 pub placed_are : (s : Slice PlaneLine) (es : List (Point × Point)) (ps : List EdgePlaced) → IsSound (λ c. c.from) (λ c. c.to) s → ps ≡ map (placed_edge s) es → AllByRecursion (IsPlacedEdge s.span) ps
 placed_are s es ps sound e = are_placed s.span (ways es s sound) ps (e ∙ sym (placed_same es s sound)) (level_ways es s sound (ways es s sound) refl)
 
--- what is kept by what is known is kept by membership
-pub edges_kept : {V : Type 0} (items : V → List (Slice PlaneLine)) (r : Result V OpFault) (want : Bool) (s : Slice PlaneLine) (es : List (Point × Point)) (ps : List EdgePlaced) (known : Ratio → Tally) (entries : List Entry) → ps ≡ map (placed_edge s) es → ((t : Ratio) → has s.span t ≡ true → known t ≡ tally_all (map (λ g. edge_tally (signs_on s.span t g)) ps)) → IsFirst entries None
+-- the parts kept by the tally are those kept by membership
+pub edges_kept : {V : Type 0} (items : V → List (Slice PlaneLine)) (r : Result V (Fault Formula)) (want : Bool) (s : Slice PlaneLine) (es : List (Point × Point)) (ps : List EdgePlaced) (known : Ratio → Tally) (entries : List Entry) → ps ≡ map (placed_edge s) es → ((t : Ratio) → has s.span t ≡ true → known t ≡ tally_all (map (λ g. edge_tally (signs_on s.span t g)) ps)) → IsFirst entries None
     → MatchResult r (λ v. AreKeptOn plane_value_of (λ c. c.from) (λ c. c.to) (λ t. kept_value want (is_known_in (known t)) (slice_value plane_value_of s t)) s.span (items v)) (λ e. e ≡ NoMemory)
     → IsKeptBy plane_value_of (λ c. c.from) (λ c. c.to) items (λ t. kept_value want (is_inside_edges es (slice_value plane_value_of s t)) (slice_value plane_value_of s t)) s.span entries r
 edges_kept items (Ok v) want s es ps known entries e k f h = (kept_same plane_value_of (λ c. c.from) (λ c. c.to) (λ t. kept_value want (is_known_in (known t)) (slice_value plane_value_of s t)) (λ t. kept_value want (is_inside_edges es (slice_value plane_value_of s t)) (slice_value plane_value_of s t)) s.span (items v) (λ t i. ap (λ b. kept_value want b (slice_value plane_value_of s t)) (inside_along s es ps t (known t) e (k t i))) h, f)

@@ -1,4 +1,4 @@
--- The sign of a linear function at an instant, by the instant at which it changes.
+-- The sign of a linear function at an instant, from the instant at which it changes.
 use Rattle.std.specs.Prelude.{◌≡◌, Bool, true, false, cond, not, ◌&&◌, ◌||◌, Some, None, refl}
 use Rattle.std.proofs.Common.{arith, ap, sym, ◌∙◌, true≢false}
 use Rattle.std.specs.declared.cmp.Ordering.{Ordering}
@@ -38,7 +38,7 @@ some_change s f r t l e h = by (before t r) refl (before r t) refl ∙ sym (at_i
     by false p true q = second_side s f r t t e p q
     by false p false q = no_side s f r t t e p q
 
--- ---- none
+-- ---- no root
 not_opposite : (s : SpanOf) (f : Ends) → root_of s f ≡ None → (b : Bool) → opposite f.at_lower f.at_upper ≡ b → b ≡ false
 not_opposite s f e true o = absurd (some_none (root_at f.at_lower f.at_upper s.lower s.upper) (sym (ap (λ b. cond b (Some (root_at f.at_lower f.at_upper s.lower s.upper)) None) o) ∙ e))
   where
@@ -59,7 +59,7 @@ zero_sign q = cases (before q nil) (before nil q)
     cases false true = refl
     cases false false = refl
 
--- two signs that are not opposite, neither of which is Equal, are one
+-- two signs that are not opposite, neither of which is Equal, are equal
 signs_by : (a b c d : Bool) → ((a && d) || (b && c)) ≡ false → is_eq (cond a Less (cond b Greater Equal)) ≡ false → is_eq (cond c Less (cond d Greater Equal)) ≡ false → cond a Less (cond b Greater Equal) ≡ cond c Less (cond d Greater Equal)
 signs_by false false c d h p q = absurd (true≢false p)
 signs_by a b false false h p q = absurd (true≢false q)
@@ -91,8 +91,8 @@ three x false true c = refl
 three x false false true = refl
 three x false false false = refl
 
--- the change by the signs at the ends, where tl says that t is behind the lower end and tu that it
--- is in front of the upper one
+-- the change by the signs at the ends, if tl says that t is after the lower end and tu that it is
+-- before the upper one
 ends_by : (o u : Ordering) (tl tu : Bool) → (tl ≡ false → tu ≡ false → o ≡ u) → (is_eq o ≡ false → is_eq u ≡ false → o ≡ u) → (s : SpanOf) (t : Ratio) → before t s.lower ≡ false → before s.lower t ≡ tl → before t s.upper ≡ tu → before s.upper t ≡ false
     → changing_sign (ends_change s o u) t ≡ cond (not tl) o (cond (not tu) u (cond (is_eq o) u o))
 ends_by Equal Equal tl tu short one s t a b c d = three Equal (not tl) (not tu) true
@@ -121,7 +121,7 @@ ends_by Greater Greater tl tu short one s t a b c d = three Greater (not tl) (no
 ends_by Less Greater tl tu short one s t a b c d = absurd (less_greater (one refl refl))
 ends_by Greater Less tl tu short one s t a b c d = absurd (less_greater (sym (one refl refl)))
 
--- where t is at both ends, the span is one instant
+-- if t is at both ends, the span is one instant
 short_span : (s : SpanOf) (t : Ratio) → before t s.lower ≡ false → before s.lower t ≡ false → before t s.upper ≡ false → before s.upper t ≡ false → before s.lower s.upper ≡ false
 short_span s t a b c d = let e : t ≡ s.lower = before-neither t s.lower a b in let k : t ≡ s.upper = before-neither t s.upper c d in rw (← e, ← k) (before-self t)
 

@@ -1,4 +1,4 @@
--- When something is left of a moving point inside a polygon.
+-- When part of a moving point is inside a polygon.
 use Rattle.std.specs.Prelude.{◌≡◌, Bool, true, false, List, [], ◌∷◌, Option, Some, None, refl}
 use Rattle.std.proofs.Common.{ap, sym, ◌∙◌}
 use Rattle.mob_ratio.specs.Ratio.{Ratio}
@@ -23,7 +23,7 @@ wanted_meets m (Some x) y e = (x, refl, by (m x) e)
     by true e = refl
     by false e = none_some y e
 
--- the first slice of what is left has an instant
+-- the first slice of that part has an instant
 some_value : (w : List (Slice PlaneLine)) → IsNormal (λ c. c.from) (λ c. c.to) plane_continued w → (t : Ratio) × (y : Point) × (value_at plane_value_of w t ≡ Some y)
 some_value [] h = absurd (h.some refl)
 some_value (s ∷ w) h = let i = some_instant s.span h.chained.0.some in (i.0, plane_value_of s.course s.span.lower s.span.upper i.0, rw i.1 refl)

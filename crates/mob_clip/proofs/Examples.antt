@@ -14,7 +14,7 @@ use Rattle.mob_clip.specs.declared.steps.Change.{Change}
 use Rattle.mob_clip.specs.Steps.{step_at}
 use Rattle.mob_clip.specs.Boxes.{entries_of_box}
 
--- a value that is true at 2 alone
+-- a value that is true only at 2
 abbrev touch : List (Change Bool)
 touch = record { at = whole (pos 2); there = true; behind = false } ∷ []
 
@@ -44,7 +44,7 @@ box = record {
   time = Some (record { lower = whole (pos 0); upper = whole (pos 2); lower_inc = true; upper_inc = false });
 }
 
--- at 1 it comes to the west side, and at 2 the time of the box is over
+-- at 1 it reaches the west side, and at 2 the time of the box is over
 at_side : in_box box (whole (pos 1)) (record { x = whole (pos 1); y = whole (pos 0) }) ≡ true
 unfolding over gcd gcd_steps in_lowest_terms whole before same
 at_side = refl
@@ -53,7 +53,7 @@ over_then : in_box box (whole (pos 2)) (record { x = whole (pos 2); y = whole (p
 unfolding over gcd gcd_steps in_lowest_terms whole before same
 over_then = refl
 
--- F1 at 2, where the time of the box ends; the differences to the four sides at 0 and at 2; the
+-- F1 at 2, the end of the time of the box; the differences to the four sides at 0 and at 2; the
 -- root 1 of the first of them; F1 at 1
 trip_entries : entries_of_box box trip
     ≡ record { formula = F1; parts = whole (pos 2) ∷ whole (pos 4) ∷ over (pos 1) 2 ∷ whole (pos 4) ∷ whole (pos 2) ∷ whole (pos 2) ∷ [] }

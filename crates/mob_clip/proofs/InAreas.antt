@@ -17,12 +17,13 @@ use Rattle.mob_slice.specs.declared.formula.Formula.TheVariants.{F2}
 use Rattle.mob_slice.specs.Sides.{at_ends, HasValues}
 use Rattle.mob_slice.specs.Cut.{slice_value}
 use Rattle.mob_slice.specs.Lines.{plane_value_of, plane_parts_of}
-use Rattle.mob_slice.specs.Entries.{IsFirst, OnFormula, IsPartFault}
+use Rattle.mob_list.specs.Faults.{OnCause}
+use Rattle.mob_slice.specs.Entries.{IsFirst, IsPartFault}
 use Rattle.mob_slice.specs.declared.slice.Slice.{Slice}
 use Rattle.mob_plane.specs.declared.point.Point.{Point}
 use Rattle.mob_slice.specs.declared.line.PlaneLine.{PlaneLine}
-use Rattle.mob_slice.specs.declared.formula.OpFault.{OpFault}
-use Rattle.mob_slice.specs.declared.formula.OpFault.TheVariants.{Passed, NoMemory}
+use Rattle.mob_list.specs.declared.fault.Fault.{Fault}
+use Rattle.mob_list.specs.declared.fault.Fault.TheVariants.{Because, NoMemory}
 use Rattle.mob_cells.specs.declared.linear.Ends.{Ends}
 use Rattle.mob_cells.specs.Roots.{IsLevel}
 use Rattle.mob_cells.specs.Cells.{signs_of}
@@ -33,6 +34,7 @@ use Rattle.mob_lifted.proofs.OnOnePiece.{kept_behind}
 use Rattle.mob_stbox.specs.declared.area.Area.{Area}
 use Rattle.mob_stbox.specs.Areas.{in_area}
 use Rattle.mob_clip.specs.Areas.{in_area_by, area_parts, area_ends, entries_of_area}
+use Rattle.mob_slice.specs.declared.formula.Formula.{Formula}
 
 lt_sign : (x y : Ratio) → is_lt (sign_of (x -ℚ y)) ≡ before x y
 lt_sign x y = ap is_lt (sym (sign-diff x y)) ∙ lt_cond (before x y) (before y x)
@@ -62,14 +64,14 @@ module _ (a : Area) (s part : Slice PlaneLine) (h : HasValues plane_value_of (λ
   same_ends : area_ends a part.course.from part.course.to ≡ area_ends a (slice_value plane_value_of s part.span.lower) (slice_value plane_value_of s part.span.upper)
   same_ends = ap (λ p. area_ends a p part.course.to) h.from ∙ ap (λ q. area_ends a (slice_value plane_value_of s part.span.lower) q) h.to
 
-  pub sides_fail : (f : OpFault) → IsPartFault F2 (area_parts a part.course.from ++ area_parts a part.course.to) f → OnFormula (λ g. IsFirst (entries_of_area a s part.span) (Some g)) f
-  sides_fail (Passed f) k = inr (subst (λ z. ¬ AllFit z) same_parts k.1, ap Some k.0)
+  pub sides_fail : (f : Fault Formula) → IsPartFault F2 (area_parts a part.course.from ++ area_parts a part.course.to) f → OnCause (λ g. IsFirst (entries_of_area a s part.span) (Some g)) f
+  sides_fail (Because f) k = inr (subst (λ z. ¬ AllFit z) same_parts k.1, ap Some k.0)
   sides_fail NoMemory k = tt
 
   pub level_sides : (fs : List Ends) → fs ≡ area_ends a part.course.from part.course.to → AllByRecursion (IsLevel part.span) fs
   level_sides fs e = rw e (sides_level a part.span part.course.from part.course.to h.sound.level)
 
-  pub area_kept : {V : Type 0} (items : V → List (Slice PlaneLine)) (want : Bool) (fs : List Ends) (q : Result V OpFault) → fs ≡ area_ends a part.course.from part.course.to → AllFit (area_parts a part.course.from ++ area_parts a part.course.to)
+  pub area_kept : {V : Type 0} (items : V → List (Slice PlaneLine)) (want : Bool) (fs : List Ends) (q : Result V (Fault Formula)) → fs ≡ area_ends a part.course.from part.course.to → AllFit (area_parts a part.course.from ++ area_parts a part.course.to)
       → IsKeptBy plane_value_of (λ c. c.from) (λ c. c.to) items (λ t. kept_value want (in_area_by (signs_of part.span fs t)) (slice_value plane_value_of s t)) part.span (entries_of_cuts plane_parts_of s part.span fs) q
       → IsKeptBy plane_value_of (λ c. c.from) (λ c. c.to) items (λ t. kept_value want (in_area a (slice_value plane_value_of s t)) (slice_value plane_value_of s t)) part.span (entries_of_area a s part.span) q
   area_kept items want fs q e fits m = kept_behind plane_value_of (λ c. c.from) (λ c. c.to) items

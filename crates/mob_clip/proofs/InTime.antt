@@ -1,4 +1,4 @@
--- A slice, and the span of time of a box.
+-- A slice and the time of a box.
 use Rattle.std.specs.Prelude.{◌≡◌, Bool, true, false, cond, not, ◌&&◌, ◌||◌, List, [], ◌∷◌, ◌++◌, Option, Some, None, MatchOption, Result, Ok, Err, MatchResult, refl}
 use Rattle.std.proofs.lemmas.Bool.{and_parts}
 use Rattle.std.proofs.Common.{arith, ap, sym, ◌∙◌, subst, inl, inr, true≢false, append_assoc, append-nil}
@@ -18,20 +18,18 @@ use Rattle.mob_slice.specs.Sides.{at_ends, HasValues}
 use Rattle.mob_slice.specs.Cut.{slice_value, slice_parts}
 use Rattle.mob_slice.specs.Lines.{plane_value_of, plane_parts_of}
 use Rattle.mob_slice.specs.PlaneLaws.{plane_laws}
-use Rattle.mob_slice.specs.Entries.{IsFirst, OnFormula}
+use Rattle.mob_list.specs.Faults.{OnCause}
+use Rattle.mob_slice.specs.Entries.{IsFirst}
 use Rattle.mob_slice.specs.declared.slice.Slice.{Slice}
 use Rattle.mob_plane.specs.declared.point.Point.{Point}
 use Rattle.mob_slice.specs.declared.line.PlaneLine.{PlaneLine}
 use Rattle.mob_slice.specs.declared.formula.Formula.{Formula}
-use Rattle.mob_slice.specs.declared.formula.OpFault.{OpFault}
-use Rattle.mob_slice.specs.declared.formula.OpFault.TheVariants.{Passed, NoMemory}
-use Rattle.mob_slice.specs.declared.formula.LookFault.{LookFault}
-use Rattle.mob_slice.specs.declared.formula.LookFault.TheVariants.{Passed as LookPassed, NoMemory as LookNoMemory}
+use Rattle.mob_list.specs.declared.fault.Fault.{Fault}
+use Rattle.mob_list.specs.declared.fault.Fault.TheVariants.{Because, NoMemory}
 use Rattle.mob_slice.proofs.Cuts.{all_both, all_first, all_second}
 use Rattle.mob_cells.specs.Cells.{AreCells}
 use Rattle.mob_lifted.specs.OnPiece.{AreKeptOn, IsKeptBy}
 use Rattle.mob_cells.specs.Restricted.{kept_value}
-use Rattle.mob_slice.specs.Entries.{operator_fault}
 use Rattle.mob_lifted.specs.Piecewise.{AreGivenInOrder}
 use Rattle.mob_cells.proofs.Restricting.{all_kept}
 use Rattle.mob_lifted.proofs.OnOnePiece.{kept_same, kept_behind}
@@ -42,7 +40,7 @@ use Rattle.mob_clip.specs.Boxes.{entries_of_space, entries_in_time, entries_of_b
 use Rattle.mob_clip.specs.Pieces.{some_span, AreAllOrNothing}
 
 -- ---- a span and a part of it
--- the two sides of a span by themselves
+-- the two ends of a span, each by itself
 abbrev low : Ratio → Bool → Ratio → Bool
 low l i t = before l t || (i && up_to l t)
 
@@ -55,7 +53,7 @@ low_front l t i = grind (arith, before-back l t, before-back t l, before-neither
 high_back : (u t : Ratio) (i : Bool) → low u (not i) t ≡ not (high u i t)
 high_back u t i = grind (arith, before-back u t, before-back t u, before-neither u t)
 
--- an instant is not and_parts before and after a span that has one
+-- an instant is not both before and after a span that has one
 not_both : (m : SpanOf) (t : Ratio) → has_instant m ≡ true → (low m.lower m.lower_inc t || high m.upper m.upper_inc t) ≡ true
 not_both m t h = grind (arith, h, before-trans m.lower t m.upper, before-trans t m.lower m.upper, before-trans m.lower m.upper t, before-neither m.lower t, before-neither t m.upper, before-neither m.lower m.upper)
 
@@ -113,7 +111,7 @@ module _ (s m : SpanOf) (inside : is_inside s m ≡ true) (some : has_instant m 
       or_false false = refl
   three_cells false false ha hb = record { clear = (some, tt, tt); inside = (inside, tt); covers = λ t. ap (λ z. has m t || z) (sym (no_instant (back_span s m) t hb)) ∙ ap (λ z. z || (has m t || has (back_span s m) t)) (sym (no_instant (front_span s m) t ha)) ∙ covers_all t }
 
-  -- what is in the part is not around it
+  -- an instant of the part is not in the parts around it
   pub front_not : (t : Ratio) → has (front_span s m) t ≡ true → has m t ≡ false
   front_not t h = clear_has (front_span s m) m t front_clear h
 
@@ -124,8 +122,8 @@ module _ (s m : SpanOf) (inside : is_inside s m ≡ true) (some : has_instant m 
       by true e = absurd (true≢false (sym h ∙ clear_has m (back_span s m) t back_clear e))
       by false e = e
 
--- ---- what is left around the part
--- a test beside another of which the truth is known
+-- ---- the parts kept around the part
+-- a test next to another one that is false
 nowhere : (a b : Bool) → b ≡ false → false ≡ (a && b)
 nowhere true b e = sym e
 nowhere false b e = refl
@@ -187,32 +185,32 @@ module _ (s : Slice PlaneLine) (sound : IsSound (λ c. c.from) (λ c. c.to) s) w
     abbrev pub wanted : Ratio → Option Point
     wanted t = kept_value want (in_space space (slice_value plane_value_of s t) && has T t) (slice_value plane_value_of s t)
 
-    pub none_shared : {V : Type 0} (items : V → List (Slice PlaneLine)) (q : Result V OpFault) → has_instant (meet_of s.span T) ≡ false → MatchResult q (λ v. AreAllOrNothing s (same_bool want false) (Some s.span) (items v)) (λ e. e ≡ NoMemory) → IsKeptBy plane_value_of (λ c. c.from) (λ c. c.to) items wanted s.span (entries_in_time (Some T) space s) q
+    pub none_shared : {V : Type 0} (items : V → List (Slice PlaneLine)) (q : Result V (Fault Formula)) → has_instant (meet_of s.span T) ≡ false → MatchResult q (λ v. AreAllOrNothing s (same_bool want false) (Some s.span) (items v)) (λ e. e ≡ NoMemory) → IsKeptBy plane_value_of (λ c. c.from) (λ c. c.to) items wanted s.span (entries_in_time (Some T) space s) q
     none_shared items (Ok v) n h = (kept_same plane_value_of (λ c. c.from) (λ c. c.to) (λ t. kept_value want false (slice_value plane_value_of s t)) wanted s.span (items v) (λ t k. ap (λ b. kept_value want b (slice_value plane_value_of s t)) (nowhere (in_space space (slice_value plane_value_of s t)) (has T t) (out t k))) h, rw n refl)
       where
         out : (t : Ratio) → has s.span t ≡ true → has T t ≡ false
         out t k = sym (ap (λ z. z && has T t) k) ∙ (meet_none s.span T).0 n t
     none_shared items (Err e) n h = rw h tt
 
-    pub cut_fails : (copies : Bool) (m : SpanOf) (f : LookFault) → m ≡ meet_of s.span T → has_instant m ≡ true → IsLookFault copies (at_ends (slice_parts plane_parts_of s) m) f → OnFormula (λ g. IsFirst (entries_in_time (Some T) space s) (Some g)) (operator_fault f)
-    cut_fails copies m (LookPassed f) e k h = rw (subst (λ z. has_instant z ≡ true) e k) (inr (subst (λ z. ¬ AllFit (at_ends (slice_parts plane_parts_of s) z)) e h.1, ap Some h.0))
-    cut_fails copies m LookNoMemory e k h = tt
+    pub cut_fails : (copies : Bool) (m : SpanOf) (f : Fault Formula) → m ≡ meet_of s.span T → has_instant m ≡ true → IsLookFault copies (at_ends (slice_parts plane_parts_of s) m) f → OnCause (λ g. IsFirst (entries_in_time (Some T) space s) (Some g)) f
+    cut_fails copies m (Because f) e k h = rw (subst (λ z. has_instant z ≡ true) e k) (inr (subst (λ z. ¬ AllFit (at_ends (slice_parts plane_parts_of s) z)) e h.1, ap Some h.0))
+    cut_fails copies m NoMemory e k h = tt
 
     behind : (m : SpanOf) (r : Option Formula) → m ≡ meet_of s.span T → has_instant m ≡ true → AllFit (at_ends (slice_parts plane_parts_of s) m) → IsFirst (entries_of_space space s m) r → IsFirst (entries_in_time (Some T) space s) r
     behind m r e k fits h = rw (subst (λ z. has_instant z ≡ true) e k) (inl (subst (λ z. AllFit (at_ends (slice_parts plane_parts_of s) z)) e fits, subst (λ z. IsFirst (entries_of_space space s z) r) e h))
 
-    pub space_fails : (m : SpanOf) (f : OpFault) → m ≡ meet_of s.span T → has_instant m ≡ true → AllFit (at_ends (slice_parts plane_parts_of s) m) → OnFormula (λ g. IsFirst (entries_of_space space s m) (Some g)) f → OnFormula (λ g. IsFirst (entries_in_time (Some T) space s) (Some g)) f
-    space_fails m (Passed f) e k fits h = behind m (Some f) e k fits h
+    pub space_fails : (m : SpanOf) (f : Fault Formula) → m ≡ meet_of s.span T → has_instant m ≡ true → AllFit (at_ends (slice_parts plane_parts_of s) m) → OnCause (λ g. IsFirst (entries_of_space space s m) (Some g)) f → OnCause (λ g. IsFirst (entries_in_time (Some T) space s) (Some g)) f
+    space_fails m (Because f) e k fits h = behind m (Some f) e k fits h
     space_fails m NoMemory e k fits h = tt
 
-    pub time_kept : {V : Type 0} (items : V → List (Slice PlaneLine)) (q : Result V OpFault) (m : SpanOf) (middle : List (Slice PlaneLine)) → m ≡ meet_of s.span T → has_instant m ≡ true → AllFit (at_ends (slice_parts plane_parts_of s) m)
+    pub time_kept : {V : Type 0} (items : V → List (Slice PlaneLine)) (q : Result V (Fault Formula)) (m : SpanOf) (middle : List (Slice PlaneLine)) → m ≡ meet_of s.span T → has_instant m ≡ true → AllFit (at_ends (slice_parts plane_parts_of s) m)
         → AreKeptOn plane_value_of (λ c. c.from) (λ c. c.to) (λ t. kept_value want (in_space space (slice_value plane_value_of s t)) (slice_value plane_value_of s t)) m middle → IsFirst (entries_of_space space s m) None
         → MatchResult q (λ v. AreAround s want m middle (items v)) (λ e. e ≡ NoMemory) → IsKeptBy plane_value_of (λ c. c.from) (λ c. c.to) items wanted s.span (entries_in_time (Some T) space s) q
     time_kept items (Ok v) m middle e k fits g first h = (around_kept s m (subst (λ z. is_inside s.span z ≡ true) (sym e) (meet_left s.span T)) k want T space (λ t. ap (λ z. has z t) e ∙ meet_has s.span T t) middle (items v) g h, behind m None e k fits first)
     time_kept items (Err f) m middle e k fits g first h = rw h tt
 
 -- a box without time
-pub timeless : {V : Type 0} (items : V → List (Slice PlaneLine)) (s : Slice PlaneLine) (want : Bool) (b : BoxOf) (space : Option Area) (r : SpanOf) (q : Result V OpFault) → r ≡ s.span → space ≡ b.space → b.time ≡ None
+pub timeless : {V : Type 0} (items : V → List (Slice PlaneLine)) (s : Slice PlaneLine) (want : Bool) (b : BoxOf) (space : Option Area) (r : SpanOf) (q : Result V (Fault Formula)) → r ≡ s.span → space ≡ b.space → b.time ≡ None
     → IsKeptBy plane_value_of (λ c. c.from) (λ c. c.to) items (λ t. kept_value want (in_space space (slice_value plane_value_of s t)) (slice_value plane_value_of s t)) r (entries_of_space space s r) q
     → IsKeptBy plane_value_of (λ c. c.from) (λ c. c.to) items (λ t. kept_value want (in_box b t (slice_value plane_value_of s t)) (slice_value plane_value_of s t)) s.span (entries_of_box b s) q
 timeless items s want b space r q i e n m = kept_behind plane_value_of (λ c. c.from) (λ c. c.to) items (λ t. kept_value want (in_space space (slice_value plane_value_of s t)) (slice_value plane_value_of s t)) (λ t. kept_value want (in_box b t (slice_value plane_value_of s t)) (slice_value plane_value_of s t)) s.span (entries_of_box b s) (entries_of_space space s s.span) q
@@ -220,7 +218,7 @@ timeless items s want b space r q i e n m = kept_behind plane_value_of (λ c. c.
     (λ o k. subst (λ z. IsFirst (entries_in_time z b.space s) o) (sym n) (subst (λ z. IsFirst (entries_of_space z s s.span) o) e k))
     (subst (λ z. IsKeptBy plane_value_of (λ c. c.from) (λ c. c.to) items (λ t. kept_value want (in_space space (slice_value plane_value_of s t)) (slice_value plane_value_of s t)) z (entries_of_space space s z) q) i m)
 
--- the ends of what is around a part fit where those of the part do
+-- the ends of the parts around a part fit if those of the part do
 module _ (s : Slice PlaneLine) (m : SpanOf) (inside : is_inside s.span m ≡ true) (some : has_instant m ≡ true) (fits : AllFit (at_ends (slice_parts plane_parts_of s) m)) where
   abbrev parts : Ratio → List Ratio
   parts t = slice_parts plane_parts_of s t

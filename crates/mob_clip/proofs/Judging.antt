@@ -15,12 +15,13 @@ use Rattle.mob_slice.specs.Sides.{at_ends}
 use Rattle.mob_slice.specs.Cut.{slice_value, slice_parts}
 use Rattle.mob_slice.specs.Lines.{plane_value_of, plane_parts_of}
 use Rattle.mob_slice.specs.PlaneLaws.{plane_laws}
-use Rattle.mob_slice.specs.Entries.{IsFirst, OnFormula, IsPartFault}
+use Rattle.mob_list.specs.Faults.{OnCause}
+use Rattle.mob_slice.specs.Entries.{IsFirst, IsPartFault}
 use Rattle.mob_slice.specs.declared.slice.Slice.{Slice}
 use Rattle.mob_slice.specs.declared.line.PlaneLine.{PlaneLine}
 use Rattle.mob_slice.specs.declared.formula.Formula.TheVariants.{F1, F2, F3, F4}
-use Rattle.mob_slice.specs.declared.formula.OpFault.{OpFault}
-use Rattle.mob_slice.specs.declared.formula.OpFault.TheVariants.{Passed, NoMemory}
+use Rattle.mob_list.specs.declared.fault.Fault.{Fault}
+use Rattle.mob_list.specs.declared.fault.Fault.TheVariants.{Because, NoMemory}
 use Rattle.mob_slice.proofs.Cuts.{all_both, all_first, all_second}
 use Rattle.mob_cells.specs.declared.linear.Ends.{Ends}
 use Rattle.mob_cells.specs.declared.signs.Placed.{Placed}
@@ -35,6 +36,7 @@ use Rattle.mob_clip.specs.declared.roots.EdgePlaced.{EdgePlaced}
 use Rattle.mob_clip.specs.Sides.{beside, beside_parts, point_parts, with_turn, turning_parts, IsBeside}
 use Rattle.mob_clip.specs.Roots.{place_edge, placed_edge, listed_ends, edge_roots, IsBetweenEnds, IsPlacedEdge, CutsFit}
 use Rattle.mob_clip.specs.Polygons.{edge_parts, edges_parts, edge_ends, edges_ends, entries_of_edges}
+use Rattle.mob_slice.specs.declared.formula.Formula.{Formula}
 
 -- ---- the differences to the first end of each edge
 known_each : (p q : Point) (es : List (Point × Point)) → AllFit (flat_map (beside_parts p q) es) → AllByRecursion (IsBeside p q) (map (beside p q) es)
@@ -141,7 +143,7 @@ module _ (es : List (Point × Point)) (s : Slice PlaneLine) (sound : IsSound (λ
   abbrev parts : Ratio → List Ratio
   parts t = slice_parts plane_parts_of s t
 
-  -- the entries by the limits of the slice in place of its values at its ends
+  -- the entries by the limits of the slice, instead of its values at its ends
   both_ends : (f : Point → List Ratio) → at_ends (λ t. f (slice_value plane_value_of s t)) s.span ≡ f p ++ f q
   both_ends f = sym (ap (λ z. f z ++ f q) (start_value plane_laws s) ∙ ap (λ z. f (slice_value plane_value_of s s.span.lower) ++ f z) (end_value plane_laws s sound))
 
@@ -209,9 +211,9 @@ module _ (es : List (Point × Point)) (s : Slice PlaneLine) (sound : IsSound (λ
   pub placed_same : map (place_edge s.span) ways ≡ map (placed_edge s) es
   placed_same = map_twice (place_edge s.span) (with_turn p q) (map (beside p q) es) ∙ map_twice (λ b. place_edge s.span (with_turn p q b)) (beside p q) es
 
-  -- ---- the first that does not fit, by the lists that are made so far
-  pub besides_fail : (f : OpFault) → IsPartFault F2 (flat_map (beside_parts p q) es) f → OnFormula (λ g. IsFirst (entries_of_edges es s) (Some g)) f
-  besides_fail (Passed f) h = inr (λ a. h.1 (fit_besides a), ap Some h.0)
+  -- ---- the first that does not fit, by the lists made so far
+  pub besides_fail : (f : Fault Formula) → IsPartFault F2 (flat_map (beside_parts p q) es) f → OnCause (λ g. IsFirst (entries_of_edges es s) (Some g)) f
+  besides_fail (Because f) h = inr (λ a. h.1 (fit_besides a), ap Some h.0)
   besides_fail NoMemory h = tt
 
   module _ (bs : List Beside) (e : bs ≡ map (beside p q) es) where
@@ -219,16 +221,16 @@ module _ (es : List (Point × Point)) (s : Slice PlaneLine) (sound : IsSound (λ
     are_ways gs k = k ∙ ap (map (with_turn p q)) e
 
     module _ (a : AllFit (flat_map (beside_parts p q) es)) where
-      pub turned_fail : (f : OpFault) → IsPartFault F4 (flat_map (λ b. turning_parts p q b.edge) bs) f → OnFormula (λ g. IsFirst (entries_of_edges es s) (Some g)) f
-      turned_fail (Passed f) h = inl (besides_fit a, inr (λ b. h.1 (rw e (fit_turned b)), ap Some h.0))
+      pub turned_fail : (f : Fault Formula) → IsPartFault F4 (flat_map (λ b. turning_parts p q b.edge) bs) f → OnCause (λ g. IsFirst (entries_of_edges es s) (Some g)) f
+      turned_fail (Because f) h = inl (besides_fit a, inr (λ b. h.1 (rw e (fit_turned b)), ap Some h.0))
       turned_fail NoMemory h = tt
 
       module _ (b : AllFit (flat_map (λ b. turning_parts p q b.edge) bs)) (gs : List EdgeEnds) (k : gs ≡ map (with_turn p q) bs) where
         turns : AllFit (at_ends (λ t. turns_parts (slice_value plane_value_of s t) es) s.span)
         turns = turned_fit (rw e at b)
 
-        pub placed_fail : (f : OpFault) → IsPartFault F3 (flat_map (λ g. roots_parts s.span (listed_ends g)) gs) f → OnFormula (λ g. IsFirst (entries_of_edges es s) (Some g)) f
-        placed_fail (Passed f) h = inl (besides_fit a, inl (turns, inr (λ c. h.1 (rw (are_ways gs k) (subst AllFit (sym roots_same) c)), ap Some h.0)))
+        pub placed_fail : (f : Fault Formula) → IsPartFault F3 (flat_map (λ g. roots_parts s.span (listed_ends g)) gs) f → OnCause (λ g. IsFirst (entries_of_edges es s) (Some g)) f
+        placed_fail (Because f) h = inl (besides_fit a, inl (turns, inr (λ c. h.1 (rw (are_ways gs k) (subst AllFit (sym roots_same) c)), ap Some h.0)))
         placed_fail NoMemory h = tt
 
         module _ (c : AllFit (flat_map (λ g. roots_parts s.span (listed_ends g)) gs)) (ps : List EdgePlaced) (l : ps ≡ map (place_edge s.span) gs) where
@@ -238,8 +240,8 @@ module _ (es : List (Point × Point)) (s : Slice PlaneLine) (sound : IsSound (λ
           roots_are : AllFit (roots_parts s.span (edges_ends (slice_value plane_value_of s s.span.lower) (slice_value plane_value_of s s.span.upper) es))
           roots_are = subst AllFit roots_same (rw (are_ways gs k) at c)
 
-          pub cuts_fail : (f : OpFault) → IsPartFault F1 (flat_map parts (flat_map edge_roots ps)) f → OnFormula (λ g. IsFirst (entries_of_edges es s) (Some g)) f
-          cuts_fail (Passed f) h = inl (besides_fit a, inl (turns, inl (roots_are, inr (λ d. h.1 (rw are_all (subst AllFit (sym cuts_same) d)), ap Some h.0))))
+          pub cuts_fail : (f : Fault Formula) → IsPartFault F1 (flat_map parts (flat_map edge_roots ps)) f → OnCause (λ g. IsFirst (entries_of_edges es s) (Some g)) f
+          cuts_fail (Because f) h = inl (besides_fit a, inl (turns, inl (roots_are, inr (λ d. h.1 (rw are_all (subst AllFit (sym cuts_same) d)), ap Some h.0))))
           cuts_fail NoMemory h = tt
 
           pub none_fails : AllFit (flat_map parts (flat_map edge_roots ps)) → (ps ≡ map (placed_edge s) es) × IsFirst (entries_of_edges es s) None × AllByRecursion (CutsFit parts) ps

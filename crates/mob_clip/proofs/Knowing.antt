@@ -1,4 +1,4 @@
--- What is known of a point by edges.
+-- The tally of a point by edges.
 use Rattle.std.specs.Prelude.{◌≡◌, Bool, true, false, cond, ◌||◌, List, [], ◌∷◌, ◌++◌, map, length, get_or, Result, Ok, Err, IfOk, refl}
 use Rattle.std.specs.List.{AllByRecursion}
 use Rattle.std.proofs.Common.{arith, ap, sym, ◌∙◌, subst, append_assoc}
@@ -39,7 +39,7 @@ ends_joined s t g x y h k = rw (h, k) (λ i. record {
   y_b = sign_of (function_at s g.y_b.ends t);
 })
 
--- ---- what is known, along a walk
+-- ---- the tally along a walk
 tallied_at : (x : EdgeSigns) (cs : List (Change EdgeSigns)) (t : Ratio) → step_at (edge_tally x) (map tally_change cs) t ≡ edge_tally (step_at x cs t)
 tallied_at x [] t = refl
 tallied_at x (c ∷ cs) t = by (tallied_at c.behind cs t) (before t c.at) (before c.at t)
@@ -82,7 +82,7 @@ halves_at all left right t a b r e h k m =
     ∙ ap tally_all (sym (map_joined (λ e. steps_at e t) left right))
     ∙ ap (λ z. tally_all (map (λ e. steps_at e t) z)) e
 
--- what holds of what a call answers, from what it ensures
+-- a property of the result of a call, from its clause
 pub if_ok : {A E : Type 0} {P Q : A → Type 0} (r : Result A E) → ((x : A) → P x → Q x) → IfOk r P → IfOk r Q
 if_ok (Ok x) f h = f x h
 if_ok (Err e) f h = h
@@ -108,7 +108,7 @@ pub two_values : {E : Type 0} (r : Result (Steps Tally) E) (all front back : Lis
     → IfOk r (λ m. (t : Ratio) → steps_at m t ≡ tally_both (steps_at left t) (steps_at right t)) → IfOk r (λ m. (t : Ratio) → steps_at m t ≡ tally_all (map (λ e. steps_at e t) all))
 two_values r all front back left right e a b h = if_ok r (λ m k t. halves_at all front back t (steps_at left t) (steps_at right t) (steps_at m t) e (a t) (b t) (k t)) h
 
--- what is known of all edges so far, each by itself
+-- the tallies of all edges so far, each on its own
 pub record IsKnowing (s : SpanOf) (all rest : List EdgePlaced) (out : List (Steps Tally)) : Type 0 where
   pub values : (t : Ratio) → has s t ≡ true → map (λ x. steps_at x t) out ++ map (λ g. edge_tally (signs_on s t g)) rest ≡ map (λ g. edge_tally (signs_on s t g)) all
   pub fit : (parts : Ratio → List Ratio) → AllFit (parts s.lower) → AllFit (parts s.upper) → AllByRecursion (CutsFit parts) all → AllByRecursion (λ (x : Steps Tally). ChangesFit parts x.changes.items) out × AllByRecursion (CutsFit parts) rest
@@ -134,7 +134,7 @@ knowing_step s all rest later g out out' x e n v w m = record {
 pub knowing_fit : (s : SpanOf) (all rest : List EdgePlaced) (out : List (Steps Tally)) → IsKnowing s all rest out → (parts : Ratio → List Ratio) → AllFit (parts s.lower) → AllFit (parts s.upper) → AllByRecursion (CutsFit parts) all → AllByRecursion (λ (x : Steps Tally). ChangesFit parts x.changes.items) out
 knowing_fit s all rest out m parts a b k = (m.fit parts a b k).0
 
--- ---- what is known tells membership
+-- ---- the tally decides membership
 known_on : (ss : List EdgeSigns) → (tally_all (map edge_tally ss)).on ≡ some_on ss
 known_on [] = refl
 known_on (s ∷ ss) = ap (λ b. is_on s || b) (known_on ss)

@@ -1,4 +1,4 @@
--- Lists that are made of others, part by part.
+-- Lists made from others, part by part.
 use Rattle.mob_slice.specs.Entries.{IsPartFault}
 use Rattle.std.specs.Prelude.{◌≡◌, List, [], ◌∷◌, ◌++◌, map}
 use Rattle.std.specs.List.{flat_map}
@@ -6,11 +6,11 @@ use Rattle.std.proofs.Common.{ap, sym, ◌∙◌, subst, append_assoc, append-ni
 use Rattle.mob_ratio.specs.Ratio.{Ratio}
 use Rattle.mob_frac.specs.Formula.{AllFit}
 use Rattle.mob_slice.specs.declared.formula.Formula.{Formula}
-use Rattle.mob_slice.specs.declared.formula.OpFault.{OpFault}
-use Rattle.mob_slice.specs.declared.formula.OpFault.TheVariants.{Passed, NoMemory}
+use Rattle.mob_list.specs.declared.fault.Fault.{Fault}
+use Rattle.mob_list.specs.declared.fault.Fault.TheVariants.{Because, NoMemory}
 use Rattle.mob_slice.proofs.Cuts.{all_both, all_first, all_second}
 
--- the parts of a list that fit where those of the rest do
+-- the parts of a list fit if those of the rest do
 pub record IsChecking {A : Type 0} (parts : A → List Ratio) (all rest : List A) : Type 0 where
   pub fit : AllFit (flat_map parts rest) → AllFit (flat_map parts all)
   pub fail : AllFit (flat_map parts all) → AllFit (flat_map parts rest)
@@ -28,18 +28,19 @@ module _ {A : Type 0} (parts : A → List Ratio) where
   pub checking_end : (all rest : List A) → rest ≡ [] → IsChecking parts all rest → AllFit (flat_map parts all)
   checking_end all rest e m = m.fit (rw e tt)
 
--- a list with nothing behind it
+-- a list with nothing after it
 pub all_made : {A : Type 0} (out rest all : List A) → rest ≡ [] → out ++ rest ≡ all → out ≡ all
 all_made out rest all e h = sym (append-nil out) ∙ ap (λ z. out ++ z) (sym e) ∙ h
 
--- a list that is made of another part by part, of which f makes a part of the first
+-- a list made from another part by part; f makes a part from the first entry
 pub walk_step : {A B : Type 0} (f : List A → List B) (rest later : List A) (x : A) (part out out' all : List B) → rest ≡ x ∷ later → f (x ∷ later) ≡ part ++ f later → out' ≡ out ++ part → out ++ f rest ≡ all → out' ++ f later ≡ all
 walk_step f rest later x part out out' all e g n m = rw (n, append_assoc out part (f later)) (ap (λ z. out ++ z) (sym g) ∙ ap (λ z. out ++ f z) (sym e) ∙ m)
 
 pub walk_end : {A B : Type 0} (f : List A → List B) (rest : List A) (out all : List B) → rest ≡ [] → f [] ≡ [] → out ++ f rest ≡ all → out ≡ all
 walk_end f rest out all e g m = all_made out (f rest) all (ap f e ∙ g) m
 
--- the list so far, with what is made of the rest, is that of all; and all fit where the rest does
+-- the list so far, followed by that of the rest, is that of all; and all parts fit if those of the
+-- rest do
 pub record IsMapping {A B : Type 0} (f : A → B) (parts : A → List Ratio) (all rest : List A) (out : List B) : Type 0 where
   pub made : out ++ map f rest ≡ map f all
   pub checked : IsChecking parts all rest
@@ -54,7 +55,7 @@ module _ {A B : Type 0} (f : A → B) (parts : A → List Ratio) where
   pub mapping_end : (all rest : List A) (out : List B) → rest ≡ [] → IsMapping f parts all rest out → (out ≡ map f all) × AllFit (flat_map parts all)
   mapping_end all rest out e m = (all_made out (map f rest) (map f all) (ap (map f) e) m.made, checking_end parts all rest e m.checked)
 
--- why some parts failed says why all did
-pub fault_of_all : (formula : Formula) (p q : List Ratio) (f : OpFault) → IsPartFault formula p f → ((¬ AllFit p) → ¬ AllFit q) → IsPartFault formula q f
-fault_of_all formula p q (Passed f) h k = (h.0, k h.1)
+-- a fault of some parts is a fault of all
+pub fault_of_all : (formula : Formula) (p q : List Ratio) (f : Fault Formula) → IsPartFault formula p f → ((¬ AllFit p) → ¬ AllFit q) → IsPartFault formula q f
+fault_of_all formula p q (Because f) h k = (h.0, k h.1)
 fault_of_all formula p q NoMemory h k = tt

@@ -1,4 +1,4 @@
--- What is left of a slice, from its start to where a walk has come.
+-- The kept parts of a slice, from its start to the position of a walk.
 use Rattle.std.specs.Prelude.{◌≡◌, Bool, true, false, cond, not, ◌&&◌, ◌||◌, List, [], ◌∷◌, ◌++◌, Option, Some, None, IfSome, MatchOption, Result, Ok, Err, MatchResult, refl}
 use Rattle.std.proofs.lemmas.Bool.{and_parts}
 use Rattle.std.specs.List.{AllByRecursion}
@@ -20,8 +20,8 @@ use Rattle.mob_slice.specs.Cut.{slice_value, slice_parts}
 use Rattle.mob_slice.specs.Lines.{plane_value_of, plane_parts_of}
 use Rattle.mob_slice.specs.declared.slice.Slice.{Slice}
 use Rattle.mob_slice.specs.declared.line.PlaneLine.{PlaneLine}
-use Rattle.mob_slice.specs.declared.formula.OpFault.{OpFault}
-use Rattle.mob_slice.specs.declared.formula.OpFault.TheVariants.{NoMemory}
+use Rattle.mob_list.specs.declared.fault.Fault.{Fault}
+use Rattle.mob_list.specs.declared.fault.Fault.TheVariants.{NoMemory}
 use Rattle.mob_slice.proofs.Cuts.{all_both, all_first, all_second}
 use Rattle.mob_lifted.specs.OnPiece.{AreKeptOn}
 use Rattle.mob_lifted.proofs.OnOnePiece.{kept_same}
@@ -32,9 +32,10 @@ use Rattle.mob_clip.specs.declared.steps.Change.{Change}
 use Rattle.mob_clip.specs.declared.steps.Steps.{Steps}
 use Rattle.mob_clip.specs.Steps.{step_at, steps_at, ChangesFit}
 use Rattle.mob_clip.specs.Pieces.{is_known_in, some_span, left_span, right_span, left_piece, right_piece, IsOnSlice, AreAllOrNothing}
+use Rattle.mob_slice.specs.declared.formula.Formula.{Formula}
 
--- ---- a span before and behind an instant
--- t is before r, or is r where it is included
+-- ---- a span before and after an instant
+-- t is before r, or is r if it is included
 abbrev is_left : Ratio → Bool → Ratio → Bool
 is_left r included t = before t r || (included && up_to t r)
 
@@ -115,7 +116,7 @@ not_yet : (c : SpanOf) (x : SpanOf) (t : Ratio) → is_clear x c ≡ true → ha
 not_yet c x t h k true e = absurd (true≢false (sym k ∙ clear_has x c t h e))
 not_yet c x t h k false e = refl
 
--- at an instant behind the first slices the value is that of the others
+-- at an instant after the first slices, the value is that of the others
 value_behind : (c : SpanOf) (out v : List (Slice PlaneLine)) (t : Ratio) → AllBefore c out → has c t ≡ true → value_at plane_value_of (out ++ v) t ≡ value_at plane_value_of v t
 value_behind c [] v t h k = refl
 value_behind c (x ∷ out) v t h k = rw (not_yet c x.span t h.0 k (has x.span t) refl) (value_behind c out v t h.1 k)
@@ -140,7 +141,7 @@ some_has c t = by (has_instant c) refl
     by true e = refl
     by false e = sym (no_instant c t e)
 
--- what the code makes of a span m, if that has an instant
+-- the span that the code makes from m, if m has an instant
 pub some_made : (m r : SpanOf) (o : Option SpanOf) → m ≡ r → IfSome o (λ p. p ≡ m) → MatchOption o (has_instant m ≡ false) (λ p. has_instant p ≡ true) → o ≡ some_span r
 some_made m r None e i h = let k : has_instant r ≡ false = subst (λ z. has_instant z ≡ false) e h in rw k refl
 some_made m r (Some p) e i h = let k : has_instant r ≡ true = subst (λ z. has_instant z ≡ true) (i ∙ e) h in rw k (ap Some (i ∙ e))
@@ -180,8 +181,8 @@ module _ (s : Slice PlaneLine) where
   rest_holds None r i h k = tt
   rest_holds (Some c) r i h k = right_holds c r i h k
 
-  -- the slices have the values f at each instant of s that is not in the piece, which they are
-  -- before
+  -- the slices have the values f at each instant of s that is not in the piece, and come before the
+  -- piece
   pub record IsLeft (f : Ratio → Option Point) (rest : Option SpanOf) (out : List (Slice PlaneLine)) : Type 0 where
     pub ordered : IsOrdered (λ k. k.from) (λ k. k.to) out
     pub inside : AreInside s.span out
@@ -248,7 +249,7 @@ module _ (s : Slice PlaneLine) (want : Bool) (steps : Steps Tally) where
   abbrev pub wanted : Ratio → Option Point
   wanted t = kept_value want (is_known_in (steps_at steps t)) (slice_value plane_value_of s t)
 
-  -- what is passed, and what stands on the rest
+  -- the parts kept so far, and the tally on the rest
   pub record IsPassing (rest : Option SpanOf) (now : Tally) (later : List (Change Tally)) (out : List (Slice PlaneLine)) : Type 0 where
     pub left : IsLeft s wanted rest out
     pub same : (t : Ratio) → has_piece rest t ≡ true → steps_at steps t ≡ step_at now later t
@@ -277,7 +278,7 @@ module _ (s : Slice PlaneLine) (want : Bool) (steps : Steps Tally) where
   is_behind : (r t : Ratio) → not (is_left r true t) ≡ true → (before t r ≡ false) × (before r t ≡ true)
   is_behind r t h = (grind (arith, h), grind (arith, h))
 
-  -- past a change: what is in front of it, what stands there, and what is behind
+  -- past a change: the part before it, its instant, and the part after it
   pub passing_step : (rest rest' rest'' : Option SpanOf) (now : Tally) (later later' : List (Change Tally)) (c : Change Tally) (front there : Bool) (out out' out'' v w : List (Slice PlaneLine)) → later ≡ c ∷ later'
       → front ≡ same_bool want (is_known_in now) → rest' ≡ right_piece rest c.at false → out' ≡ out ++ v → AreAllOrNothing s front (left_piece rest c.at false) v
       → there ≡ same_bool want (is_known_in c.there) → rest'' ≡ right_piece rest' c.at true → out'' ≡ out' ++ w → AreAllOrNothing s there (left_piece rest' c.at true) w
@@ -296,7 +297,7 @@ module _ (s : Slice PlaneLine) (want : Bool) (steps : Steps Tally) where
   pub passing_end : (rest : Option SpanOf) (now : Tally) (later : List (Change Tally)) (keeps : Bool) (out all v : List (Slice PlaneLine)) → later ≡ [] → keeps ≡ same_bool want (is_known_in now) → all ≡ out ++ v → AreAllOrNothing s keeps rest v → IsPassing rest now later out → AreKeptOn plane_value_of (λ k. k.from) (λ k. k.to) wanted s.span all
   passing_end rest now later keeps out all v e k n h m = finished s wanted rest keeps out all v n h (λ t i. keeps_is keeps now t k (m.same t i ∙ ap (λ z. step_at now z t) e)) m.left
 
-  pub passing_ends : {V : Type 0} (items : V → List (Slice PlaneLine)) (result : Result V OpFault) (rest : Option SpanOf) (now : Tally) (later : List (Change Tally)) (keeps : Bool) (out : List (Slice PlaneLine)) → later ≡ [] → keeps ≡ same_bool want (is_known_in now) → IsPassing rest now later out
+  pub passing_ends : {V : Type 0} (items : V → List (Slice PlaneLine)) (result : Result V (Fault Formula)) (rest : Option SpanOf) (now : Tally) (later : List (Change Tally)) (keeps : Bool) (out : List (Slice PlaneLine)) → later ≡ [] → keeps ≡ same_bool want (is_known_in now) → IsPassing rest now later out
       → MatchResult result (λ all. (v : List (Slice PlaneLine)) × (items all ≡ out ++ v) × AreAllOrNothing s keeps rest v) (λ e. e ≡ NoMemory) → MatchResult result (λ all. AreKeptOn plane_value_of (λ k. k.from) (λ k. k.to) wanted s.span (items all)) (λ e. e ≡ NoMemory)
   passing_ends items (Ok all) rest now later keeps out e k m h = passing_end rest now later keeps out (items all) h.0 e k h.1 h.2 m
   passing_ends items (Err f) rest now later keeps out e k m h = h

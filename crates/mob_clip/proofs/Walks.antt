@@ -1,4 +1,4 @@
--- Two walks in one.
+-- The merge of two walks.
 use Rattle.std.specs.Prelude.{◌≡◌, Bool, true, false, cond, ℕ, List, [], ◌∷◌, ◌++◌, drop, refl}
 use Rattle.std.proofs.Common.{arith, ap, sym, ◌∙◌, subst, append_assoc, append-nil}
 use Rattle.mob_ratio.specs.Ratio.{Ratio}
@@ -10,12 +10,12 @@ use Rattle.mob_clip.specs.declared.steps.Met.{Met}
 use Rattle.mob_clip.specs.declared.steps.Steps.{Steps}
 use Rattle.mob_clip.specs.Steps.{step_at, steps_at, ChangesFit, IsNextChange}
 
--- t is not behind x, which is before y
+-- t is not after x, which is before y
 in_front : (t x y : Ratio) → before x t ≡ false → before x y ≡ true → before t y ≡ true
 in_front t x y h k = grind (arith, h, k, before-trans x y t, before-neither x t, before-neither t y)
 
 module _ {T : Type 0} (mix : T → T → T) where
-  -- what stands in front of the first change of a walk, which is behind x
+  -- the first change of a walk is after x
   abbrev pub IsAhead : Ratio → List (Change T) → Type 0
   IsAhead x [] = Unit {0}
   IsAhead x (c ∷ rest) = before x c.at ≡ true
@@ -24,7 +24,7 @@ module _ {T : Type 0} (mix : T → T → T) where
   ahead_at g [] x t h k = refl
   ahead_at g (y ∷ ys) x t h k = rw (in_front t x y.at k h) refl
 
-  -- a change of the first walk alone
+  -- a change of the first walk only
   pub met_left : (f g : T) (x : Change T) (xs ys : List (Change T)) → IsAhead x.at ys → IsNextChange mix f g (x ∷ xs) ys (record { at = x.at; there = mix x.there g; behind = mix x.behind g }) x.behind g xs ys
   met_left f g x xs ys h = record {
     whole = λ rest t k. by rest t k (before t x.at) refl (before x.at t) refl;
@@ -38,7 +38,7 @@ module _ {T : Type 0} (mix : T → T → T) where
       by rest t k false p true q = k
       by rest t k false p false q = ap (mix x.there) (sym (ahead_at g ys x.at t h q))
 
-  -- a change of the second walk alone
+  -- a change of the second walk only
   pub met_right : (f g : T) (xs : List (Change T)) (y : Change T) (ys : List (Change T)) → IsAhead y.at xs → IsNextChange mix f g xs (y ∷ ys) (record { at = y.at; there = mix f y.there; behind = mix f y.behind }) f y.behind xs ys
   met_right f g xs y ys h = record {
     whole = λ rest t k. by rest t k (before t y.at) refl (before y.at t) refl;
@@ -52,7 +52,7 @@ module _ {T : Type 0} (mix : T → T → T) where
       by rest t k false p true q = k
       by rest t k false p false q = ap (λ z. mix z y.there) (sym (ahead_at f xs y.at t h q))
 
-  -- a change of both, at one instant
+  -- a change of both at the same instant
   pub met_both : (f g : T) (x : Change T) (xs : List (Change T)) (y : Change T) (ys : List (Change T)) → x.at ≡ y.at → IsNextChange mix f g (x ∷ xs) (y ∷ ys) (record { at = x.at; there = mix x.there y.there; behind = mix x.behind y.behind }) x.behind y.behind xs ys
   met_both f g x xs y ys e = record {
     whole = λ rest t k. subst (λ z. cond (before t x.at) (mix f g) (cond (before x.at t) (step_at (mix x.behind y.behind) rest t) (mix x.there y.there)) ≡ mix (cond (before t x.at) f (cond (before x.at t) (step_at x.behind xs t) x.there)) (cond (before t z) g (cond (before z t) (step_at y.behind ys t) y.there))) e (by rest t k (before t x.at) (before x.at t));
@@ -82,7 +82,7 @@ module _ {T : Type 0} (mix : T → T → T) where
   pub right_alone : (f g : T) (xs ys : List (Change T)) (i j n : ℕ) (y : Change T) (m : Met T) → drop i xs ≡ [] → drop j ys ≡ y ∷ drop n ys → m ≡ record { change = record { at = y.at; there = mix f y.there; behind = mix f y.behind }; left = f; right = y.behind; i = i; j = n } → IsNextChange mix f g (drop i xs) (drop j ys) m.change m.left m.right (drop m.i xs) (drop m.j ys)
   right_alone f g xs ys i j n y m e d q = rw (q, e, d) (met_right f g [] y (drop n ys) tt)
 
-  -- the walk so far, and what is still to come of both
+  -- the merge so far, and the rest of both walks
   pub record IsMerging (f0 g0 : T) (all all' : List (Change T)) (f g : T) (xs ys out : List (Change T)) : Type 0 where
     pub whole : (rest : List (Change T)) (t : Ratio) → step_at (mix f g) rest t ≡ mix (step_at f xs t) (step_at g ys t) → step_at (mix f0 g0) (out ++ rest) t ≡ mix (step_at f0 all t) (step_at g0 all' t)
     pub fit : (parts : Ratio → List Ratio) → ChangesFit parts all → ChangesFit parts all' → ChangesFit parts out × ChangesFit parts xs × ChangesFit parts ys

@@ -24,7 +24,7 @@ area_parts a p = (p.x -ℚ a.xmin) ∷ (p.x -ℚ a.xmax) ∷ (p.y -ℚ a.ymin) �
 abbrev pub sides_of : Area → Point → Sides
 sides_of a p = record { left = p.x -ℚ a.xmin; right = p.x -ℚ a.xmax; low = p.y -ℚ a.ymin; high = p.y -ℚ a.ymax }
 
--- the linear functions that are these differences at one end, and those at the other
+-- the linear functions with these differences at one end, and those at the other
 abbrev pub ends_of_sides : Sides → Sides → List Ends
 ends_of_sides from to =
     record { at_lower = from.left; at_upper = to.left }
@@ -33,7 +33,7 @@ ends_of_sides from to =
     ∷ record { at_lower = from.high; at_upper = to.high }
     ∷ []
 
--- the linear functions that are these differences on the way from p to q
+-- the linear functions of these differences along the segment from p to q
 abbrev pub area_ends : Area → Point → Point → List Ends
 area_ends a p q =
     record { at_lower = p.x -ℚ a.xmin; at_upper = q.x -ℚ a.xmin }

@@ -1,4 +1,5 @@
--- What is left of a slice on pieces of its span, and a piece before and behind an instant.
+-- The parts of a slice kept on pieces of its span, and the parts of a piece before and after an
+-- instant.
 use Rattle.std.specs.Prelude.{◌≡◌, Bool, true, cond, not, ◌||◌, ◌&&◌, ◌++◌, List, [], Option, Some, None, MatchOption, Result, Vec}
 use Rattle.std.specs.declared.alloc.Global.{Global}
 use Rattle.mob_ratio.specs.Ratio.{Ratio}
@@ -10,23 +11,24 @@ use Rattle.mob_slice.specs.Sides.{at_ends}
 use Rattle.mob_slice.specs.Cut.{slice_value, slice_parts}
 use Rattle.mob_slice.specs.Lines.{plane_value_of, plane_parts_of}
 use Rattle.mob_slice.specs.Entries.{Entry}
-use Rattle.mob_slice.specs.declared.formula.OpFault.{OpFault}
+use Rattle.mob_list.specs.declared.fault.Fault.{Fault}
 use Rattle.mob_slice.specs.declared.slice.Slice.{Slice}
 use Rattle.mob_slice.specs.declared.line.PlaneLine.{PlaneLine}
 use Rattle.mob_lifted.specs.OnPiece.{AreKeptOn, IsKeptBy}
 use Rattle.mob_cells.specs.Restricted.{kept_where}
 use Rattle.mob_plane.specs.declared.point.Point.{Point}
 use Rattle.mob_plane.specs.declared.edges.Tally.{Tally}
+use Rattle.mob_slice.specs.declared.formula.Formula.{Formula}
 
--- the point is inside the polygon, by what is known of it
+-- the point is inside the polygon, by its tally
 abbrev pub is_known_in : Tally → Bool
 is_known_in t = t.on || t.odd
 
--- the span, where it has an instant
+-- the span, if it has an instant
 abbrev pub some_span : SpanOf → Option SpanOf
 some_span r = cond (has_instant r) (Some r) None
 
--- what of c is before r, with r where it is included, and what is behind
+-- the part of c before r, including r if `included` is true, and the part after it
 abbrev pub left_span : SpanOf → Ratio → Bool → SpanOf
 left_span c r included = cond (before c.upper r) c (record { lower = c.lower; upper = r; lower_inc = c.lower_inc; upper_inc = included && (before r c.upper || c.upper_inc) })
 
@@ -41,25 +43,25 @@ abbrev pub right_piece : Option SpanOf → Ratio → Bool → Option SpanOf
 right_piece None r included = None
 right_piece (Some c) r included = some_span (right_span c r included)
 
--- the slice has the piece, if there is one, and its values at the ends of the piece fit
+-- the slice contains the piece, if any, and its values at the ends of the piece fit
 abbrev pub IsOnSlice : Slice PlaneLine → Option SpanOf → Type 0
 IsOnSlice s piece = MatchOption piece (Unit {0}) (λ r. (is_inside s.span r ≡ true) × AllFit (at_ends (slice_parts plane_parts_of s) r))
 
--- the slices are all of s on the piece, or nothing
+-- the slices are all of s on the piece, or none
 abbrev pub AreAllOrNothing : Slice PlaneLine → Bool → Option SpanOf → List (Slice PlaneLine) → Type 0
 AreAllOrNothing s keeps None v = v ≡ []
 AreAllOrNothing s keeps (Some r) v = AreKeptOn plane_value_of (λ c. c.from) (λ c. c.to) (λ t. cond keeps (Some (slice_value plane_value_of s t)) None) r v
 
--- What of s is before r on the piece, or nothing, is added to the list, and what of the piece is
--- behind r is left.
+-- The part of s before r on the piece, or nothing, is appended to the list, and the part of the
+-- piece after r is left.
 abbrev pub IsPushedBefore : Slice PlaneLine → Bool → Option SpanOf → Ratio → Bool → List (Slice PlaneLine) → List (Slice PlaneLine) → Option SpanOf → Type 0
 IsPushedBefore s keeps piece r included old new rest = (rest ≡ right_piece piece r included) × (v : List (Slice PlaneLine)) × (new ≡ old ++ v) × AreAllOrNothing s keeps (left_piece piece r included) v
 
--- the slices are what is left of s on the span r, where the instant and the point meet a condition
--- or do not, as is wanted
+-- the slices are the part of s on the span r on which the instant and the point meet a condition
+-- (or do not, if `want` is false)
 abbrev pub AreKeptInPlane : Bool → (Ratio → Point → Bool) → Slice PlaneLine → SpanOf → List (Slice PlaneLine) → Type 0
 AreKeptInPlane want meets s r v = AreKeptOn plane_value_of (λ c. c.from) (λ c. c.to) (kept_where plane_value_of want meets s) r v
 
--- so is an answer where every entry fits; else it is the formula of the first that does not
-abbrev pub IsKeptInPlane : Bool → (Ratio → Point → Bool) → Slice PlaneLine → SpanOf → List Entry → Result (Vec (Slice PlaneLine) Global) OpFault → Type 0
+-- that is the result if every entry fits; otherwise it is the formula of the first that does not
+abbrev pub IsKeptInPlane : Bool → (Ratio → Point → Bool) → Slice PlaneLine → SpanOf → List Entry → Result (Vec (Slice PlaneLine) Global) (Fault Formula) → Type 0
 IsKeptInPlane want meets s r entries result = IsKeptBy plane_value_of (λ c. c.from) (λ c. c.to) (λ v. v.items) (kept_where plane_value_of want meets s) r entries result

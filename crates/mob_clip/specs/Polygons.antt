@@ -1,4 +1,4 @@
--- The formulas of a restriction by a polygon, and when a moving point is ever inside one.
+-- The formulas of a restriction by a polygon, and whether a moving point is ever inside one.
 use Rattle.std.specs.Prelude.{◌≡◌, Bool, true, List, [], ◌∷◌, Some}
 use Rattle.std.specs.List.{flat_map}
 use Rattle.mob_ratio.specs.Ratio.{Ratio, ◌-ℚ◌}
@@ -22,12 +22,12 @@ use Rattle.mob_cells.specs.Kept.{entries_of_cuts}
 abbrev pub edge_parts : Point → Point × Point → List Ratio
 edge_parts p e = (p.x -ℚ e.0.x) ∷ (p.x -ℚ e.1.x) ∷ (p.y -ℚ e.0.y) ∷ (p.y -ℚ e.1.y) ∷ []
 
--- the same of all edges, so to each point of each ring
+-- the same for all edges, and so for each point of each ring
 abbrev pub edges_parts : Point → List (Point × Point) → List Ratio
 edges_parts p es = flat_map (edge_parts p) es
 
--- the linear functions by whose signs a point on the way from p to q lies to an edge: its turn with
--- it, and its differences to the two ends of the edge
+-- the linear functions whose signs give the position, relative to an edge, of a point on the
+-- segment from p to q: its turn, and its differences to the two ends of the edge
 abbrev pub edge_ends : Point → Point → Point × Point → List Ends
 edge_ends p q e =
     record { at_lower = turn e.0 e.1 p; at_upper = turn e.0 e.1 q }
@@ -41,7 +41,7 @@ abbrev pub edges_ends : Point → Point → List (Point × Point) → List Ends
 edges_ends p q es = flat_map (edge_ends p q) es
 
 -- The entries of one slice: F2, the differences of its positions at its two ends to both ends of
--- each edge, then F4, their turns with each edge, then F3, the roots of all of these on the slice,
+-- each edge, then F4, their turns from each edge, then F3, the roots of all of these on the slice,
 -- then F1, the values of the slice at these roots.
 abbrev pub entries_of_edges : List (Point × Point) → Slice PlaneLine → List Entry
 entries_of_edges es s =
@@ -52,7 +52,7 @@ entries_of_edges es s =
 abbrev pub entries_of_polygon : List (List Point) → Slice PlaneLine → List Entry
 entries_of_polygon rings s = entries_of_edges (all_edges rings) s
 
--- by the signs of its turns and differences the position is inside the polygon of these edges
+-- by the signs of its turns and differences, the position is inside the polygon of these edges
 abbrev pub is_inside_edges : List (Point × Point) → Point → Bool
 is_inside_edges es p = inside_by (signs_to es p)
 

@@ -30,11 +30,12 @@ place s f = record { ends = f; root = root_of s f }
 abbrev pub place_edge : SpanOf → EdgeEnds → EdgePlaced
 place_edge s g = record { turn = place s g.turn; x_a = place s g.x_a; x_b = place s g.x_b; y_a = place s g.y_a; y_b = place s g.y_b }
 
--- those of an edge, on a slice
+-- the functions of an edge with their roots, on a slice
 abbrev pub placed_edge : Slice PlaneLine → Point × Point → EdgePlaced
 placed_edge s e = place_edge s.span (with_turn s.course.from s.course.to (beside s.course.from s.course.to e))
 
--- each root is that of its function on the span, which has equal ends on a span of one instant
+-- each root is that of its function on the span, and the function has equal ends on a span of one
+-- instant
 pub record IsPlacedEdge (s : SpanOf) (g : EdgePlaced) : Type 0 where
   pub turn : IsPlaced s g.turn
   pub x_a : IsPlaced s g.x_a
@@ -65,7 +66,7 @@ pub record CutsFit (parts : Ratio → List Ratio) (g : EdgePlaced) : Type 0 wher
 abbrev pub parts_at_roots : Slice PlaneLine → List EdgePlaced → List Ratio
 parts_at_roots s edges = flat_map (slice_parts plane_parts_of s) (flat_map edge_roots edges)
 
--- the edges with their functions and roots on a slice, where every entry fits, and so F1 at each
+-- the edges with their functions and roots on a slice, if every entry fits, including F1 at each
 -- root
 abbrev pub ArePlacedOn : Slice PlaneLine → List (Point × Point) → List EdgePlaced → Type 0
 ArePlacedOn s edges v = (v ≡ map (placed_edge s) edges) × IsFirst (entries_of_edges edges s) None × AllByRecursion (CutsFit (slice_parts plane_parts_of s)) v

@@ -1,4 +1,4 @@
--- How a point on a straight way, from p to q, lies to edges.
+-- The position, relative to edges, of a point on the segment from p to q.
 use Rattle.std.specs.Prelude.{◌≡◌, List, [], ◌∷◌, ◌++◌}
 use Rattle.mob_ratio.specs.Ratio.{Ratio, ◌-ℚ◌, ◌*ℚ◌}
 use Rattle.mob_frac.specs.Formula.{AllFit}
@@ -23,18 +23,18 @@ beside p q e = record { edge = e; to_a = to_point p q e.0; to_b = to_point p q e
 abbrev pub beside_parts : Point → Point → Point × Point → List Ratio
 beside_parts p q e = point_parts p q e.0 ++ point_parts p q e.1
 
--- the differences to the first end of an edge are those of the way from p to q, and fit
+-- the differences to the first end of the edge are those of the segment from p to q, and fit
 abbrev pub IsBeside : Point → Point → Beside → Type 0
 IsBeside p q b = (b.to_a ≡ to_point p q b.edge.0) × AllFit (point_parts p q b.edge.0)
 
--- the turn of a vector with another, and its parts of F4
+-- the cross product of two vectors, and its parts of F4
 abbrev pub turned_by : Ratio → Ratio → Ratio → Ratio → Ratio
 turned_by along rise across up = along *ℚ up -ℚ rise *ℚ across
 
 abbrev pub turned_parts : Ratio → Ratio → Ratio → Ratio → List Ratio
 turned_parts along rise across up = (along *ℚ up) ∷ (rise *ℚ across) ∷ (along *ℚ up -ℚ rise *ℚ across) ∷ []
 
--- the turns with an edge, and their parts of F4
+-- the turns from an edge, and their parts of F4
 abbrev pub turning : Point → Point → Point × Point → Ends
 turning p q e = record { at_lower = turn e.0 e.1 p; at_upper = turn e.0 e.1 q }
 

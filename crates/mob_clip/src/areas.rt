@@ -1,4 +1,4 @@
-//! A moving point and a closed rectangle.
+//! The part of a moving point inside a closed rectangle.
 
 ghost use Rattle.mob_slice.specs.declared.formula.Formula.TheVariants.{F2};
 ghost use Rattle.mob_slice.specs.Entries.{IsMadeBy};
@@ -15,8 +15,9 @@ ghost use Rattle.mob_clip.specs.Pieces.{IsKeptInPlane};
 
 use mob_cells::{Ends, Test, kept};
 use mob_frac::{Frac, Overflow};
+use mob_list::fault::Fault;
 use mob_plane::Point;
-use mob_slice::{Course, Formula, OpFault, PlaneLine, Slice};
+use mob_slice::{Course, Formula, PlaneLine, Slice};
 use mob_span::Span;
 use mob_stbox::Area;
 use std::alloc::{AllocError, Global};
@@ -31,7 +32,7 @@ pub struct Sides {
     high: Frac,
 }
 
-// The differences to the sides.
+// The differences to the sides. It is `Overflow` exactly if one does not fit.
 fn to_sides(area: &Area, p: &Point) -> Result<Sides, Overflow>
     ensures value { IsFormula (area_parts area.now p.now) (sides_of area.now p.now) result }
 {
@@ -47,24 +48,18 @@ fn to_sides(area: &Area, p: &Point) -> Result<Sides, Overflow>
     })
 }
 
-// The linear functions by whose signs a point on the way from `p` to `q` is in the area.
-fn functions(alloc: Global, area: &Area, p: &Point, q: &Point) -> Result<Vec<Ends>, OpFault>
+// The linear functions whose signs say whether a point on the segment from `p` to `q` is in the
+// area.
+fn functions(alloc: Global, area: &Area, p: &Point, q: &Point) -> Result<Vec<Ends>, Fault<Formula>>
     ensures functions { IsMadeBy F2 (area_parts area.now p.now ++ area_parts area.now q.now) (λ v. v.items ≡ area_ends area.now p.now q.now) result }
 {
     let Ok(from) = to_sides(area, p) else {
-        return Err(OpFault::Passed {
-            formula: Formula::F2,
-        });
+        return Err(Fault::Because(Formula::F2));
     };
     let Ok(to) = to_sides(area, q) else {
-        return Err(OpFault::Passed {
-            formula: Formula::F2,
-        });
+        return Err(Fault::Because(Formula::F2));
     };
-    match functions_of(alloc, &from, &to) {
-        Ok(functions) => Ok(functions),
-        Err(_) => Err(OpFault::NoMemory),
-    }
+    Ok(functions_of(alloc, &from, &to)?)
 }
 
 // The four linear functions with these differences at the two ends.
@@ -112,15 +107,18 @@ impl Test for InArea {
     }
 }
 
-/// What is left of a slice on a piece of its span, which is given as a slice too, where being in
-/// the area has the wanted truth value.
+/// The part of a slice on a piece of its span, given as a slice too, on which being in the area has
+/// the wanted result.
+///
+/// The fault names the formula of the first entry that does not fit: F2, the differences to the
+/// sides at the ends of the piece, then F3, their roots, then F1 at these roots.
 pub fn in_area_on(
     alloc: Global,
     slice: &Slice<PlaneLine>,
     part: &Slice<PlaneLine>,
     area: &Area,
     want: bool,
-) -> Result<Vec<Slice<PlaneLine>>, OpFault>
+) -> Result<Vec<Slice<PlaneLine>>, Fault<Formula>>
     requires holds { IsSound (λ c. c.from) (λ c. c.to) slice.now × (is_inside slice.now.span part.now.span ≡ true) }
     requires ends { AllFit (at_ends (slice_parts plane_parts_of slice.now) part.now.span) }
     requires part { HasValues plane_value_of (λ c. c.from) (λ c. c.to) (slice_value plane_value_of slice.now) part.now.span part.now }

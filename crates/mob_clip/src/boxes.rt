@@ -1,4 +1,4 @@
-//! A moving point and a box.
+//! The part of a moving point inside a box.
 
 ghost use Rattle.std.specs.Prelude.{◌≡◌, true, false, ◌&&◌, Option, Some, None, MatchResult, IfOk};
 ghost use Rattle.std.specs.List.{flat_map};
@@ -18,21 +18,21 @@ ghost use Rattle.mob_clip.specs.Pieces.{some_span, IsKeptInPlane};
 use crate::areas::in_area_on;
 use crate::pieces::piece_on;
 use mob_cells::{Restriction, append, listed, restricted};
+use mob_list::fault::Fault;
 use mob_normal::normal;
-use mob_slice::{Moving, OpFault, PlaneLine, Slice, cut, operator_fault};
+use mob_slice::{Formula, Moving, PlaneLine, Slice, cut};
 use mob_span::{Span, same_bool};
 use mob_stbox::{Area, StBox};
 use std::alloc::Global;
 
-// What is left of a slice on a piece of its span, where being in the space has the wanted truth
-// value.
+// The part of a slice on a piece of its span on which being in the space has the wanted result.
 fn in_space_on(
     alloc: Global,
     slice: &Slice<PlaneLine>,
     part: Slice<PlaneLine>,
     space: &Option<Area>,
     want: bool,
-) -> Result<Vec<Slice<PlaneLine>>, OpFault>
+) -> Result<Vec<Slice<PlaneLine>>, Fault<Formula>>
     requires holds { IsSound (λ c. c.from) (λ c. c.to) slice.now × (is_inside slice.now.span part.span ≡ true) }
     requires ends { AllFit (at_ends (slice_parts plane_parts_of slice.now) part.span) }
     requires part { HasValues plane_value_of (λ c. c.from) (λ c. c.to) (slice_value plane_value_of slice.now) part.span part }
@@ -44,7 +44,7 @@ fn in_space_on(
     }
 }
 
-// What of a span comes before a piece of it.
+// The part of a span before a piece of it.
 fn front(span: &Span, part: &Span) -> Option<Span>
     ensures span { result ≡ some_span (front_span span.now part.now) }
 {
@@ -56,7 +56,7 @@ fn front(span: &Span, part: &Span) -> Option<Span>
     )
 }
 
-// What of a span comes after a piece of it.
+// The part of a span after a piece of it.
 fn back(span: &Span, part: &Span) -> Option<Span>
     ensures span { result ≡ some_span (back_span span.now part.now) }
 {
@@ -68,49 +68,37 @@ fn back(span: &Span, part: &Span) -> Option<Span>
     )
 }
 
-// What is left of a slice: some slices on a piece of it, and what is left around that piece, which
-// lies outside of the time.
+// The kept parts of a slice: the given slices on a piece of it, and the parts around that piece,
+// which lie outside the time.
 fn around(
     alloc: Global,
     slice: &Slice<PlaneLine>,
     part: &Span,
     middle: Vec<Slice<PlaneLine>>,
     want: bool,
-) -> Result<Vec<Slice<PlaneLine>>, OpFault>
+) -> Result<Vec<Slice<PlaneLine>>, Fault<Formula>>
     requires holds { IsSound (λ c. c.from) (λ c. c.to) slice.now × (is_inside slice.now.span part.now ≡ true) }
     requires ends { AllFit (at_ends (slice_parts plane_parts_of slice.now) part.now) }
-    ensures around { MatchResult result (λ v. AreAround slice.now want part.now middle.items v.items) (λ e. e ≡ OpFault.NoMemory) }
+    ensures around { MatchResult result (λ v. AreAround slice.now want part.now middle.items v.items) (λ e. e ≡ Fault.NoMemory) }
 {
-    // A call of a method tells the proof what holds of every span.
+    // A method call gives the proof the invariant of a span.
     let _ = part.lower();
     let outside = same_bool(want, false);
-    let mut out = match piece_on(alloc, slice, front(&slice.span, part), outside) {
-        Ok(out) => out,
-        Err(fault) => return Err(fault),
-    };
-    let more = match piece_on(alloc, slice, back(&slice.span, part), outside) {
-        Ok(more) => more,
-        Err(fault) => return Err(fault),
-    };
-    match append(&mut out, middle) {
-        Ok(()) => {}
-        Err(_) => return Err(OpFault::NoMemory),
-    }
-    match append(&mut out, more) {
-        Ok(()) => {}
-        Err(_) => return Err(OpFault::NoMemory),
-    }
+    let mut out = piece_on(alloc, slice, front(&slice.span, part), outside)?;
+    let more = piece_on(alloc, slice, back(&slice.span, part), outside)?;
+    append(&mut out, middle)?;
+    append(&mut out, more)?;
     Ok(out)
 }
 
-// What is left of a slice beside a span of time.
+// The kept parts of a slice, by a span of time and the space.
 fn in_time_on(
     alloc: Global,
     slice: &Slice<PlaneLine>,
     time: &Span,
     space: &Option<Area>,
     want: bool,
-) -> Result<Vec<Slice<PlaneLine>>, OpFault>
+) -> Result<Vec<Slice<PlaneLine>>, Fault<Formula>>
     requires sound { IsSound (λ c. c.from) (λ c. c.to) slice.now }
     ensures kept { IsKeptInPlane want (λ t p. in_space space.now p && has time.now t) slice.now slice.now.span (entries_in_time (Some time.now) space.now slice.now) result }
 {
@@ -120,7 +108,7 @@ fn in_time_on(
     };
     let part = match cut(alloc, slice, &shared) {
         Ok(part) => part,
-        Err(fault) => return Err(operator_fault(fault)),
+        Err(fault) => return Err(fault),
     };
     let middle = match in_space_on(alloc, slice, part, space, want) {
         Ok(middle) => middle,
@@ -129,7 +117,7 @@ fn in_time_on(
     around(alloc, slice, &shared, middle, want)
 }
 
-// A copy of the slice, which takes no memory.
+// Copies the slice. It does not allocate.
 fn whole(slice: &Slice<PlaneLine>) -> Slice<PlaneLine>
     requires sound { IsSound (λ c. c.from) (λ c. c.to) slice.now }
     ensures whole { HasValues plane_value_of (λ c. c.from) (λ c. c.to) (slice_value plane_value_of slice.now) slice.now.span result }
@@ -166,7 +154,7 @@ impl<'a> Restriction<PlaneLine> for ToBox<'a> {
         alloc: Global,
         slice: &Slice<PlaneLine>,
         want: bool,
-    ) -> Result<Vec<Slice<PlaneLine>>, OpFault> {
+    ) -> Result<Vec<Slice<PlaneLine>>, Fault<Formula>> {
         let space = space_of(self.to);
         match self.to.time() {
             Some(time) => in_time_on(alloc, slice, time, &space, want),
@@ -175,49 +163,46 @@ impl<'a> Restriction<PlaneLine> for ToBox<'a> {
     }
 }
 
-// The restriction to the instants at which being in the box has the wanted truth value.
+// The restriction to the instants at which being in the box has the wanted result.
 fn to_box(
     alloc: Global,
     a: &Moving<PlaneLine>,
     b: &StBox,
     want: bool,
-) -> Result<Option<Moving<PlaneLine>>, OpFault>
+) -> Result<Option<Moving<PlaneLine>>, Fault<Formula>>
     ensures value { IfOk result (λ r. IsRestricted plane_value_of want (in_box b.now) a.now r) }
     ensures first { IsJudged (flat_map (entries_of_box b.now) a.now) result }
 {
     let slices = restricted::<PlaneLine, ToBox<'_>>(alloc, a.slices(), &ToBox { to: b }, want)?;
-    match normal(alloc, slices) {
-        Ok(value) => Ok(value),
-        Err(_) => Err(OpFault::NoMemory),
-    }
+    Ok(normal(alloc, slices)?)
 }
 
-/// The moving point at the instants at which it is in the box. None exactly where there is no such
-/// instant.
+/// The moving point at the instants at which it is in the box. `None` exactly if no such instant
+/// exists.
 ///
-/// `Passed` names the formula of the first entry that has a part that does not fit: on each slice
-/// that shares an instant with the time of the box F1 at the ends of what they share, then F2, the
-/// differences to the sides there, then F3, their roots, then F1 at these roots.
+/// The fault names the formula of the first entry that has a part that does not fit: on each slice
+/// that shares an instant with the time of the box, F1 at the ends of their intersection, then F2,
+/// the differences to the sides there, then F3, their roots, then F1 at these roots.
 pub fn at_box(
     alloc: Global,
     a: &Moving<PlaneLine>,
     b: &StBox,
-) -> Result<Option<Moving<PlaneLine>>, OpFault>
+) -> Result<Option<Moving<PlaneLine>>, Fault<Formula>>
     ensures value { IfOk result (λ r. IsRestricted plane_value_of true (in_box b.now) a.now r) }
     ensures first { IsJudged (flat_map (entries_of_box b.now) a.now) result }
 {
     to_box(alloc, a, b, true)
 }
 
-/// The moving point at the instants at which it is not in the box. None exactly where there is no
-/// such instant.
+/// The moving point at the instants at which it is not in the box. `None` exactly if no such
+/// instant exists.
 ///
-/// `Passed` is that of `at_box`: the formulas are the same, whatever is left.
+/// The fault is that of `at_box`: the formulas are the same, whatever is kept.
 pub fn minus_box(
     alloc: Global,
     a: &Moving<PlaneLine>,
     b: &StBox,
-) -> Result<Option<Moving<PlaneLine>>, OpFault>
+) -> Result<Option<Moving<PlaneLine>>, Fault<Formula>>
     ensures value { IfOk result (λ r. IsRestricted plane_value_of false (in_box b.now) a.now r) }
     ensures first { IsJudged (flat_map (entries_of_box b.now) a.now) result }
 {

@@ -6,7 +6,7 @@ ghost use Rattle.mob_plane.specs.Rings.{rings_of, edges, all_edges};
 use mob_plane::Point;
 use std::alloc::{AllocError, Global};
 
-// Adds the edges of a ring, from each of its points to the next.
+// Appends the edges of a ring, from each of its points to the next.
 fn push_edges(out: &mut Vec<(Point, Point)>, ring: &[Point]) -> Result<(), AllocError>
     ensures pushed { OnOk result (out.new.items ≡ out.old.items ++ edges ring.now) }
 {
@@ -18,8 +18,8 @@ fn push_edges(out: &mut Vec<(Point, Point)>, ring: &[Point]) -> Result<(), Alloc
     Ok(())
 }
 
-/// The edges of all rings, each as its two ends, ring by ring. A ring that does not close by itself
-/// has no edge from its last point to its first. The one error is a failed allocation.
+/// The edges of all rings, each as its two ends, ring by ring. A ring whose points do not close has
+/// no edge from its last point to its first. The only error is a failed allocation.
 pub fn edges_of(alloc: Global, rings: &[Vec<Point>]) -> Result<Vec<(Point, Point)>, AllocError>
     ensures edges { IfOk result (λ v. v.items ≡ all_edges (rings_of rings.now)) }
 {

@@ -1,4 +1,4 @@
-//! Restriction of moving points to boxes and to polygons, and whether they are ever inside one.
+//! Restriction of moving points to boxes and polygons, and whether they are ever inside a polygon.
 #![tactic(auto)]
 
 mod areas;

@@ -21,30 +21,30 @@ use mob_span::Span;
 use std::alloc::{AllocError, Global};
 use std::cmp::Ordering;
 
-/// The sign of a linear function on a span: in front of the instant at which it is 0, and behind
-/// it; or one sign, if there is no such instant alone.
+/// The sign of a linear function on a span: before and after the only instant at which it is 0, or
+/// one sign if no such instant exists.
 #[derive(Clone, Copy, Drop)]
 pub struct SignChange {
-    /// In front.
+    /// The sign before it.
     pub first: Ordering,
     /// The instant.
     pub at: Option<Frac>,
-    /// Behind.
+    /// The sign after it.
     pub behind: Ordering,
 }
 
 /// One of the signs of an edge.
 #[derive(Clone, Copy, PartialEq, Eq)]
 pub enum EdgeSign {
-    /// That of the turn.
+    /// The sign of the turn.
     Turn,
-    /// That of the difference in x to the first end.
+    /// The sign of the difference in x to the first end.
     XA,
-    /// That of the difference in x to the second end.
+    /// The sign of the difference in x to the second end.
     XB,
-    /// That of the difference in y to the first end.
+    /// The sign of the difference in y to the first end.
     YA,
-    /// That of the difference in y to the second end.
+    /// The sign of the difference in y to the second end.
     YB,
 }
 
@@ -73,7 +73,7 @@ impl Mix for Tally {
     }
 }
 
-// One of two signs, of which one at least is Equal.
+// One of two signs, at least one of which is Equal.
 fn known_sign(a: Ordering, b: Ordering) -> Ordering
     ensures value { result ≡ known_sign a b }
 {
@@ -84,7 +84,7 @@ fn known_sign(a: Ordering, b: Ordering) -> Ordering
     }
 }
 
-// The sign of a function that has no root strictly inside the span, and ends with these signs.
+// The sign of a function that has no root strictly inside the span and has these signs at its ends.
 fn without_root(span: &Span, lower: Ordering, upper: Ordering) -> SignChange
     ensures change { result ≡ ends_change span.now lower upper }
 {
@@ -134,7 +134,7 @@ fn change_of(span: &Span, placed: &Placed) -> SignChange
     }
 }
 
-// The signs of an edge, of which one is known.
+// The signs of an edge, one of which is known.
 fn one_known(which: EdgeSign, sign: Ordering) -> EdgeSigns
     ensures value { result ≡ one_known which sign }
 {
@@ -232,7 +232,7 @@ fn edge_signs(alloc: Global, span: &Span, edge: &EdgePlaced) -> Result<Steps<Edg
     merged(alloc, &turn, &ends)
 }
 
-// What is known of a point by one edge.
+// The tally of a point by one edge.
 fn edge_tally(signs: &EdgeSigns) -> Tally
     ensures value { result ≡ edge_tally signs.now }
 {
@@ -245,7 +245,7 @@ fn edge_tally(signs: &EdgeSigns) -> Tally
     )
 }
 
-// What is known of a point by one edge, at each step of the edge's signs.
+// The tally of a point by one edge, at each step of the edge's signs.
 fn tallied(alloc: Global, signs: &Steps<EdgeSigns>) -> Result<Steps<Tally>, AllocError>
     ensures tallied { IfOk result (λ s. (s.first ≡ edge_tally signs.now.first) × (s.changes.items ≡ map tally_change signs.now.changes.items)) }
 {
@@ -264,7 +264,7 @@ fn tallied(alloc: Global, signs: &Steps<EdgeSigns>) -> Result<Steps<Tally>, Allo
     })
 }
 
-// What is known of a point by one edge, on a span.
+// The tally of a point by one edge, on a span.
 fn edge_steps(alloc: Global, span: &Span, edge: &EdgePlaced) -> Result<Steps<Tally>, AllocError>
     requires placed { IsPlacedEdge span.now edge.now }
     ensures values { IfOk result (λ s. (t : Ratio) → has span.now t ≡ true → steps_at s t ≡ edge_tally (signs_on span.now t edge.now)) }
@@ -274,7 +274,7 @@ fn edge_steps(alloc: Global, span: &Span, edge: &EdgePlaced) -> Result<Steps<Tal
     tallied(alloc, &signs)
 }
 
-// What is known of a point by each edge.
+// The tally of a point by each edge.
 fn each_edge(
     alloc: Global,
     span: &Span,
@@ -284,7 +284,7 @@ fn each_edge(
     ensures values { IfOk result (λ v. (t : Ratio) → has span.now t ≡ true → map (λ s. steps_at s t) v.items ≡ map (λ g. edge_tally (signs_on span.now t g)) edges.now) }
     ensures fit { IfOk result (λ v. WhereEndsFit span.now (λ parts. AllByRecursion (CutsFit parts) edges.now → AllByRecursion (λ s. ChangesFit parts s.changes.items) v.items)) }
 {
-    // A call of a method tells the proof what holds of every span.
+    // A method call gives the proof the invariant of a span.
     let _lower = span.lower();
     let mut out = Vec::new(alloc);
     for edge in edges {
@@ -294,7 +294,7 @@ fn each_edge(
     Ok(out)
 }
 
-// Nothing is known.
+// The tally of no edges.
 fn nothing(alloc: Global) -> Steps<Tally>
     ensures nothing { (result.first ≡ tally_all []) × (result.changes.items ≡ []) }
 {
@@ -307,8 +307,8 @@ fn nothing(alloc: Global) -> Steps<Tally>
     }
 }
 
-// What is known of a point by all edges together: halves are taken together, so that each change is
-// seen as often as there are halves above it.
+// The tally of a point by all edges. Halves are merged recursively, so each change is visited once
+// for each level of halves above it.
 fn together(alloc: Global, edges: &[Steps<Tally>]) -> Result<Steps<Tally>, AllocError>
     ensures values { IfOk result (λ s. (t : Ratio) → steps_at s t ≡ tally_all (map (λ e. steps_at e t) edges.now)) }
     ensures fit { IfOk result (λ s. (parts : Ratio → List Ratio) → AllByRecursion (λ e. ChangesFit parts e.changes.items) edges.now → ChangesFit parts s.changes.items) }
@@ -325,9 +325,9 @@ fn together(alloc: Global, edges: &[Steps<Tally>]) -> Result<Steps<Tally>, Alloc
     }
 }
 
-/// What is known of a moving point on a span by all edges: whether it lies on one, and whether it
-/// is odd how many pass its height to the right of it. Changes stand at roots of the functions of
-/// the edges, or at ends of the span.
+/// The tally of a moving point on a span by all edges: whether it lies on one, and whether the
+/// number of edges that cross its height to the right of it is odd. Changes are at roots of the
+/// functions of the edges, or at ends of the span. The only error is a failed allocation.
 pub fn membership(
     alloc: Global,
     span: &Span,

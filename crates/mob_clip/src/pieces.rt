@@ -1,4 +1,4 @@
-//! What is left of a slice on pieces of its span, and between the changes of a walk.
+//! The parts of a slice kept on pieces of its span, and between the changes of a walk.
 
 ghost use Rattle.std.specs.Prelude.{◌≡◌, ◌++◌, List, true, false, MatchResult};
 ghost use Rattle.mob_frac.specs.Formula.{AllFit};
@@ -14,21 +14,22 @@ ghost use Rattle.mob_clip.specs.Pieces.{is_known_in, some_span, left_span, right
 use crate::steps::Steps;
 use mob_cells::{append, listed};
 use mob_frac::Frac;
+use mob_list::fault::Fault;
 use mob_plane::{Tally, is_in};
-use mob_slice::{OpFault, PlaneLine, Slice, cut, operator_fault};
+use mob_slice::{Formula, PlaneLine, Slice, cut};
 use mob_span::{Span, same_bool};
 use std::alloc::Global;
 
-/// All of a slice on a piece of its span, or nothing.
+/// All of a slice on a piece of its span, or nothing. The only error is a failed allocation.
 pub fn piece_on(
     alloc: Global,
     slice: &Slice<PlaneLine>,
     piece: Option<Span>,
     keeps: bool,
-) -> Result<Vec<Slice<PlaneLine>>, OpFault>
+) -> Result<Vec<Slice<PlaneLine>>, Fault<Formula>>
     requires sound { IsSound (λ c. c.from) (λ c. c.to) slice.now }
     requires holds { IsOnSlice slice.now piece }
-    ensures whole { MatchResult result (λ v. AreAllOrNothing slice.now keeps piece v.items) (λ e. e ≡ OpFault.NoMemory) }
+    ensures whole { MatchResult result (λ v. AreAllOrNothing slice.now keeps piece v.items) (λ e. e ≡ Fault.NoMemory) }
 {
     let span = match piece {
         Some(span) => span,
@@ -36,11 +37,11 @@ pub fn piece_on(
     };
     match cut(alloc, slice, &span) {
         Ok(part) => listed(alloc, part, keeps),
-        Err(fault) => Err(operator_fault(fault)),
+        Err(fault) => Err(fault),
     }
 }
 
-// What of a span is before an instant, with that instant where it is included.
+// The part of a span before an instant, including it if `included` is true.
 fn left_of(span: &Span, r: &Frac, included: bool) -> Option<Span>
     ensures span { result ≡ some_span (left_span span.now r.now included) }
 {
@@ -51,7 +52,7 @@ fn left_of(span: &Span, r: &Frac, included: bool) -> Option<Span>
     Span::new(*span.lower(), *r, span.lower_inc(), upper_inc)
 }
 
-// What of a span is behind an instant, with that instant where it is not included before.
+// The part of a span after an instant, including it if the part before does not.
 fn right_of(span: &Span, r: &Frac, included: bool) -> Option<Span>
     ensures span { result ≡ some_span (right_span span.now r.now included) }
 {
@@ -62,8 +63,8 @@ fn right_of(span: &Span, r: &Frac, included: bool) -> Option<Span>
     Span::new(*r, *span.upper(), lower_inc, span.upper_inc())
 }
 
-// Adds what is left of a slice on what of a piece is before an instant, and gives what of the piece
-// is behind it.
+// Appends the part of the slice on the piece before `r`, if it is kept, and returns the rest of the
+// piece.
 fn push_before(
     alloc: Global,
     slice: &Slice<PlaneLine>,
@@ -72,67 +73,59 @@ fn push_before(
     r: &Frac,
     included: bool,
     keeps: bool,
-) -> Result<Option<Span>, OpFault>
+) -> Result<Option<Span>, Fault<Formula>>
     requires sound { IsSound (λ c. c.from) (λ c. c.to) slice.now }
     requires holds { IsOnSlice slice.now piece }
     requires fits { AllFit (slice_parts plane_parts_of slice.now r.now) }
-    ensures pushed { MatchResult result (IsPushedBefore slice.now keeps piece r.now included out.old.items out.new.items) (λ e. e ≡ OpFault.NoMemory) }
+    ensures pushed { MatchResult result (IsPushedBefore slice.now keeps piece r.now included out.old.items out.new.items) (λ e. e ≡ Fault.NoMemory) }
 {
     let span = match piece {
         Some(span) => span,
         None => return Ok(None),
     };
-    let more = match piece_on(alloc, slice, left_of(&span, r, included), keeps) {
-        Ok(more) => more,
-        Err(fault) => return Err(fault),
-    };
-    if append(out, more).is_err() {
-        return Err(OpFault::NoMemory);
-    }
+    let more = piece_on(alloc, slice, left_of(&span, r, included), keeps)?;
+    append(out, more)?;
     Ok(right_of(&span, r, included))
 }
 
-// Adds what is left of a slice on a last piece.
+// Appends the part of a slice on a last piece, if it is kept.
 fn finish(
     alloc: Global,
     slice: &Slice<PlaneLine>,
     out: Vec<Slice<PlaneLine>>,
     piece: Option<Span>,
     keeps: bool,
-) -> Result<Vec<Slice<PlaneLine>>, OpFault>
+) -> Result<Vec<Slice<PlaneLine>>, Fault<Formula>>
     requires sound { IsSound (λ c. c.from) (λ c. c.to) slice.now }
     requires holds { IsOnSlice slice.now piece }
-    ensures all { MatchResult result (λ all. (v : List (SliceOf PlaneLineOf)) × (all.items ≡ out.items ++ v) × AreAllOrNothing slice.now keeps piece v) (λ e. e ≡ OpFault.NoMemory) }
+    ensures all { MatchResult result (λ all. (v : List (SliceOf PlaneLineOf)) × (all.items ≡ out.items ++ v) × AreAllOrNothing slice.now keeps piece v) (λ e. e ≡ Fault.NoMemory) }
 {
     let mut all = out;
-    let more = match piece_on(alloc, slice, piece, keeps) {
-        Ok(more) => more,
-        Err(fault) => return Err(fault),
-    };
+    let more = piece_on(alloc, slice, piece, keeps)?;
     match append(&mut all, more) {
         Ok(()) => Ok(all),
-        Err(_) => Err(OpFault::NoMemory),
+        Err(_) => Err(Fault::NoMemory),
     }
 }
 
-// Whether a point of which so much is known is kept.
+// Whether a point with this tally is kept.
 fn is_kept(want: bool, tally: &Tally) -> bool
     ensures value { result ≡ same_bool want (is_known_in tally.now) }
 {
     same_bool(want, is_in(tally))
 }
 
-/// What is left of a slice where what is known of it by all edges says what is wanted: its own
-/// values there, and nothing elsewhere.
+/// The parts of a slice on which its tally by all edges has the wanted result: with the slice's own
+/// values there, and none elsewhere. The only error is a failed allocation.
 pub fn kept_on(
     alloc: Global,
     slice: &Slice<PlaneLine>,
     steps: &Steps<Tally>,
     want: bool,
-) -> Result<Vec<Slice<PlaneLine>>, OpFault>
+) -> Result<Vec<Slice<PlaneLine>>, Fault<Formula>>
     requires sound { IsSound (λ c. c.from) (λ c. c.to) slice.now }
     requires fit { ChangesFit (slice_parts plane_parts_of slice.now) steps.now.changes.items }
-    ensures kept { MatchResult result (λ v. AreKeptInPlane want (λ t p. is_known_in (steps_at steps.now t)) slice.now slice.now.span v.items) (λ e. e ≡ OpFault.NoMemory) }
+    ensures kept { MatchResult result (λ v. AreKeptInPlane want (λ t p. is_known_in (steps_at steps.now t)) slice.now slice.now.span v.items) (λ e. e ≡ Fault.NoMemory) }
 {
     let mut out = Vec::new(alloc);
     let mut rest = Some(slice.span);

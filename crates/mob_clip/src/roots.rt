@@ -7,7 +7,8 @@ ghost use Rattle.mob_slice.specs.Slices.{IsSound};
 ghost use Rattle.mob_slice.specs.Computed.{IsComputed};
 ghost use Rattle.mob_slice.specs.Cut.{slice_parts};
 ghost use Rattle.mob_slice.specs.Lines.{plane_parts_of};
-ghost use Rattle.mob_slice.specs.Entries.{IsFirst, OnFormula, IsPartFault, IsMadeBy};
+ghost use Rattle.mob_list.specs.Faults.{OnCause};
+ghost use Rattle.mob_slice.specs.Entries.{IsFirst, IsPartFault, IsMadeBy};
 ghost use Rattle.mob_slice.specs.declared.formula.Formula.TheVariants.{F1, F3};
 ghost use Rattle.mob_cells.specs.Roots.{IsLevel, root_parts, roots_parts, as_list};
 ghost use Rattle.mob_clip.specs.Roots.{place, place_edge, listed_ends, edge_roots, IsBetweenEnds, IsPlacedEdge, parts_at_roots, ArePlacedOn};
@@ -16,8 +17,9 @@ ghost use Rattle.mob_clip.specs.Polygons.{entries_of_edges};
 use crate::sides::{EdgeEnds, add, besides, turned};
 use mob_cells::{Ends, Placed, root};
 use mob_frac::Frac;
+use mob_list::fault::Fault;
 use mob_plane::Point;
-use mob_slice::{Formula, LookFault, OpFault, Passed, PlaneLine, Slice, limit};
+use mob_slice::{Formula, PlaneLine, Slice, limit};
 use mob_span::Span;
 use std::alloc::{AllocError, Global};
 
@@ -37,7 +39,7 @@ pub struct EdgePlaced {
 }
 
 // A function with its root.
-fn place(span: &Span, f: &Ends) -> Result<Placed, Passed>
+fn place(span: &Span, f: &Ends) -> Result<Placed, Formula>
     requires level { IsLevel span.now f.now }
     ensures value { IsComputed F3 (root_parts span.now f.now) (place span.now f.now) result }
 {
@@ -46,7 +48,7 @@ fn place(span: &Span, f: &Ends) -> Result<Placed, Passed>
 }
 
 // The functions of an edge with their roots.
-fn place_edge(span: &Span, edge: &EdgeEnds) -> Result<EdgePlaced, Passed>
+fn place_edge(span: &Span, edge: &EdgeEnds) -> Result<EdgePlaced, Formula>
     requires level { AllByRecursion (IsLevel span.now) (listed_ends edge.now) }
     ensures value { IsComputed F3 (roots_parts span.now (listed_ends edge.now)) (place_edge span.now edge.now) result }
 {
@@ -64,33 +66,33 @@ fn place_edge(span: &Span, edge: &EdgeEnds) -> Result<EdgePlaced, Passed>
     })
 }
 
-// Adds the functions of an edge with their roots.
-fn push_placed(out: &mut Vec<EdgePlaced>, span: &Span, edge: &EdgeEnds) -> Result<(), OpFault>
+// Appends the functions of an edge with their roots.
+fn push_placed(
+    out: &mut Vec<EdgePlaced>,
+    span: &Span,
+    edge: &EdgeEnds,
+) -> Result<(), Fault<Formula>>
     requires level { AllByRecursion (IsLevel span.now) (listed_ends edge.now) }
     ensures pushed { IsMadeBy F3 (roots_parts span.now (listed_ends edge.now)) (λ _. out.new.items ≡ out.old.items ++ place_edge span.now edge.now ∷ []) result }
 {
-    // The types of what is added are named here for the proof.
+    // This names the types of the appended item for the proof.
     let _types: (Option<Placed>, Frac) = (None, edge.turn.at_lower);
     let next = match place_edge(span, edge) {
         Ok(next) => next,
         Err(passed) => {
-            return Err(OpFault::Passed {
-                formula: passed.formula,
-            });
+            return Err(Fault::Because(passed));
         }
     };
-    match add(out, next) {
-        Ok(()) => Ok(()),
-        Err(_) => Err(OpFault::NoMemory),
-    }
+    add(out, next)?;
+    Ok(())
 }
 
 // The functions of all edges with their roots.
-fn placed(alloc: Global, span: &Span, edges: &[EdgeEnds]) -> Result<Vec<EdgePlaced>, OpFault>
+fn placed(alloc: Global, span: &Span, edges: &[EdgeEnds]) -> Result<Vec<EdgePlaced>, Fault<Formula>>
     requires level { AllByRecursion (λ g. AllByRecursion (IsLevel span.now) (listed_ends g)) edges.now }
     ensures made { IsMadeBy F3 (flat_map (λ g. roots_parts span.now (listed_ends g)) edges.now) (λ v. v.items ≡ map (place_edge span.now) edges.now) result }
 {
-    // A call of a method tells the proof what holds of every span.
+    // A method call gives the proof the invariant of a span.
     let _lower = span.lower();
     let mut out = Vec::new(alloc);
     for edge in edges {
@@ -102,7 +104,7 @@ fn placed(alloc: Global, span: &Span, edges: &[EdgeEnds]) -> Result<Vec<EdgePlac
     Ok(out)
 }
 
-// Adds a root, if there is one.
+// Appends a root, if it exists.
 fn push_root(out: &mut Vec<Frac>, root: &Option<Frac>) -> Result<(), AllocError>
     ensures pushed { OnOk result (out.new.items ≡ out.old.items ++ as_list root.now) }
 {
@@ -112,7 +114,7 @@ fn push_root(out: &mut Vec<Frac>, root: &Option<Frac>) -> Result<(), AllocError>
     Ok(())
 }
 
-// Adds the roots of an edge.
+// Appends the roots of an edge.
 fn push_roots(out: &mut Vec<Frac>, edge: &EdgePlaced) -> Result<(), AllocError>
     ensures pushed { OnOk result (out.new.items ≡ out.old.items ++ edge_roots edge.now) }
 {
@@ -135,19 +137,19 @@ fn roots_of(alloc: Global, edges: &[EdgePlaced]) -> Result<Vec<Frac>, AllocError
 }
 
 // Whether the position at an instant fits.
-fn fits_at(alloc: Global, slice: &Slice<PlaneLine>, r: &Frac) -> Result<(), OpFault>
+fn fits_at(alloc: Global, slice: &Slice<PlaneLine>, r: &Frac) -> Result<(), Fault<Formula>>
     requires within { IsBetweenEnds slice.now.span r.now }
     ensures fits { MatchResult result (λ _. AllFit (slice_parts plane_parts_of slice.now r.now)) (IsPartFault F1 (slice_parts plane_parts_of slice.now r.now)) }
 {
     match limit::<PlaneLine>(alloc, slice, r) {
         Ok(_) => Ok(()),
-        Err(LookFault::Passed { formula }) => Err(OpFault::Passed { formula }),
-        Err(LookFault::NoMemory) => Err(OpFault::NoMemory),
+        Err(Fault::Because(formula)) => Err(Fault::Because(formula)),
+        Err(Fault::NoMemory) => Err(Fault::NoMemory),
     }
 }
 
 // Whether the positions at all roots fit.
-fn all_fit(alloc: Global, slice: &Slice<PlaneLine>, roots: &[Frac]) -> Result<(), OpFault>
+fn all_fit(alloc: Global, slice: &Slice<PlaneLine>, roots: &[Frac]) -> Result<(), Fault<Formula>>
     requires within { AllByRecursion (IsBetweenEnds slice.now.span) roots.now }
     ensures fits { MatchResult result (λ _. AllFit (flat_map (slice_parts plane_parts_of slice.now) roots.now)) (IsPartFault F1 (flat_map (slice_parts plane_parts_of slice.now) roots.now)) }
 {
@@ -161,26 +163,27 @@ fn all_fit(alloc: Global, slice: &Slice<PlaneLine>, roots: &[Frac]) -> Result<()
 }
 
 // Whether the positions at the roots of all edges fit.
-fn roots_fit(alloc: Global, slice: &Slice<PlaneLine>, edges: &[EdgePlaced]) -> Result<(), OpFault>
+fn roots_fit(
+    alloc: Global,
+    slice: &Slice<PlaneLine>,
+    edges: &[EdgePlaced],
+) -> Result<(), Fault<Formula>>
     requires placed { AllByRecursion (IsPlacedEdge slice.now.span) edges.now }
     ensures fits { MatchResult result (λ _. AllFit (parts_at_roots slice.now edges.now)) (IsPartFault F1 (parts_at_roots slice.now edges.now)) }
 {
-    let roots = match roots_of(alloc, edges) {
-        Ok(roots) => roots,
-        Err(_) => return Err(OpFault::NoMemory),
-    };
+    let roots = roots_of(alloc, edges)?;
     all_fit(alloc, slice, roots.as_slice())
 }
 
-/// The functions of all edges with their roots on a slice, where every entry of a restriction by
-/// these edges fits.
+/// The functions of all edges with their roots on a slice, if every entry of a restriction by these
+/// edges fits. The fault names the formula of the first entry that does not fit.
 pub fn placed_on(
     alloc: Global,
     slice: &Slice<PlaneLine>,
     edges: &[(Point, Point)],
-) -> Result<Vec<EdgePlaced>, OpFault>
+) -> Result<Vec<EdgePlaced>, Fault<Formula>>
     requires sound { IsSound (λ c. c.from) (λ c. c.to) slice.now }
-    ensures placed { MatchResult result (λ v. ArePlacedOn slice.now edges.now v.items) (OnFormula (λ g. IsFirst (entries_of_edges edges.now slice.now) (Some g))) }
+    ensures placed { MatchResult result (λ v. ArePlacedOn slice.now edges.now v.items) (OnCause (λ g. IsFirst (entries_of_edges edges.now slice.now) (Some g))) }
 {
     let p = &slice.course.from;
     let q = &slice.course.to;

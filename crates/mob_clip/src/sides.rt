@@ -1,4 +1,4 @@
-//! How a point on a straight way lies to edges: the linear functions of which the signs say so.
+//! The linear functions whose signs give the position of a point on a segment relative to edges.
 
 ghost use Rattle.mob_slice.specs.Entries.{IsMadeBy};
 ghost use Rattle.std.specs.Prelude.{◌≡◌, [], ◌∷◌, ◌++◌, map, OnOk};
@@ -10,16 +10,17 @@ ghost use Rattle.mob_slice.specs.declared.formula.Formula.TheVariants.{F2, F4};
 
 use mob_cells::Ends;
 use mob_frac::{Frac, Overflow};
+use mob_list::fault::Fault;
 use mob_plane::Point;
-use mob_slice::{Formula, OpFault};
+use mob_slice::Formula;
 use std::alloc::{AllocError, Global};
 
-/// The differences of a point on its way to another point, by coordinate.
+/// The differences of a point moving along a segment to another point, by coordinate.
 #[derive(Clone, Copy, Drop)]
 pub struct ToPoint {
-    /// To the east.
+    /// The difference to the east.
     pub x: Ends,
-    /// To the north.
+    /// The difference to the north.
     pub y: Ends,
 }
 
@@ -49,7 +50,7 @@ pub struct EdgeEnds {
     pub y_b: Ends,
 }
 
-/// Adds one more at the end.
+/// Appends an item. The only error is a failed allocation.
 pub fn add<T: Drop>(out: &mut Vec<T>, next: T) -> Result<(), AllocError>
     ensures added { OnOk result (out.new.items ≡ out.old.items ++ next ∷ []) }
 {
@@ -57,7 +58,7 @@ pub fn add<T: Drop>(out: &mut Vec<T>, next: T) -> Result<(), AllocError>
     Ok(())
 }
 
-// The differences of the way from `p` to `q` to the point `v`.
+// The differences to the point `v` along the segment from `p` to `q`.
 fn to_point(p: &Point, q: &Point, v: &Point) -> Result<ToPoint, Overflow>
     ensures value { IsFormula (point_parts p.now q.now v.now) (to_point p.now q.now v.now) result }
 {
@@ -77,7 +78,7 @@ fn to_point(p: &Point, q: &Point, v: &Point) -> Result<ToPoint, Overflow>
     })
 }
 
-// The turn of a vector with another.
+// The cross product of two vectors.
 fn turned_by(along: &Frac, rise: &Frac, across: &Frac, up: &Frac) -> Result<Frac, Overflow>
     ensures value { IsFormula (turned_parts along.now rise.now across.now up.now) (turned_by along.now rise.now across.now up.now) result }
 {
@@ -86,7 +87,7 @@ fn turned_by(along: &Frac, rise: &Frac, across: &Frac, up: &Frac) -> Result<Frac
     left.sub(&right)
 }
 
-// The turns of `p` and of `q` with an edge, by their differences to its first end.
+// The turns of `p` and of `q` from an edge, by their differences to its first end.
 fn turning(p: &Point, q: &Point, beside: &Beside) -> Result<Ends, Overflow>
     requires known { IsBeside p.now q.now beside.now }
     ensures value { IsFormula (turning_parts p.now q.now beside.now.edge) (turning p.now q.now beside.now.edge) result }
@@ -106,7 +107,7 @@ struct Known {
     to: ToPoint,
 }
 
-// The differences to a point, which are known where it is the point before.
+// The differences to a point, which are known if it is the end of the edge before.
 fn to_start(p: &Point, q: &Point, v: &Point, known: &Option<Known>) -> Result<ToPoint, Overflow>
     requires known { IsKnown p.now q.now known.now }
     ensures value { IsFormula (point_parts p.now q.now v.now) (to_point p.now q.now v.now) result }
@@ -141,14 +142,15 @@ fn with_differences(
     })
 }
 
-/// The edges with the differences to their ends, of the way from `p` to `q`. Where an edge begins
-/// at the end of the one before, it takes over the differences to it.
+/// The edges with the differences to their ends, along the segment from `p` to `q`. If an edge
+/// begins at the end of the one before, it reuses the differences to it. The fault is F2, exactly
+/// if a difference does not fit, or out of memory.
 pub fn besides(
     alloc: Global,
     edges: &[(Point, Point)],
     p: &Point,
     q: &Point,
-) -> Result<Vec<Beside>, OpFault>
+) -> Result<Vec<Beside>, Fault<Formula>>
     ensures made { IsMadeBy F2 (flat_map (beside_parts p.now q.now) edges.now) (λ v. v.items ≡ map (beside p.now q.now) edges.now) result }
 {
     let mut out = Vec::new(alloc);
@@ -157,9 +159,7 @@ pub fn besides(
         let next = match with_differences(p, q, edge, &known) {
             Ok(next) => next,
             Err(_) => {
-                return Err(OpFault::Passed {
-                    formula: Formula::F2,
-                });
+                return Err(Fault::Because(Formula::F2));
             }
         };
         known = Some(Known {
@@ -168,19 +168,20 @@ pub fn besides(
         });
         match add(&mut out, next) {
             Ok(()) => {}
-            Err(_) => return Err(OpFault::NoMemory),
+            Err(_) => return Err(Fault::NoMemory),
         }
     }
     Ok(out)
 }
 
-/// The functions of each edge, of the way from `p` to `q`.
+/// The functions of each edge, along the segment from `p` to `q`. The fault is F4, exactly if a
+/// part of a turn does not fit, or out of memory.
 pub fn turned(
     alloc: Global,
     edges: &[Beside],
     p: &Point,
     q: &Point,
-) -> Result<Vec<EdgeEnds>, OpFault>
+) -> Result<Vec<EdgeEnds>, Fault<Formula>>
     requires known { AllByRecursion (IsBeside p.now q.now) edges.now }
     ensures made { IsMadeBy F4 (flat_map (λ b. turning_parts p.now q.now b.edge) edges.now) (λ v. v.items ≡ map (with_turn p.now q.now) edges.now) result }
 {
@@ -189,9 +190,7 @@ pub fn turned(
         let turn = match turning(p, q, beside) {
             Ok(turn) => turn,
             Err(_) => {
-                return Err(OpFault::Passed {
-                    formula: Formula::F4,
-                });
+                return Err(Fault::Because(Formula::F4));
             }
         };
         let next = EdgeEnds {
@@ -203,7 +202,7 @@ pub fn turned(
         };
         match add(&mut out, next) {
             Ok(()) => {}
-            Err(_) => return Err(OpFault::NoMemory),
+            Err(_) => return Err(Fault::NoMemory),
         }
     }
     Ok(out)

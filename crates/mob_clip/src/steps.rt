@@ -1,4 +1,4 @@
-//! Values that change at some instants, and pairs of them taken together in one walk.
+//! Values that change at some instants, and the merge of two of them in one walk.
 
 ghost use Rattle.std.specs.Prelude.{◌≡◌, ◌<◌, ◌≤◌, ◌+◌, length, drop, List, IfOk};
 ghost use Rattle.mob_ratio.specs.Ratio.{Ratio};
@@ -7,37 +7,37 @@ ghost use Rattle.mob_clip.specs.Steps.{steps_at, ChangesFit, IsNextChange, mixed
 use mob_frac::Frac;
 use std::alloc::{AllocError, Global};
 
-/// A change: what stands at an instant, and behind it until the next one.
+/// A change: the value at an instant, and the value after it until the next change.
 #[derive(Clone, Copy, Drop)]
 pub struct Change<T> {
     /// The instant.
     pub at: Frac,
-    /// What stands there.
+    /// The value at the instant.
     pub there: T,
-    /// What stands behind.
+    /// The value after it.
     pub behind: T,
 }
 
-/// A value at each instant: the first one, and from each change on what stands behind it.
+/// A value at each instant: the first one, and after each change its `behind` value.
 #[derive(Drop)]
 pub struct Steps<T> {
-    /// What stands in front of the first change.
+    /// The value before the first change.
     pub first: T,
     /// The changes, in order of time.
     pub changes: Vec<Change<T>>,
 }
 
-/// Values of which two are taken together.
+/// Values that can be mixed two by two.
 pub trait Mix: Copy {
-    /// The two together.
+    /// The mix of two values.
     ghost mix: { Self → Self → Self };
 
-    /// The two together.
+    /// The mix of two values.
     fn mix(&self, other: &Self) -> Self
         ensures value { result ≡ mix self.now other.now };
 }
 
-// The next change of two walks, and where they go on: what stands on each side, and at which place.
+// The next change of two walks, and where they continue: the value and the position on each side.
 #[derive(Clone, Copy, Drop)]
 struct Met<T> {
     change: Change<T>,
@@ -47,7 +47,7 @@ struct Met<T> {
     j: usize,
 }
 
-// A change of the first walk alone.
+// A change of the first walk only.
 fn take_left<T: Mix>(x: &Change<T>, right: &T, i: usize, j: usize) -> Met<T>
     ensures met { result ≡ record { change = mixed_left T.mix x.now right.now; left = x.now.behind; right = right.now; i = i; j = j } }
 {
@@ -64,7 +64,7 @@ fn take_left<T: Mix>(x: &Change<T>, right: &T, i: usize, j: usize) -> Met<T>
     }
 }
 
-// A change of the second walk alone.
+// A change of the second walk only.
 fn take_right<T: Mix>(left: &T, y: &Change<T>, i: usize, j: usize) -> Met<T>
     ensures met { result ≡ record { change = mixed_right T.mix left.now y.now; left = left.now; right = y.now.behind; i = i; j = j } }
 {
@@ -81,7 +81,7 @@ fn take_right<T: Mix>(left: &T, y: &Change<T>, i: usize, j: usize) -> Met<T>
     }
 }
 
-// A change of both, at one instant.
+// A change of both at the same instant.
 fn take_both<T: Mix>(x: &Change<T>, y: &Change<T>, i: usize, j: usize) -> Met<T>
     ensures met { result ≡ record { change = mixed_both T.mix x.now y.now; left = x.now.behind; right = y.now.behind; i = i; j = j } }
 {
@@ -132,7 +132,7 @@ fn meet<T: Mix>(
     take_both(x, y, i + 1, j + 1)
 }
 
-/// Two of them taken together at each instant.
+/// The mix of two at each instant. The only error is a failed allocation.
 pub fn merged<T: Mix>(alloc: Global, a: &Steps<T>, b: &Steps<T>) -> Result<Steps<T>, AllocError>
     ensures values { IfOk result (λ m. (t : Ratio) → steps_at m t ≡ T.mix (steps_at a.now t) (steps_at b.now t)) }
     ensures fit { IfOk result (λ m. (parts : Ratio → List Ratio) → ChangesFit parts a.now.changes.items → ChangesFit parts b.now.changes.items → ChangesFit parts m.changes.items) }

@@ -13,16 +13,15 @@ use Rattle.mob_slice.specs.Comparison.{IsComparison, MayAsk, gap_parts}
 use Rattle.mob_slice.specs.Look.{IsLookFault}
 use Rattle.mob_slice.specs.Operands.{steady_value, steady_limit}
 use Rattle.mob_slice.specs.Sides.{SideOf, side_at, side_parts, at_ends, HasValues}
-use Rattle.mob_slice.specs.Entries.{IsFirst, IsJudged, OnFormula, operator_fault, IsPartFault}
+use Rattle.mob_list.specs.Faults.{OnCause}
+use Rattle.mob_slice.specs.Entries.{IsFirst, IsJudged, IsPartFault}
 use Rattle.mob_slice.specs.declared.slice.Slice.{Slice}
 use Rattle.mob_slice.specs.declared.steady.Steady.{Steady}
 use Rattle.mob_slice.specs.declared.comparison.Rel.{Rel}
 use Rattle.mob_slice.specs.declared.comparison.Gaps.{Gaps}
 use Rattle.mob_slice.specs.declared.formula.Formula.{Formula}
-use Rattle.mob_slice.specs.declared.formula.OpFault.{OpFault}
-use Rattle.mob_slice.specs.declared.formula.OpFault.TheVariants.{Passed, NoMemory}
-use Rattle.mob_slice.specs.declared.formula.LookFault.{LookFault}
-use Rattle.mob_slice.specs.declared.formula.LookFault.TheVariants.{Passed as LookPassed, NoMemory as LookNoMemory}
+use Rattle.mob_list.specs.declared.fault.Fault.{Fault}
+use Rattle.mob_list.specs.declared.fault.Fault.TheVariants.{Because, NoMemory}
 use Rattle.mob_slice.proofs.Cuts.{all_both, all_first, all_second}
 use Rattle.mob_slice.proofs.Firsts.{one_first}
 use Rattle.mob_lifted.proofs.OnOnePiece.{kept_behind}
@@ -40,13 +39,13 @@ use Rattle.mob_cells.proofs.SteadyEnds.{gap_none, steady_ends}
 use Rattle.mob_compare.specs.Compared.{entries_of_gaps}
 
 module _ {C B : Type 0} (value : C → Ratio → Ratio → Ratio → B) (lines : C → Ratio → Ratio → Ratio → List Ratio) (gaps : B → B → Gaps) (p : PieceOf (SideOf C B) (SideOf C B)) where
-  pub left_fails : (copies : Bool) (f : LookFault) → IsLookFault copies (at_ends (side_parts lines p.left) p.span) f → OnFormula (λ g. IsFirst (entries_of_gaps value lines gaps p) (Some g)) (operator_fault f)
-  left_fails copies (LookPassed f) h = inr (λ all. h.1 (all_first (at_ends (side_parts lines p.left) p.span) (at_ends (side_parts lines p.right) p.span) all), ap Some h.0)
-  left_fails copies LookNoMemory h = tt
+  pub left_fails : (copies : Bool) (f : Fault Formula) → IsLookFault copies (at_ends (side_parts lines p.left) p.span) f → OnCause (λ g. IsFirst (entries_of_gaps value lines gaps p) (Some g)) f
+  left_fails copies (Because f) h = inr (λ all. h.1 (all_first (at_ends (side_parts lines p.left) p.span) (at_ends (side_parts lines p.right) p.span) all), ap Some h.0)
+  left_fails copies NoMemory h = tt
 
-  pub right_fails : (copies : Bool) (f : LookFault) → IsLookFault copies (at_ends (side_parts lines p.right) p.span) f → OnFormula (λ g. IsFirst (entries_of_gaps value lines gaps p) (Some g)) (operator_fault f)
-  right_fails copies (LookPassed f) h = inr (λ all. h.1 (all_second (at_ends (side_parts lines p.left) p.span) (at_ends (side_parts lines p.right) p.span) all), ap Some h.0)
-  right_fails copies LookNoMemory h = tt
+  pub right_fails : (copies : Bool) (f : Fault Formula) → IsLookFault copies (at_ends (side_parts lines p.right) p.span) f → OnCause (λ g. IsFirst (entries_of_gaps value lines gaps p) (Some g)) f
+  right_fails copies (Because f) h = inr (λ all. h.1 (all_second (at_ends (side_parts lines p.left) p.span) (at_ends (side_parts lines p.right) p.span) all), ap Some h.0)
+  right_fails copies NoMemory h = tt
 
   module _ {start end : C → B} (l r : Slice C) (hl : HasValues value start end (side_at value p.left) p.span l) (hr : HasValues value start end (side_at value p.right) p.span r)
       (fl : AllFit (at_ends (side_parts lines p.left) p.span)) (fr : AllFit (at_ends (side_parts lines p.right) p.span)) where
@@ -65,8 +64,8 @@ module _ {C B : Type 0} (value : C → Ratio → Ratio → Ratio → B) (lines :
     first_fit : AllFit (at_ends (side_parts lines p.left) p.span ++ at_ends (side_parts lines p.right) p.span)
     first_fit = all_both (at_ends (side_parts lines p.left) p.span) (at_ends (side_parts lines p.right) p.span) fl fr
 
-    pub gaps_fail : (f : OpFault) → IsPartFault F2 (gap_parts (gaps (start l.course) (start r.course)) ++ gap_parts (gaps (end l.course) (end r.course))) f → OnFormula (λ g. IsFirst (entries_of_gaps value lines gaps p) (Some g)) f
-    gaps_fail (Passed f) h = inl (first_fit, inr (subst (λ z. ¬ AllFit z) same_parts h.1, ap Some h.0))
+    pub gaps_fail : (f : Fault Formula) → IsPartFault F2 (gap_parts (gaps (start l.course) (start r.course)) ++ gap_parts (gaps (end l.course) (end r.course))) f → OnCause (λ g. IsFirst (entries_of_gaps value lines gaps p) (Some g)) f
+    gaps_fail (Because f) h = inl (first_fit, inr (subst (λ z. ¬ AllFit z) same_parts h.1, ap Some h.0))
     gaps_fail NoMemory h = tt
 
     pub level_gaps : (fs : List Ends) → fs ≡ gap_ends (gaps (start l.course) (start r.course)) (gaps (end l.course) (end r.course)) → AllByRecursion (IsLevel p.span) fs
@@ -85,7 +84,7 @@ module _ {C B : Type 0} (value : C → Ratio → Ratio → Ratio → B) (lines :
       behind : (r : Option Formula) → IsFirst (entry_of_roots p.span fs ∷ []) r → IsFirst (entries_of_gaps value lines gaps p) r
       behind r h = inl (first_fit, inl (subst AllFit same_parts fits, subst (λ z. IsFirst (entry_of_roots p.span z ∷ []) r) (e ∙ same_ends) h))
 
-      pub lines_given : {V : Type 0} (items : V → List (Slice (Steady Bool))) (q : Result V OpFault) → IsKeptBy steady_value steady_limit steady_limit items (λ t. Some (related_by rel (signs_of p.span fs t))) p.span (entry_of_roots p.span fs ∷ []) q → IsGiven steady_value steady_limit steady_limit items (on_sides value value (relation rel) p) p.span (entries_of_gaps value lines gaps p) q
+      pub lines_given : {V : Type 0} (items : V → List (Slice (Steady Bool))) (q : Result V (Fault Formula)) → IsKeptBy steady_value steady_limit steady_limit items (λ t. Some (related_by rel (signs_of p.span fs t))) p.span (entry_of_roots p.span fs ∷ []) q → IsGiven steady_value steady_limit steady_limit items (on_sides value value (relation rel) p) p.span (entries_of_gaps value lines gaps p) q
       lines_given items q m = kept_behind steady_value steady_limit steady_limit items (λ t. Some (related_by rel (signs_of p.span fs t))) (λ t. Some (on_sides value value (relation rel) p t)) p.span (entries_of_gaps value lines gaps p) (entry_of_roots p.span fs ∷ []) q (λ t i. ap Some (related t i)) behind m
 
 -- ---- steady courses
@@ -99,8 +98,8 @@ module _ {C B : Type 0} {steady copies : Bool} {value : C → Ratio → Ratio �
   steady_fits [] = refl
   steady_fits (p ∷ ps) = first_joined (entries_of_gaps value parts gaps p) (flat_map (entries_of_gaps value parts gaps) ps) None (steady_first p) (steady_fits ps)
 
-  -- so memory alone is refused
-  pub memory_alone : {V : Type 0} (ps : List (PieceOf (SideOf C B) (SideOf C B))) (q : Result V OpFault) → IsJudged (flat_map (entries_of_gaps value parts gaps) ps) q → IfErr q (λ e. e ≡ NoMemory)
+  -- so the only error is a failed allocation
+  pub memory_alone : {V : Type 0} (ps : List (PieceOf (SideOf C B) (SideOf C B))) (q : Result V (Fault Formula)) → IsJudged (flat_map (entries_of_gaps value parts gaps) ps) q → IfErr q (λ e. e ≡ NoMemory)
   memory_alone ps (Ok v) h = tt
-  memory_alone ps (Err (Passed f)) h = none_some f (one_first (flat_map (entries_of_gaps value parts gaps) ps) None (Some f) (steady_fits ps) h)
+  memory_alone ps (Err (Because f)) h = none_some f (one_first (flat_map (entries_of_gaps value parts gaps) ps) None (Some f) (steady_fits ps) h)
   memory_alone ps (Err NoMemory) h = refl

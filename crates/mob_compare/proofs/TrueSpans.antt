@@ -39,7 +39,7 @@ none_by : (s : Slice (Steady Bool)) (v : List (Slice (Steady Bool))) (k : Bool) 
 none_by s v true h f none = let m = some_instant s.span h.0.some in absurd (true≢false (sym (rw m.1 refl) ∙ none m.0))
 none_by s v false h f none = f none
 
--- without such an instant there is no such slice
+-- if no such instant exists, no such slice does
 none_true : (v : List (Slice (Steady Bool))) → IsOrdered steady_limit steady_limit v → ((t : Ratio) → in_some (true_spans v) t ≡ false) → true_spans v ≡ []
 none_true [] h none = refl
 none_true (s ∷ v) h none = none_by s v s.course.value h (none_true v h.2) none
@@ -50,7 +50,7 @@ never_true v spans h e none = e ∙ none_true v h (λ t. true_at v h t ∙ none 
 pub spans_at : (v : List (Slice (Steady Bool))) (spans : List SpanOf) → IsOrdered steady_limit steady_limit v → spans ≡ true_spans v → (t : Ratio) → in_some spans t ≡ is_true (value_at steady_value v t)
 spans_at v spans h e t = ap (λ z. in_some z t) e ∙ true_at v h t
 
--- at the end of the walk all are taken
+-- at the end of the walk, all spans are taken
 pub all_taken : (v w : List (Slice (Steady Bool))) (o : List SpanOf) (i : ℕ) → v ≡ w → length v ≤ i → o ++ true_spans (drop i v) ≡ true_spans v → o ≡ true_spans w
 all_taken v w o i e h k =
     let none : drop i v ≡ [] = drop_all i v h in

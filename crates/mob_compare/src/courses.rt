@@ -1,3 +1,4 @@
+//! The six comparisons on two operands.
 ghost use Rattle.std.specs.Prelude.{◌≡◌, true, false, ◌||◌, IfOk, IfErr};
 ghost use Rattle.std.specs.List.{flat_map};
 ghost use Rattle.mob_slice.specs.Comparison.{MayAsk};
@@ -9,10 +10,9 @@ ghost use Rattle.mob_compare.specs.Compared.{entries_of_gaps};
 
 use mob_cells::{ByGaps, flagged, gap_functions};
 use mob_lift::{lift, single};
+use mob_list::fault::Fault;
 use mob_normal::normal;
-use mob_slice::{
-    Compared, Course, Moving, OpFault, Operand, Piece, Rel, Slice, Steady, operator_fault,
-};
+use mob_slice::{Compared, Course, Formula, Moving, Operand, Piece, Rel, Slice, Steady};
 use mob_sync::Pieces;
 use std::alloc::Global;
 
@@ -21,7 +21,7 @@ fn on_lines<C: Compared + Drop>(
     alloc: Global,
     piece: &Piece<'_, C, C>,
     rel: Rel,
-) -> Result<Vec<Slice<Steady<bool>>>, OpFault>
+) -> Result<Vec<Slice<Steady<bool>>>, Fault<Formula>>
 where
     C::Base: Drop,
     requires moves { C.STEADY ≡ false }
@@ -31,11 +31,11 @@ where
 {
     let left = match piece.left.on(alloc, &piece.span) {
         Ok(left) => left,
-        Err(fault) => return Err(operator_fault(fault)),
+        Err(fault) => return Err(fault),
     };
     let right = match piece.right.on(alloc, &piece.span) {
         Ok(right) => right,
-        Err(fault) => return Err(operator_fault(fault)),
+        Err(fault) => return Err(fault),
     };
     let functions = match gap_functions::<C>(
         alloc,
@@ -55,7 +55,7 @@ fn on_piece<C: Compared + Drop>(
     alloc: Global,
     piece: &Piece<'_, C, C>,
     rel: Rel,
-) -> Result<Vec<Slice<Steady<bool>>>, OpFault>
+) -> Result<Vec<Slice<Steady<bool>>>, Fault<Formula>>
 where
     C::Base: Drop,
     requires asked { MayAsk C.ordered rel }
@@ -63,7 +63,7 @@ where
     ensures given { IsGiven steady_value steady_limit steady_limit (λ v. v.items) (on_sides C.value_of C.value_of (C.relation rel) (piece_of piece.now)) piece.now.span (entries_of_gaps C.value_of C.parts_of C.gaps_of (piece_of piece.now)) result }
 {
     if C::STEADY {
-        // A call of a method tells the proof what holds of every span.
+        // A method call gives the proof the invariant of a span.
         let _ = piece.span.lower();
         let value = C::relates(rel, piece.left.start(), piece.right.start());
         return single(alloc, piece.span, value);
@@ -77,19 +77,19 @@ fn compared<C: Compared + Drop>(
     a: Operand<'_, C>,
     b: Operand<'_, C>,
     rel: Rel,
-) -> Result<Vec<Slice<Steady<bool>>>, OpFault>
+) -> Result<Vec<Slice<Steady<bool>>>, Fault<Formula>>
 where
     C::Base: Drop,
     requires asked { MayAsk C.ordered rel }
     requires moving { (has_slices (operand_of a) || has_slices (operand_of b)) ≡ true }
     ensures slices { IfOk result (λ all. AreLifted C.value_of C.value_of steady_value steady_limit steady_limit (C.relation rel) (operand_of a.entry) (operand_of b.entry) all.items) }
     ensures first { IsJudged (flat_map (entries_of_gaps C.value_of C.parts_of C.gaps_of) (pieces (operand_of a.entry) (operand_of b.entry))) result }
-    ensures memory { C.STEADY ≡ true → IfErr result (λ e. e ≡ OpFault.NoMemory) }
+    ensures memory { C.STEADY ≡ true → IfErr result (λ e. e ≡ Fault.NoMemory) }
 {
     lift(
         alloc,
         Pieces::new(a, b),
-        |piece: &Piece<'_, C, C>| -> Result<Vec<Slice<Steady<bool>>>, OpFault>
+        |piece: &Piece<'_, C, C>| -> Result<Vec<Slice<Steady<bool>>>, Fault<Formula>>
             requires asked { MayAsk C.ordered rel }
             requires holds { HoldsPiece C.start_of C.end_of C.start_of C.end_of (piece_of piece.now) }
             ensures given { IsGiven steady_value steady_limit steady_limit (λ v. v.items) (on_sides C.value_of C.value_of (C.relation rel) (piece_of piece.now)) piece.now.span (entries_of_gaps C.value_of C.parts_of C.gaps_of (piece_of piece.now)) result }
@@ -97,30 +97,27 @@ where
     )
 }
 
-/// The ordinary comparison of two operands at each instant at which both have a value, the instant
-/// at which they cross included. None exactly where there is no such instant. An order relation is
-/// asked only of values that have an order.
+/// The ordinary comparison of two operands at each instant at which both have a value, including
+/// the instant at which they cross. `None` exactly if no such instant exists. Call it with an order
+/// relation only if the values have an order.
 ///
-/// `Passed` names the formula of the first entry that has a part that does not fit: on each piece
+/// The fault names the formula of the first entry that has a part that does not fit: on each piece
 /// that the operands share, F1 at its ends, then F2, the gaps there, then F3, the roots of the
-/// gaps. Steady courses have no formula, and memory is the one refusal there.
+/// gaps. Steady courses have no formula, and the only error is a failed allocation.
 pub fn compare<C: Compared + Drop>(
     alloc: Global,
     a: Operand<'_, C>,
     b: Operand<'_, C>,
     rel: Rel,
-) -> Result<Option<Moving<Steady<bool>>>, OpFault>
+) -> Result<Option<Moving<Steady<bool>>>, Fault<Formula>>
 where
     C::Base: Drop,
     requires asked { MayAsk C.ordered rel }
     requires moving { (has_slices (operand_of a) || has_slices (operand_of b)) ≡ true }
     ensures value { IfOk result (λ r. IsPointwise steady_value (C.relation rel) (given_at C.value_of (operand_of a.entry)) (given_at C.value_of (operand_of b.entry)) r) }
     ensures first { IsJudged (flat_map (entries_of_gaps C.value_of C.parts_of C.gaps_of) (pieces (operand_of a.entry) (operand_of b.entry))) result }
-    ensures memory { C.STEADY ≡ true → IfErr result (λ e. e ≡ OpFault.NoMemory) }
+    ensures memory { C.STEADY ≡ true → IfErr result (λ e. e ≡ Fault.NoMemory) }
 {
     let slices = compared::<C>(alloc, a, b, rel)?;
-    match normal(alloc, slices) {
-        Ok(value) => Ok(value),
-        Err(_) => Err(OpFault::NoMemory),
-    }
+    Ok(normal(alloc, slices)?)
 }

@@ -1,4 +1,5 @@
-//! The six comparisons, instant by instant, on temporal values, and when a truth value is true.
+//! The six comparisons, instant by instant, on temporal values, and the instants at which a
+//! temporal boolean is true.
 #![tactic(auto)]
 
 mod courses;

@@ -1,4 +1,4 @@
--- What the answer for a wanted truth value says of the comparison.
+-- The result of the comparison, from the answer for a wanted one.
 use Rattle.std.specs.Prelude.{◌≡◌, Bool, true, false, not, Option, Some, None, option_map, refl}
 use Rattle.std.proofs.Common.{ap, sym, ◌∙◌, true≢false}
 use Rattle.mob_ratio.specs.Ratio.{Ratio}
@@ -36,7 +36,7 @@ module _ {X Y : Type 0} (op : X → Y → Bool) (left : Ratio → Option X) (rig
   not_by true f = absurd (f refl)
   not_by false f = refl
 
-  -- it holds at every common instant where at none it fails
+  -- it holds at every common instant if it fails at none
   pub always_is : (r : Option Bool) → IsEver (λ x y. same_bool (op x y) false) left right r → IsAlways op left right (option_map not r)
   always_is None h = h
   always_is (Some b) h = (

@@ -1,4 +1,4 @@
--- When two linear functions are 0 at one instant.
+-- When two linear functions are 0 at the same instant.
 use Rattle.std.specs.Prelude.{◌≡◌, ◌↔◌, Bool, true, false, cond, ◌&&◌, ◌||◌, refl}
 use Rattle.std.proofs.Common.{arith, ap, sym, ◌∙◌, subst, true≢false}
 use Rattle.std.specs.declared.cmp.Ordering.TheVariants.{Equal}
@@ -24,7 +24,7 @@ use Rattle.mob_ever.proofs.OnSpans.{IsPlace, at_lower, within, at_upper, place_o
 nil_mul : (a : Ratio) → nil *ℚ a ≡ nil
 nil_mul = clear1 _ (λ D a p. simp cleared (omega (arith, linear)))
 
--- a number is 0 where it has the sign of 0
+-- a number is 0 if its sign is Equal
 equal_nil : (q : Ratio) → sign_of q ≡ Equal → q ≡ nil
 equal_nil q e = (same_exact q nil).0 (is_sign_of q Equal e)
 
@@ -35,7 +35,7 @@ not_nil q n e = true≢false (sym ((same_exact q nil).1 e) ∙ n)
 scaled : (f0 f1 e0 e1 l u t : Ratio) → f0 *ℚ e1 ≡ e0 *ℚ f1 → line_at f0 f1 l u t *ℚ e1 ≡ line_at e0 e1 l u t *ℚ f1
 scaled f0 f1 e0 e1 l u t c = sym (line_at-scale f0 f1 e1 l u t) ∙ ap (λ z. line_at z (f1 *ℚ e1) l u t) c ∙ ap (λ z. line_at (e0 *ℚ f1) z l u t) (mul_comm f1 e1) ∙ line_at-scale e0 e1 f1 l u t
 
--- where the ends stand in one ratio, a root of one is one of the other
+-- if the ends have equal ratios, a root of one is a root of the other
 one_root : (f0 f1 e0 e1 l u t : Ratio) → (f1 ≡ nil → ⊥) → f0 *ℚ e1 ≡ e0 *ℚ f1 → line_at f0 f1 l u t ≡ nil → line_at e0 e1 l u t ≡ nil
 one_root f0 f1 e0 e1 l u t n c z = mul_cancel (line_at e0 e1 l u t) nil f1 n (sym (scaled f0 f1 e0 e1 l u t c) ∙ ap (λ q. q *ℚ e1) z ∙ nil_mul e1 ∙ sym (nil_mul f1))
 
@@ -43,12 +43,12 @@ opposite_nil : (d : Ratio) → opposite d nil ≡ false
 unfolding opposite
 opposite_nil d = grind (arith, before-self nil)
 
--- a line that ends with 0 and is 0 before begins with 0
+-- a line that ends with 0 and is 0 before that begins with 0
 starts_nil : (d l u t : Ratio) → before l t ≡ true → before t u ≡ true → line_at d nil l u t ≡ nil → (b : Bool) → same d nil ≡ b → d ≡ nil
 starts_nil d l u t h k z true e = (same_exact d nil).0 e
 starts_nil d l u t h k z false e = equal_nil d (sym (level_sign d nil l u t h k (opposite_nil d) ∙ rw e refl) ∙ ap sign_of z ∙ sign_nil)
 
--- where both have one root, their ends stand in one ratio
+-- if both have the same root, their ends have equal ratios
 one_ratio : (f0 f1 e0 e1 l u t : Ratio) → before l t ≡ true → before t u ≡ true → line_at f0 f1 l u t ≡ nil → line_at e0 e1 l u t ≡ nil → f0 *ℚ e1 ≡ e0 *ℚ f1
 one_ratio f0 f1 e0 e1 l u t h k y z =
     let a : line_at (f0 *ℚ e1) (f1 *ℚ e1) l u t ≡ nil = line_at-scale f0 f1 e1 l u t ∙ ap (λ q. q *ℚ e1) y ∙ nil_mul e1 in
@@ -73,7 +73,7 @@ nil_everywhere f l u t h =
 crosses : (f : Ends) → takes_inside f.at_lower f.at_upper Equal ≡ true → is_nil_line f ≡ false → opposite f.at_lower f.at_upper ≡ true
 crosses f h n = grind (arith, h, n)
 
--- a line that is 0 strictly between its ends and not everywhere does not end with 0
+-- a line that is 0 strictly between its ends, but not everywhere, does not end with 0
 pub ends_apart : (f : Ends) → takes_inside f.at_lower f.at_upper Equal ≡ true → is_nil_line f ≡ false → f.at_upper ≡ nil → ⊥
 ends_apart f h n = not_nil f.at_upper (no_opposite f.at_lower f.at_upper (crosses f h n)).1
 
@@ -148,6 +148,6 @@ both_by s f e i false h = (
       rw (h, a, b) refl,
 )
 
--- two functions are 0 at one instant of a span exactly where the test of their ends says so
+-- two functions are 0 at one instant of a span exactly if the test of their ends is true
 pub both_nil_exact : (s : SpanOf) (f e : Ends) → has_instant s ≡ true → (both_nil s f e ≡ true) ↔ IsBothNil s f e
 both_nil_exact s f e i = both_by s f e i (before s.lower s.upper) refl

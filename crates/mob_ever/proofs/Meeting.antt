@@ -1,4 +1,4 @@
--- When courses meet a test of their order on a piece.
+-- When courses satisfy a test of their order on a piece.
 use Rattle.std.specs.Prelude.{◌≡◌, ◌↔◌, Bool, true, false, cond, ◌&&◌, ◌||◌, refl}
 use Rattle.std.proofs.Common.{arith, ap, sym, ◌∙◌, true≢false}
 use Rattle.std.specs.declared.cmp.Ordering.{Ordering}
@@ -20,7 +20,7 @@ use Rattle.mob_ever.proofs.Taking.{sign_of_is, is_sign_of}
 use Rattle.mob_ever.proofs.OnSpans.{takes_exact}
 use Rattle.mob_ever.proofs.BothNil.{both_nil_exact}
 
--- an instant of the span at which the test is met
+-- an instant of the span at which the test is true
 abbrev pub Meets : (Ordering → Bool) → SpanOf → (Ratio → Ordering) → Type 0
 Meets test s order = (t : Ratio) × (has s t ≡ true) × (test (order t) ≡ true)
 
@@ -105,8 +105,8 @@ GapsMeet test s a b = Meets test s (λ t. order_of (gaps_at a b s.lower s.upper 
 level_gaps : (test : Ordering → Bool) (s : SpanOf) → has_instant s ≡ true → (test Equal ≡ true) ↔ Meets test s (λ t. Equal)
 level_gaps test s i = (λ h. let m = some_instant s i in (m.0, m.1, h), λ m. m.2)
 
--- the test of the gaps at the two ends is true exactly where at some instant of the span the order
--- meets it
+-- the test of the gaps at the two ends is true exactly if the order satisfies it at some instant of
+-- the span
 pub gaps_exact : (test : Ordering → Bool) (s : SpanOf) (a b : Gaps) → has_instant s ≡ true → (gaps_meet test s a b ≡ true) ↔ GapsMeet test s a b
 gaps_exact test s (One f) (One g) i = (
   λ h. one_to test s (line_between f g) i (test Less && takes_sign s (line_between f g) Less) (test Equal && takes_sign s (line_between f g) Equal) refl refl h,

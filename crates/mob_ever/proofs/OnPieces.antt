@@ -1,4 +1,4 @@
--- When a comparison has a wanted truth value on a piece.
+-- When a comparison has the wanted result on a piece.
 use Rattle.std.specs.Prelude.{◌≡◌, ◌↔◌, Bool, true, false, cond, List, [], ◌∷◌, refl}
 use Rattle.std.specs.List.{AllByRecursion}
 use Rattle.std.proofs.Common.{ap, sym, ◌∙◌, subst}
@@ -39,7 +39,7 @@ module _ {C B : Type 0} {steady copies : Bool} {value : C → Ratio → Ratio �
         ∙ by_order rel (gaps (side_at value p.left t) (side_at value p.right t))
         ∙ ap (λ g. holds rel (order_of g)) (gaps_on laws comparison p held some e t i)
 
-    -- the comparison has the wanted truth value at an instant of the piece
+    -- the comparison has the wanted result at an instant of the piece
     abbrev pub IsMetOn : Type 0
     IsMetOn = (t : Ratio) × (has p.span t ≡ true) × (same_bool (relation rel (side_at value p.left t) (side_at value p.right t)) want ≡ true)
 
@@ -57,11 +57,11 @@ module _ {C B : Type 0} {steady copies : Bool} {value : C → Ratio → Ratio �
           λ m. rw e (g.1 (m.0, m.1, sym (ap (λ b. same_bool b want) (order_at e m.0 m.1)) ∙ m.2)),
         )
 
-    -- the test of the piece says so exactly
+    -- the test of the piece is exact
     pub piece_exact : (piece_meets steady value start relation gaps rel want p ≡ true) ↔ IsMetOn
     piece_exact = exact_by steady refl
 
-  -- so it is on each of the pieces
+  -- and so on each of the pieces
   module _ (rel : Rel) (asked : MayAsk ordered rel) (want : Bool) where
     abbrev pub IsTold : PieceOf (SideOf C B) (SideOf C B) → Type 0
     IsTold p = (piece_meets steady value start relation gaps rel want p ≡ true) ↔ ((t : Ratio) × (has p.span t ≡ true) × (same_bool (relation rel (side_at value p.left t) (side_at value p.right t)) want ≡ true))

@@ -14,14 +14,14 @@ use Rattle.mob_cells.specs.Roots.{function_at}
 use Rattle.mob_ever.specs.Taken.{sign_is, takes_inside, takes_sign}
 use Rattle.mob_ever.proofs.Taking.{inside_from, inside_to, sign_of_is, is_sign_of}
 
--- ---- where an instant of a span lies
+-- ---- the instants of a span
 pub lower_has : (s : SpanOf) → before s.lower s.upper ≡ true → s.lower_inc ≡ true → has s s.lower ≡ true
 lower_has s h i = rw (before-self s.lower, h, i) refl
 
 pub upper_has : (s : SpanOf) → before s.lower s.upper ≡ true → s.upper_inc ≡ true → has s s.upper ≡ true
 upper_has s h i = rw (before-self s.upper, h, i) refl
 
--- it is an end that the span includes, or lies strictly between the ends
+-- an instant of a span is an end that the span includes, or lies strictly between the ends
 pub data IsPlace (s : SpanOf) (t : Ratio) : Type 0 where
   at_lower : t ≡ s.lower → s.lower_inc ≡ true → IsPlace s t
   within : before s.lower t ≡ true → before t s.upper ≡ true → IsPlace s t
@@ -35,7 +35,7 @@ place_by s t h true false ea eb = at_upper (before-neither t s.upper eb (grind (
 pub place_of : (s : SpanOf) (t : Ratio) → has s t ≡ true → IsPlace s t
 place_of s t h = place_by s t h (before s.lower t) (before t s.upper) refl refl
 
--- a span of one instant has that instant alone
+-- a span of one instant has only that instant
 pub short_has : (s : SpanOf) → before s.lower s.upper ≡ false → has_instant s ≡ true → has s s.lower ≡ true
 short_has s h i = grind (arith, h, i)
 
@@ -63,6 +63,6 @@ takes_by s f o i false h = (
   λ k. rw h (is_sign_of f.at_lower o (sym (ap sign_of (line_at-short f.at_lower f.at_upper s.lower s.upper k.0 h)) ∙ k.2)),
 )
 
--- a function takes a sign on a span exactly where the test of its ends says so
+-- a function takes a sign on a span exactly if the test of its ends is true
 pub takes_exact : (s : SpanOf) (f : Ends) (o : Ordering) → has_instant s ≡ true → (takes_sign s f o ≡ true) ↔ IsTaken s f o
 takes_exact s f o i = takes_by s f o i (before s.lower s.upper) refl

@@ -1,4 +1,4 @@
--- A linear function takes the signs that its ends tell.
+-- The signs of a linear function follow from its ends.
 use Rattle.std.specs.Prelude.{◌≡◌, Bool, true, false, cond, not, ◌&&◌, ◌||◌, refl}
 use Rattle.std.proofs.Common.{arith, ap, sym, ◌∙◌, subst, true≢false}
 use Rattle.std.specs.declared.cmp.Ordering.{Ordering}
@@ -57,7 +57,7 @@ not_same' l u h = false_unless (same l u) (λ e. true≢false (sym h ∙ ap (λ 
 up_to_self : (t : Ratio) → up_to t t ≡ true
 up_to_self t = rw (before-self t) refl
 
--- without a root it is the sign of the end that is not 0
+-- without a root, the sign is that of the end that is not 0
 pub level_sign : (f g l u t : Ratio) → before l t ≡ true → before t u ≡ true → opposite f g ≡ false → sign_of (line_at f g l u t) ≡ cond (same f nil) (sign_of g) (sign_of f)
 unfolding sign_on
 level_sign f g l u t h k o =
@@ -87,7 +87,7 @@ from_second f g Less n h = second_or _ _ h
 from_second f g Equal n h = absurd (true≢false (sym h ∙ n))
 from_second f g Greater n h = second_or _ _ h
 
--- beside an end that is 0, the sign of the other
+-- if one end is 0, the sign of the other
 from_other : (f g : Ratio) (o : Ordering) → same f nil ≡ true → sign_is o g ≡ true → takes_inside f g o ≡ true
 from_other f g Less n h = second_or _ _ h
 from_other f g Equal n h = second_or (opposite f g) (same f nil && same g nil) (rw (n, h) refl)
@@ -108,7 +108,7 @@ inside_by : (f g l u t : Ratio) (o : Ordering) → before l t ≡ true → befor
 inside_by f g l u t o h k e true p = let r = root_at f g l u in crossing_from f g l u t r o (root_holds f g l u (before-trans l t u h k) p) p e (before t r) (before r t) refl refl
 inside_by f g l u t o h k e false p = level_from f g o (same f nil) refl (sym (level_sign f g l u t h k p) ∙ e)
 
--- a sign that is taken strictly between the ends is told by them
+-- a sign taken strictly between the ends follows from them
 pub inside_from : (f g l u t : Ratio) (o : Ordering) → before l t ≡ true → before t u ≡ true → sign_of (line_at f g l u t) ≡ o → takes_inside f g o ≡ true
 inside_from f g l u t o h k e = inside_by f g l u t o h k e (opposite f g) refl
 
@@ -176,7 +176,7 @@ equal_to f g l u h k false p =
     second_of : (a b : Bool) → (a && b) ≡ true → b ≡ true
     second_of a b h = grind (arith, h)
 
--- and a sign that they tell is taken there
+-- and a sign that follows from them is taken there
 pub inside_to : (f g l u : Ratio) (o : Ordering) → before l u ≡ true → takes_inside f g o ≡ true → IsTakenInside f g l u o
 inside_to f g l u Less h k = below_to f g l u h k (opposite f g) (before f nil) refl refl
 inside_to f g l u Equal h k = equal_to f g l u h k (opposite f g) refl

@@ -1,4 +1,4 @@
--- Whether a comparison has a wanted truth value at some instant of a piece that two operands share.
+-- Whether a comparison has the wanted result at some instant of a piece that two operands share.
 use Rattle.std.specs.Prelude.{Bool, cond, ◌&&◌, ◌||◌}
 use Rattle.std.specs.declared.cmp.Ordering.{Ordering}
 use Rattle.std.specs.declared.cmp.Ordering.TheVariants.{Less, Equal, Greater}
@@ -17,7 +17,7 @@ use Rattle.mob_cells.specs.declared.linear.Ends.{Ends}
 use Rattle.mob_cells.specs.Gaps.{piece_gaps}
 use Rattle.mob_ever.specs.Taken.{takes_sign, both_nil}
 
--- how two values with these gaps stand to each other: two points are one where both gaps are 0
+-- the order of two values with these gaps: two points are equal if both gaps are 0
 abbrev pub order_of : Gaps → Ordering
 order_of Constant = Equal
 order_of (One g) = sign_of g
@@ -26,22 +26,22 @@ order_of (Two g h) = cond (same g nil && same h nil) Equal Less
 abbrev pub line_between : Ratio → Ratio → Ends
 line_between f g = record { at_lower = f; at_upper = g }
 
--- whether a line meets a test of its sign at some instant of the span
+-- a line satisfies a test of its sign at some instant of the span
 abbrev pub one_meets : (Ordering → Bool) → SpanOf → Ends → Bool
 one_meets test s f = (test Less && takes_sign s f Less) || (test Equal && takes_sign s f Equal) || (test Greater && takes_sign s f Greater)
 
--- whether two lines meet a test that is Equal where both are 0, and else Less
+-- two lines satisfy a test of an order that is Equal if both are 0, and otherwise Less
 abbrev pub two_meet : (Ordering → Bool) → SpanOf → Ends → Ends → Bool
 two_meet test s f e = (test Equal && both_nil s f e) || (test Less && (takes_sign s f Less || takes_sign s f Greater || takes_sign s e Less || takes_sign s e Greater))
 
--- whether courses with the first gaps at the lower end of the span and the second at the upper one
--- meet a test of their order
+-- courses with the first gaps at the lower end of the span and the second at the upper one satisfy
+-- a test of their order
 abbrev pub gaps_meet : (Ordering → Bool) → SpanOf → Gaps → Gaps → Bool
 gaps_meet test s (One f) (One g) = one_meets test s (line_between f g)
 gaps_meet test s (Two f e) (Two g h) = two_meet test s (line_between f g) (line_between e h)
 gaps_meet test s a b = test Equal
 
--- whether the comparison has the wanted truth value at some instant of the piece
+-- the comparison has the wanted result at some instant of the piece
 abbrev pub piece_meets : {C B : Type 0} → Bool → (C → Ratio → Ratio → Ratio → B) → (C → B) → (Rel → B → B → Bool) → (B → B → Gaps) → Rel → Bool → PieceOf (SideOf C B) (SideOf C B) → Bool
 piece_meets steady value start relation gaps rel want p =
     cond steady

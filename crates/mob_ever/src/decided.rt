@@ -1,3 +1,4 @@
+//! The ever and always comparisons.
 ghost use Rattle.std.specs.Prelude.{◌≡◌, ◌||◌, true, false, IfOk, IsOk, option_map, not};
 ghost use Rattle.std.specs.List.{flat_map};
 ghost use Rattle.mob_span.specs.Flags.{same_bool};
@@ -9,11 +10,11 @@ ghost use Rattle.mob_lift.specs.Sometime.{IsEver, IsAlways};
 
 use crate::piece::piece_meets;
 use mob_lift::either;
-use mob_slice::{Compared, Operand, Passed, Rel};
+use mob_slice::{Compared, Formula, Operand, Rel};
 use mob_sync::Pieces;
 use std::alloc::Global;
 
-// The contrary of an answer, where there is one.
+// The negated answer, if it exists.
 fn contrary(answer: Option<bool>) -> Option<bool>
     ensures value { result ≡ option_map not answer }
 {
@@ -23,16 +24,15 @@ fn contrary(answer: Option<bool>) -> Option<bool>
     }
 }
 
-// Whether the comparison has the wanted truth value at some common instant. None exactly where
-// there is no such instant. Every piece is walked, also behind one that has settled the answer:
-// each has its formulas.
+// Whether the comparison has the wanted result at some common instant. `None` exactly if no instant
+// is common. Every piece is visited, even after one that settles the answer: each has its formulas.
 fn sometime<C: Compared + Drop>(
     alloc: Global,
     a: Operand<'_, C>,
     b: Operand<'_, C>,
     rel: Rel,
     want: bool,
-) -> Result<Option<bool>, Passed>
+) -> Result<Option<bool>, Formula>
 where
     C::Base: Drop,
     requires asked { MayAsk C.ordered rel }
@@ -43,28 +43,25 @@ where
 {
     let mut found = None;
     for piece in Pieces::new(a, b) {
-        let here = match piece_meets(alloc, &piece, rel, want) {
-            Ok(here) => here,
-            Err(passed) => return Err(passed),
-        };
+        let here = piece_meets(alloc, &piece, rel, want)?;
         found = Some(either(found, here));
     }
     Ok(found)
 }
 
 /// Whether the comparison holds at some instant at which both operands have a value (the `?` signs;
-/// MobilityDB's ever comparisons). None exactly where there is no such instant. An order relation
-/// is asked only of values that have an order. It takes no memory.
+/// MobilityDB's ever comparisons). `None` exactly if no such instant exists. Call it with an order
+/// relation only if the values have an order. It does not allocate.
 ///
-/// `Passed` names the formula of the first entry that has a part that does not fit: on each piece
-/// that the operands share F1 at its ends, then F2, the gaps there, also on pieces behind one that
-/// has settled the answer. Steady courses have no formula, and there is an answer always.
+/// The fault names the formula of the first entry that has a part that does not fit: on each piece
+/// that the operands share, F1 at its ends, then F2, the gaps there, even on pieces after one that
+/// settles the answer. Steady courses have no formula, and no error.
 pub fn ever<C: Compared + Drop>(
     alloc: Global,
     a: Operand<'_, C>,
     b: Operand<'_, C>,
     rel: Rel,
-) -> Result<Option<bool>, Passed>
+) -> Result<Option<bool>, Formula>
 where
     C::Base: Drop,
     requires asked { MayAsk C.ordered rel }
@@ -77,16 +74,16 @@ where
 }
 
 /// Whether the comparison holds at every instant at which both operands have a value (the `%`
-/// signs; MobilityDB's always comparisons). None exactly where there is no such instant. An order
-/// relation is asked only of values that have an order. It takes no memory.
+/// signs; MobilityDB's always comparisons). `None` exactly if no such instant exists. Call it with
+/// an order relation only if the values have an order. It does not allocate.
 ///
-/// `Passed` is that of `ever`.
+/// The fault is that of `ever`.
 pub fn always<C: Compared + Drop>(
     alloc: Global,
     a: Operand<'_, C>,
     b: Operand<'_, C>,
     rel: Rel,
-) -> Result<Option<bool>, Passed>
+) -> Result<Option<bool>, Formula>
 where
     C::Base: Drop,
     requires asked { MayAsk C.ordered rel }
@@ -95,8 +92,5 @@ where
     ensures first { IsDecided (flat_map (entries_of_ends C.value_of C.parts_of C.gaps_of) (pieces (operand_of a.entry) (operand_of b.entry))) result }
     ensures settled { C.STEADY ≡ true → IsOk result }
 {
-    match sometime(alloc, a, b, rel, false) {
-        Ok(fails) => Ok(contrary(fails)),
-        Err(passed) => Err(passed),
-    }
+    Ok(contrary(sometime(alloc, a, b, rel, false)?))
 }

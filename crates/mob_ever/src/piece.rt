@@ -1,3 +1,4 @@
+//! The ever comparison on one piece.
 ghost use Rattle.std.specs.Prelude.{◌≡◌, false, IfOk};
 ghost use Rattle.mob_slice.specs.Comparison.{MayAsk};
 ghost use Rattle.mob_slice.specs.Entries.{IsDecided};
@@ -7,17 +8,17 @@ ghost use Rattle.mob_ever.specs.Met.{piece_meets};
 
 use crate::taken::gaps_meet;
 use mob_cells::gaps_at_ends;
-use mob_slice::{Compared, Passed, Piece, Rel};
+use mob_slice::{Compared, Formula, Piece, Rel};
 use std::alloc::Global;
 
-// Whether the comparison has the wanted truth value at some instant of the piece, of courses that
-// are not steady.
+// Whether the comparison has the wanted result at some instant of the piece, for courses that are
+// not steady.
 fn lines_meet<C: Compared + Drop>(
     alloc: Global,
     piece: &Piece<'_, C, C>,
     rel: Rel,
     want: bool,
-) -> Result<bool, Passed>
+) -> Result<bool, Formula>
 where
     C::Base: Drop,
     requires moves { C.STEADY ≡ false }
@@ -31,16 +32,16 @@ where
     }
 }
 
-/// Whether the comparison has the wanted truth value at some instant of the piece.
+/// Whether the comparison has the wanted result at some instant of the piece.
 ///
-/// `Passed` names the formula of the first entry that does not fit: F1 at the ends of the piece,
+/// The fault names the formula of the first entry that does not fit: F1 at the ends of the piece,
 /// then F2, the gaps there.
 pub fn piece_meets<C: Compared + Drop>(
     alloc: Global,
     piece: &Piece<'_, C, C>,
     rel: Rel,
     want: bool,
-) -> Result<bool, Passed>
+) -> Result<bool, Formula>
 where
     C::Base: Drop,
     requires asked { MayAsk C.ordered rel }

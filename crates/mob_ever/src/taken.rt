@@ -54,7 +54,7 @@ fn takes_inside(ends: &Ends, sign: Ordering) -> bool
     }
 }
 
-// Whether it takes it at some instant of the span.
+// Whether the function takes this sign at some instant of the span.
 fn takes_sign(span: &Span, ends: &Ends, sign: Ordering) -> bool
     ensures value { result ≡ takes_sign span.now ends.now sign }
 {
@@ -73,7 +73,7 @@ fn is_nil_line(ends: &Ends) -> bool
     is_nil(&ends.at_lower) && is_nil(&ends.at_upper)
 }
 
-// Whether the first numbers stand in the ratio of the second ones.
+// Whether `a / b` equals `c / d`.
 fn in_one_ratio(a: &Frac, b: &Frac, c: &Frac, d: &Frac) -> bool
     requires left { b.now ≢ nil }
     requires right { d.now ≢ nil }
@@ -101,7 +101,7 @@ fn nil_inside(f: &Ends, e: &Ends) -> bool
     in_one_ratio(&f.at_lower, &f.at_upper, &e.at_lower, &e.at_upper)
 }
 
-// Whether they are at one instant of the span.
+// Whether both functions are 0 at one instant of the span.
 fn both_nil(span: &Span, f: &Ends, e: &Ends) -> bool
     ensures value { result ≡ both_nil span.now f.now e.now }
 {
@@ -113,15 +113,15 @@ fn both_nil(span: &Span, f: &Ends, e: &Ends) -> bool
         || (span.upper_inc() && is_nil(&f.at_upper) && is_nil(&e.at_upper))
 }
 
-// Whether the comparison has the wanted truth value for two values that stand so to each other.
+// Whether the comparison has the wanted result for two values in this order.
 fn is_as_wanted(rel: Rel, want: bool, order: Ordering) -> bool
     ensures value { result ≡ same_bool (holds rel order) want }
 {
     rel.holds(order) == want
 }
 
-// Whether the comparison has the wanted truth value at some instant of the span, for courses with
-// this one gap.
+// Whether the comparison has the wanted result at some instant of the span, for courses with this
+// one gap.
 fn one_meets(span: &Span, rel: Rel, want: bool, f: &Ends) -> bool
     ensures value { result ≡ one_meets (λ o. same_bool (holds rel o) want) span.now f.now }
 {
@@ -130,7 +130,7 @@ fn one_meets(span: &Span, rel: Rel, want: bool, f: &Ends) -> bool
         || (is_as_wanted(rel, want, Ordering::Greater) && takes_sign(span, f, Ordering::Greater))
 }
 
-// Whether one of the two functions is other than 0 at some instant of the span.
+// Whether one of the two functions is not 0 at some instant of the span.
 fn some_apart(span: &Span, f: &Ends, e: &Ends) -> bool
     ensures value { result ≡ (takes_sign span.now f.now Ordering.Less || takes_sign span.now f.now Ordering.Greater || takes_sign span.now e.now Ordering.Less || takes_sign span.now e.now Ordering.Greater) }
 {
@@ -140,8 +140,8 @@ fn some_apart(span: &Span, f: &Ends, e: &Ends) -> bool
         || takes_sign(span, e, Ordering::Greater)
 }
 
-// Whether the comparison has the wanted truth value at some instant of the span, for courses with
-// these two gaps, as points.
+// Whether the comparison has the wanted result at some instant of the span, for courses with these
+// two gaps, of points.
 fn two_meet(span: &Span, rel: Rel, want: bool, f: &Ends, e: &Ends) -> bool
     ensures value { result ≡ two_meet (λ o. same_bool (holds rel o) want) span.now f.now e.now }
 {
@@ -149,15 +149,15 @@ fn two_meet(span: &Span, rel: Rel, want: bool, f: &Ends, e: &Ends) -> bool
         || (is_as_wanted(rel, want, Ordering::Less) && some_apart(span, f, e))
 }
 
-// The line between two values, at the lower end and at the upper one.
+// The line from one value at the lower end to another at the upper end.
 fn line_between(at_lower: Frac, at_upper: Frac) -> Ends
     ensures line { result ≡ line_between at_lower at_upper }
 {
     Ends { at_lower, at_upper }
 }
 
-/// Whether the comparison has the wanted truth value at some instant of the span, for courses with
-/// the first gaps at its lower end and the second at its upper one.
+/// Whether the comparison has the wanted result at some instant of the span, for courses with the
+/// first gaps at its lower end and the second at its upper one.
 pub fn gaps_meet(span: &Span, rel: Rel, want: bool, lower: &Gaps, upper: &Gaps) -> bool
     ensures value { result ≡ gaps_meet (λ o. same_bool (holds rel o) want) span.now lower.now upper.now }
 {

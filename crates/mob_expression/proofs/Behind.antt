@@ -3,7 +3,7 @@
 use Rattle.std.proofs.Common.{◌≡◌, ◌∙◌, ◌<◌, ◌+◌, refl, sym, ap, ℕ, List, [], ◌∷◌, ◌++◌, length, drop, get_or, Result, Ok, Err}
 use Rattle.std.proofs.lemmas.List.{drop_more}
 use Rattle.mob_typed.specs.declared.typed.ConstText.{ConstText}
-use Rattle.mob_scope.specs.declared.fault.Fault.{Fault}
+use Rattle.mob_list.specs.declared.fault.Fault.{Fault}
 use Rattle.mob_scope.specs.Answers.{Mistake, ◌>>=◌, StopsTyping}
 use Rattle.mob_expression.specs.Steps.{TypingStep, one_more}
 use Rattle.mob_expression.proofs.Wrongs.{fails_along, fails_bind}
@@ -27,7 +27,7 @@ module _ {A : Type 0} (first : TypingStep A) (others : TypingStep (List A)) (cs 
   pub more_behind : (done : List A) (x : A) (ds : List ConstText) → first cs ≡ Ok (x, ds) → behind done (one_more first others) cs ≡ behind (done ++ x ∷ []) others ds
   more_behind done x ds is = one_behind done ∙ ap (λ r. r >>= λ l. behind (done ++ l.0 ∷ []) others l.1) is
 
-  pub fails_behind : (f : Fault) (done : List A) → StopsTyping f (first cs) → StopsTyping f (behind done (one_more first others) cs)
+  pub fails_behind : (f : Fault Mistake) (done : List A) → StopsTyping f (first cs) → StopsTyping f (behind done (one_more first others) cs)
   fails_behind f done h =
       let next : A × List ConstText → Result (List A × List ConstText) Mistake = λ r. behind (done ++ r.0 ∷ []) others r.1 in
       fails_along f (first cs >>= next) (behind done (one_more first others) cs) (one_behind done) (fails_bind f (first cs) next h)
@@ -50,7 +50,7 @@ module _ {X A : Type 0} (step : X → TypingStep A) (steps : List X → TypingSt
     next = so_far ∙ ap (λ ys. behind done (steps ys) cs) (drop_more xs i x within ∙ ap (λ y. y ∷ drop (i + 1) xs) (sym at))
         ∙ same_behind (steps (x ∷ drop (i + 1) xs)) (one_more (step x) (steps (drop (i + 1) xs))) cs (more x (drop (i + 1) xs) cs) done
 
-    pub entry_fails : (f : Fault) → StopsTyping f (step x cs) → StopsTyping f whole
+    pub entry_fails : (f : Fault Mistake) → StopsTyping f (step x cs) → StopsTyping f whole
     entry_fails f h = fails_along f (behind done (one_more (step x) (steps (drop (i + 1) xs))) cs) whole next (fails_behind (step x) (steps (drop (i + 1) xs)) cs f done h)
 
     pub entry_made : (a : A) (ds : List ConstText) (after : List A) → step x cs ≡ Ok (a, ds) → after ≡ done ++ a ∷ [] → whole ≡ behind after (steps (drop (i + 1) xs)) ds

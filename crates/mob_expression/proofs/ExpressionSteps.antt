@@ -5,7 +5,7 @@ use Rattle.mob_ast.specs.declared.expression.Node.{Node}
 use Rattle.mob_ast.specs.declared.expression.Expr.{Expr}
 use Rattle.mob_ast.specs.declared.expression.Expr.TheViews.{out-Expr}
 use Rattle.mob_ast.specs.Trees.{tree_of, trees_of}
-use Rattle.mob_scope.specs.declared.fault.Fault.{Fault}
+use Rattle.mob_list.specs.declared.fault.Fault.{Fault}
 use Rattle.mob_typed.specs.declared.typed.ConstText.{ConstText}
 use Rattle.mob_typed.specs.declared.typed.TExpr.{TExpr}
 use Rattle.mob_scope.specs.Answers.{Mistake, ◌>>=◌, StopsTyping, AnswersAs}
@@ -42,7 +42,7 @@ module _ (s : ScopeParts) (e : Expr) (cs : List ConstText) (xs : List Expr) (is 
   unfolding typed_expression
   begun = ap (λ t. typed_expression s t cs) (tree_is e) ∙ ap (λ ys. typed_before_operands s node place (trees_of ys) cs >>= λ x. or_later (λ ds. typed_operands s (trees_of ys) ds >>= λ r. finished node place (trees_of ys) r.0 >>= λ t. Ok (t, r.1)) x.0 x.1) (sym is)
 
-  pub early_fails : (f : Fault) → StopsTyping f (typed_before_operands s node place (trees_of xs) cs) → StopsTyping f (typed_expression s (tree_of e) cs)
+  pub early_fails : (f : Fault Mistake) → StopsTyping f (typed_before_operands s node place (trees_of xs) cs) → StopsTyping f (typed_expression s (tree_of e) cs)
   early_fails f h = fails_along f (typed_before_operands s node place (trees_of xs) cs >>= later) (typed_expression s (tree_of e) cs) begun (fails_bind f (typed_before_operands s node place (trees_of xs) cs) later h)
 
   pub early_settles : (o : Option TExpr) (t : TExpr) (ds : List ConstText) → typed_before_operands s node place (trees_of xs) cs ≡ Ok (option_map typed_of o, ds) → o ≡ Some t → typed_expression s (tree_of e) cs ≡ Ok (typed_of t, ds)
@@ -53,17 +53,17 @@ module _ (s : ScopeParts) (e : Expr) (cs : List ConstText) (xs : List Expr) (is 
     from_operands = begun ∙ ap (λ a. a >>= later) (h ∙ ap (λ p. Ok (option_map typed_of p, ds)) o_is)
 
     module _ (ys : List Expr) (ys_is : ys ≡ (out-Expr e).args.items) where
-      pub operands_fail : (f : Fault) → StopsTyping f (typed_operands s (trees_of ys) ds) → StopsTyping f (typed_expression s (tree_of e) cs)
+      pub operands_fail : (f : Fault Mistake) → StopsTyping f (typed_operands s (trees_of ys) ds) → StopsTyping f (typed_expression s (tree_of e) cs)
       operands_fail f wrong = fails_along f (typed_operands s (trees_of xs) ds >>= last) (typed_expression s (tree_of e) cs) from_operands
           (fails_bind f (typed_operands s (trees_of xs) ds) last (subst (λ zs. StopsTyping f (typed_operands s (trees_of zs) ds)) (ys_is ∙ sym is) wrong))
 
-      pub all_typed : (r : Result TExpr Fault) (ts : List TypedTree) (es : List ConstText) (zs : List Expr) → zs ≡ (out-Expr e).args.items
+      pub all_typed : (r : Result TExpr (Fault Mistake)) (ts : List TypedTree) (es : List ConstText) (zs : List Expr) → zs ≡ (out-Expr e).args.items
           → typed_operands s (trees_of ys) ds ≡ Ok (ts, es) → AnswersAs typed_of r (finished node place (trees_of zs) ts) → TypesTo typed_of r es (typed_expression s (tree_of e) cs)
       all_typed r ts es zs zs_is made h = answered r (subst (λ us. AnswersAs typed_of r (finished node place (trees_of us) ts)) (zs_is ∙ sym is) h)
         where
           whole : typed_expression s (tree_of e) cs ≡ (finished node place (trees_of xs) ts >>= λ t. Ok (t, es))
           whole = from_operands ∙ ap (λ us. typed_operands s (trees_of us) ds >>= last) (is ∙ sym ys_is) ∙ ap (λ a. a >>= last) made
 
-          answered : (r : Result TExpr Fault) → AnswersAs typed_of r (finished node place (trees_of xs) ts) → TypesTo typed_of r es (typed_expression s (tree_of e) cs)
+          answered : (r : Result TExpr (Fault Mistake)) → AnswersAs typed_of r (finished node place (trees_of xs) ts) → TypesTo typed_of r es (typed_expression s (tree_of e) cs)
           answered (Ok t) h = whole ∙ ap (λ a. a >>= λ t. Ok (t, es)) h
           answered (Err f) h = fails_along f (finished node place (trees_of xs) ts >>= λ t. Ok (t, es)) (typed_expression s (tree_of e) cs) whole (fails_bind f (finished node place (trees_of xs) ts) (λ t. Ok (t, es)) h)

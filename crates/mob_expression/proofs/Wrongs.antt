@@ -1,13 +1,13 @@
 -- What is wrong first in a part is so in the whole.
 use Rattle.std.proofs.Common.{◌≡◌, ◌∙◌, ap, Result}
-use Rattle.mob_scope.specs.declared.fault.Fault.{Fault}
-use Rattle.mob_scope.specs.declared.fault.Fault.TheVariants.{Wrong as Refused, NoMemory}
+use Rattle.mob_list.specs.declared.fault.Fault.{Fault}
+use Rattle.mob_list.specs.declared.fault.Fault.TheVariants.{Because, NoMemory}
 use Rattle.mob_scope.specs.Answers.{Mistake, ◌>>=◌, StopsTyping}
 
-pub fails_bind : {A B : Type 0} (f : Fault) (r : Result A Mistake) (k : A → Result B Mistake) → StopsTyping f r → StopsTyping f (r >>= k)
-fails_bind (Refused kind place) r k h = ap (λ a. a >>= k) h
+pub fails_bind : {A B : Type 0} (f : Fault Mistake) (r : Result A Mistake) (k : A → Result B Mistake) → StopsTyping f r → StopsTyping f (r >>= k)
+fails_bind (Because wrong) r k h = ap (λ a. a >>= k) h
 fails_bind NoMemory r k h = tt
 
-pub fails_along : {A : Type 0} (f : Fault) (r q : Result A Mistake) → q ≡ r → StopsTyping f r → StopsTyping f q
-fails_along (Refused kind place) r q e h = e ∙ h
+pub fails_along : {A : Type 0} (f : Fault Mistake) (r q : Result A Mistake) → q ≡ r → StopsTyping f r → StopsTyping f q
+fails_along (Because wrong) r q e h = e ∙ h
 fails_along NoMemory r q e h = tt

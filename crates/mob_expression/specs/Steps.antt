@@ -1,7 +1,7 @@
 -- A step of typing: a value and the constants so far, or what is wrong first.
 use Rattle.std.specs.Prelude.{◌≡◌, List, ◌∷◌, Result, Ok, Err}
 use Rattle.mob_typed.specs.declared.typed.ConstText.{ConstText}
-use Rattle.mob_scope.specs.declared.fault.Fault.{Fault}
+use Rattle.mob_list.specs.declared.fault.Fault.{Fault}
 use Rattle.mob_scope.specs.Answers.{Mistake, ◌>>=◌, StopsTyping}
 
 -- a step takes the constants so far, and gives a value and the constants after it
@@ -14,6 +14,6 @@ one_more first others cs = first cs >>= λ r. others r.1 >>= λ s. Ok (r.0 ∷ s
 
 -- the program answers as the definition of a step reads, and leaves these constants; a failed
 -- allocation is free
-abbrev pub TypesTo : {X Y : Type 0} → (X → Y) → Result X Fault → List ConstText → Result (Y × List ConstText) Mistake → Type 0
+abbrev pub TypesTo : {X Y : Type 0} → (X → Y) → Result X (Fault Mistake) → List ConstText → Result (Y × List ConstText) Mistake → Type 0
 TypesTo view (Ok x) after read = read ≡ Ok (view x, after)
 TypesTo view (Err e) after read = StopsTyping e read

@@ -8,11 +8,12 @@ ghost use Rattle.mob_expression.specs.Expressions.{next_constant, constant, sett
 
 use crate::words::{literal_type, number_type, type_named};
 use mob_ast::{Expr, Kind, Node, SqlType, TypeWord};
+use mob_list::fault::Fault;
 use mob_list::items::Items;
 use mob_list::text::Text;
 use mob_operators::{Form, Op, is_irrational};
 use mob_scope::columns::column_named;
-use mob_scope::fault::{Fault, unless};
+use mob_scope::fault::{Mistake, unless};
 use mob_scope::scope::{Found, Scope, number};
 use mob_typed::{ConstText, TExpr, with_args};
 use std::alloc::Global;
@@ -44,7 +45,7 @@ pub fn next_constant(
     ty: SqlType,
     text: &str,
     place: u32,
-) -> Result<u32, Fault>
+) -> Result<u32, Fault<Mistake>>
     ensures next { TypesTo (λ n. n) result consts.new (next_constant statement ty text.now place consts.old) }
 {
     let index = number(consts.len())?;
@@ -88,17 +89,17 @@ fn cast_of_string(
     word: &TypeWord,
     place: u32,
     args: &[Expr],
-) -> Result<Option<TExpr>, Fault>
+) -> Result<Option<TExpr>, Fault<Mistake>>
     ensures at_once { TypesTo (option_map typed_of) result consts.new (cast_of_string (scope_of scope.now) word.now place (lone_string (trees_of args.now)) consts.old) }
 {
     let Some((text, text_place)) = lone_string(args) else {
         return Ok(None);
     };
     let Some(ty) = type_named(word) else {
-        return Err(Fault::Wrong {
+        return Err(Fault::Because(Mistake {
             kind: Kind::UnknownName,
             place: word.name.place,
-        });
+        }));
     };
     let index = next_constant(alloc, scope.statement, consts, ty, text, text_place)?;
     let mut args = Vec::new(alloc);
@@ -114,7 +115,7 @@ fn settled_constant(
     ty: SqlType,
     text: &str,
     place: u32,
-) -> Result<Option<TExpr>, Fault>
+) -> Result<Option<TExpr>, Fault<Mistake>>
     ensures at_once { TypesTo (option_map typed_of) result consts.new (settled (constant (scope_of scope.now) ty text.now place) consts.old) }
 {
     let index = next_constant(alloc, scope.statement, consts, ty, text, place)?;
@@ -129,14 +130,14 @@ fn settled_string(
     word: &TypeWord,
     text: &str,
     place: u32,
-) -> Result<Option<TExpr>, Fault>
+) -> Result<Option<TExpr>, Fault<Mistake>>
     ensures at_once { TypesTo (option_map typed_of) result consts.new (settled (typed_string (scope_of scope.now) word.now text.now place) consts.old) }
 {
     let Some(ty) = literal_type(word, text) else {
-        return Err(Fault::Wrong {
+        return Err(Fault::Because(Mistake {
             kind: Kind::UnknownName,
             place: word.name.place,
-        });
+        }));
     };
     settled_constant(alloc, scope, consts, ty, text, place)
 }
@@ -151,7 +152,7 @@ pub(crate) fn typed_before_operands(
     node: &Node,
     place: u32,
     args: &[Expr],
-) -> Result<Option<TExpr>, Fault>
+) -> Result<Option<TExpr>, Fault<Mistake>>
     ensures settled { TypesTo (option_map typed_of) result consts.new (typed_before_operands (scope_of scope.now) node.now place (trees_of args.now) consts.old) }
 {
     match node {

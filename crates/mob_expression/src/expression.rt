@@ -9,8 +9,9 @@ ghost use Rattle.mob_expression.specs.Expressions.{typed_expression, typed_opera
 use crate::constants::typed_before_operands;
 use crate::operators::finished;
 use mob_ast::Expr;
+use mob_list::fault::Fault;
 use mob_list::items::Items;
-use mob_scope::fault::Fault;
+use mob_scope::fault::Mistake;
 use mob_scope::scope::Scope;
 use mob_typed::{ConstText, TExpr};
 use std::alloc::Global;
@@ -23,7 +24,7 @@ pub fn type_expr(
     scope: &Scope<'_>,
     consts: &mut Items<ConstText>,
     e: &Expr,
-) -> Result<TExpr, Fault>
+) -> Result<TExpr, Fault<Mistake>>
     ensures typed { TypesTo typed_of result consts.new (typed_expression (scope_of scope.now) (tree_of e.now) consts.old) }
 {
     if let Some(done) = typed_before_operands(alloc, scope, consts, &e.node, e.place, &e.args)? {
@@ -40,7 +41,7 @@ pub fn type_operands(
     scope: &Scope<'_>,
     consts: &mut Items<ConstText>,
     operands: &[Expr],
-) -> Result<Vec<TExpr>, Fault>
+) -> Result<Vec<TExpr>, Fault<Mistake>>
     ensures in_order { TypesTo (λ v. map typed_of v.items) result consts.new (typed_operands (scope_of scope.now) (trees_of operands.now) consts.old) }
 {
     let mut args = Vec::new(alloc);

@@ -11,8 +11,9 @@ ghost use Rattle.mob_expression.specs.Expressions.{is_signed, digits_of, divisor
 
 use crate::words::{is_zero, type_named};
 use mob_ast::{Expr, Kind, Node, SqlType, TypeWord};
+use mob_list::fault::Fault;
 use mob_operators::{Form, Op, is_aggregate, is_function, is_irrational, operator_for};
-use mob_scope::fault::Fault;
+use mob_scope::fault::Mistake;
 use mob_typed::{TExpr, with_args};
 use std::alloc::{AllocError, Global};
 
@@ -136,20 +137,20 @@ fn operated(
     place: u32,
     divisor: Option<bool>,
     types: &[SqlType],
-) -> Result<(Op, SqlType), Fault>
+) -> Result<(Op, SqlType), Fault<Mistake>>
     ensures typed { (ts : List TypedTree) → types.now ≡ types_of ts → AnswersAs (λ r. typed r.0 r.1 place (typed_trees ts)) result (operated form name.now place divisor ts) }
 {
     let Some((op, ty)) = operator_for(form, name, types, divisor.is_some()) else {
-        return Err(Fault::Wrong {
+        return Err(Fault::Because(Mistake {
             kind: missing(form, name, types),
             place,
-        });
+        }));
     };
     if divides_by_zero(op, divisor) {
-        return Err(Fault::Wrong {
+        return Err(Fault::Because(Mistake {
             kind: Kind::ZeroDivisor,
             place,
-        });
+        }));
     }
     Ok((op, ty))
 }
@@ -165,20 +166,20 @@ fn can_cast(from: SqlType, to: SqlType) -> bool
 }
 
 // A cast of operands of these types, and the type of its result.
-fn cast(word: &TypeWord, place: u32, types: &[SqlType]) -> Result<(Op, SqlType), Fault>
+fn cast(word: &TypeWord, place: u32, types: &[SqlType]) -> Result<(Op, SqlType), Fault<Mistake>>
     ensures typed { (ts : List TypedTree) → types.now ≡ types_of ts → AnswersAs (λ r. typed r.0 r.1 place (typed_trees ts)) result (cast word.now place ts) }
 {
     let Some(ty) = type_named(word) else {
-        return Err(Fault::Wrong {
+        return Err(Fault::Because(Mistake {
             kind: Kind::UnknownName,
             place: word.name.place,
-        });
+        }));
     };
     if !can_cast_all(types, ty) {
-        return Err(Fault::Wrong {
+        return Err(Fault::Because(Mistake {
             kind: Kind::NoSuchOperator,
             place,
-        });
+        }));
     }
     Ok((Op::Cast, ty))
 }
@@ -199,7 +200,7 @@ fn operator_of(
     place: u32,
     args: &[Expr],
     types: &[SqlType],
-) -> Result<(Op, SqlType), Fault>
+) -> Result<(Op, SqlType), Fault<Mistake>>
     ensures typed { (ts : List TypedTree) → types.now ≡ types_of ts → AnswersAs (λ r. typed r.0 r.1 place (typed_trees ts)) result (finished node.now place (trees_of args.now) ts) }
 {
     match node {
@@ -211,10 +212,10 @@ fn operator_of(
         Node::Or => operated(Form::Word, "or", place, None, types),
         Node::IsNull => operated(Form::Word, "is null", place, None, types),
         Node::IsNotNull => operated(Form::Word, "is not null", place, None, types),
-        _ => Err(Fault::Wrong {
+        _ => Err(Fault::Because(Mistake {
             kind: Kind::NoSuchOperator,
             place,
-        }),
+        })),
     }
 }
 
@@ -225,7 +226,7 @@ pub(crate) fn finished(
     place: u32,
     args: &[Expr],
     typed_args: Vec<TExpr>,
-) -> Result<TExpr, Fault>
+) -> Result<TExpr, Fault<Mistake>>
     ensures typed { AnswersAs typed_of result (finished node.now place (trees_of args.now) (map typed_of typed_args.items)) }
 {
     let types = types_of(alloc, &typed_args)?;

@@ -1,4 +1,4 @@
--- Pieces of work that are done, and what they give together.
+-- Completed pieces of work, and their joint outcome.
 use Rattle.std.specs.Prelude.{◌≡◌, ℕ, ◌≤◌, List, Result, All, MatchOption}
 use Rattle.mob_fan.specs.Outcomes.{outcome_seen}
 use Rattle.mob_fan.specs.declared.pieces.Piece.{Piece}
@@ -14,7 +14,7 @@ module _ {W I F : Type 0} (size : W → ℕ) (comes : W → ℕ → ℕ → Resu
   abbrev pub ArePieces : List (Piece I F) → Type 0
   ArePieces ps = All IsPiece ps
 
-  -- the outcome of what is joined is that of the range from 0 to its end
+  -- the outcome of the joined pieces is that of the range from 0 to their end
   pub record IsJoined (j : Joined I F) : Type 0 where
     pub range : j.to ≤ size w
     pub outcome : MatchOption j.outcome (j.to ≡ 0) (λ o. comes w 0 j.to (outcome_seen o))

@@ -1,4 +1,4 @@
-// Work divided into pieces, which threads take one after another.
+//! Work divided into pieces, which worker threads take one after another.
 ghost use Rattle.std.specs.Prelude.{◌≡◌, ◌+◌, ◌<◌, ◌≤◌, ◌++◌, IfOk};
 ghost use Rattle.std.specs.Thread.{IsSend, IsSync};
 ghost use Rattle.mob_fan.specs.Outcomes.{outcome_seen};
@@ -14,24 +14,24 @@ use std::marker::{Send, Sync};
 use std::sync::atomic::AtomicU64;
 use std::thread::{Threads, join};
 
-// The workers of one call: what they share.
+// The state that the workers of one call share.
 #[derive(Drop)]
 struct Crew<'a, R, W, G> {
     rt: &'a R,
     work: &'a W,
     gate: &'a G,
-    // the places at which the work is cut
+    // the positions at which the work is cut
     cuts: &'a [usize],
-    // how long it is
+    // the size of the work
     len: usize,
-    // the number of the first piece that nobody has taken
+    // the number of the next piece that no worker has taken
     next: &'a AtomicU64,
 }
 
-/// The outcome of all of the work, by so many workers, but no more than there is work. Worker i
-/// passes the gate with its number before it begins. Each takes one piece after another, always the
-/// next that none has taken, so a worker that is slower takes fewer. Where no thread can be made
-/// the workers run one after the other.
+/// The outcome of all the work, by `workers` workers, but no more than the work has numbers. Worker
+/// i passes the gate with its number before it begins. Each takes one piece after another, always
+/// the next that none has taken, so a slower worker takes fewer. If no thread can be made, the
+/// workers run one after another. The only error is a failed allocation.
 pub fn fan<R: Threads + Sync, W: Work, G: Gate>(
     rt: &R,
     alloc: Global,
@@ -77,7 +77,7 @@ fn alone<R: Threads + Sync, W: Work, G: Gate>(
     taken(alloc, crew.work, crew.cuts, crew.len, crew.next)
 }
 
-// The pieces of `count` workers, of which `first` is the number of the first one.
+// The pieces of `count` workers, numbered from `first` on.
 #[cycle(pieces)]
 fn pieces<R: Threads + Sync, W: Work, G: Gate>(
     alloc: Global,
@@ -96,8 +96,8 @@ fn pieces<R: Threads + Sync, W: Work, G: Gate>(
     beside(alloc, crew, first, count - 1)
 }
 
-// The pieces of the worker of this number, in a thread of its own, and of `others` behind it, which
-// this thread starts meanwhile: none of them waits until another thread runs.
+// The pieces of the worker of this number, in a thread of its own, and of the `others` after it,
+// which this thread starts meanwhile: none of them waits until another thread runs.
 #[cycle(pieces)]
 fn beside<R: Threads + Sync, W: Work, G: Gate>(
     alloc: Global,
@@ -126,7 +126,7 @@ fn beside<R: Threads + Sync, W: Work, G: Gate>(
     both_lists(more?, done?)
 }
 
-// Two lists of pieces as one.
+// Two lists of pieces, joined.
 fn both_lists<I: Drop, F: Drop>(
     pieces: Vec<Piece<I, F>>,
     others: Vec<Piece<I, F>>,

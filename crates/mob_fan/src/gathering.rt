@@ -1,4 +1,4 @@
-// The outcome of all pieces together.
+//! The joint outcome of all pieces.
 ghost use Rattle.std.specs.Prelude.{◌≡◌, IfOk};
 ghost use Rattle.std.specs.List.Sorted.{IsPermutation};
 ghost use Rattle.mob_fan.specs.Outcomes.{outcome_seen};
@@ -10,16 +10,16 @@ use crate::work::Work;
 use std::alloc::{AllocError, Global};
 use std::cmp::Ordering;
 
-/// What neighbouring pieces from 0 on give together.
+/// The joint outcome of neighbouring pieces from 0 on.
 #[derive(Drop)]
 pub struct Joined<I, F> {
-    /// Where the last of them ends.
+    /// The end of the last of them.
     pub to: usize,
-    /// Their outcome, where there is a piece.
+    /// Their outcome, if there is a piece.
     pub outcome: Option<Outcome<I, F>>,
 }
 
-// Puts the last piece first.
+// Sorts the pieces, the last one first.
 fn sort<I: Drop, F: Drop>(pieces: &mut Vec<Piece<I, F>>) -> Result<(), AllocError>
     ensures same { IsPermutation pieces.old.items pieces.new.items }
 {
@@ -30,7 +30,7 @@ fn sort<I: Drop, F: Drop>(pieces: &mut Vec<Piece<I, F>>) -> Result<(), AllocErro
     }
 }
 
-// The pieces with the next one. One that is not their neighbour is left out.
+// The joined pieces with the next one. A piece that is not their neighbour is left out.
 fn next_joined<W: Work>(
     _work: &W,
     so_far: Joined<W::Item, W::Fault>,
@@ -53,7 +53,7 @@ fn next_joined<W: Work>(
     })
 }
 
-// The pieces with all of the work behind them, which is none where no piece was left out.
+// The joined pieces with the rest of the work, which is empty if no piece was left out.
 fn with_rest<W: Work>(
     alloc: Global,
     work: &W,
@@ -75,7 +75,8 @@ fn with_rest<W: Work>(
     both(outcome, rest)
 }
 
-/// The outcome of all of the work, of which these pieces are done.
+/// The outcome of all the work, of which these pieces are done. The only error is a failed
+/// allocation.
 pub fn outcome_of<W: Work>(
     alloc: Global,
     work: &W,

@@ -1,5 +1,5 @@
-//! A range of work, divided among threads. The answer is that of the whole range done at once, for
-//! every number of workers.
+//! A range of work, divided among worker threads. The answer is that of the whole range done at
+//! once, for every number of workers.
 #![tactic(auto)]
 
 mod dividing;

@@ -1,10 +1,11 @@
+//! The outcome of a range of work, and how neighbouring outcomes join.
 ghost use Rattle.std.specs.Prelude.{◌≡◌, ◌++◌, Ok, IfOk};
 ghost use Rattle.mob_fan.specs.Outcomes.{joined_outcomes, outcome_seen};
 
 use mob_list::items::Items;
 use std::alloc::AllocError;
 
-/// What a range of work gives: its items in order, or its first fault.
+/// The outcome of a range of work: its items in order, or its first fault.
 #[derive(Drop)]
 pub enum Outcome<I, F> {
     /// The items of the range, in order.
@@ -13,8 +14,8 @@ pub enum Outcome<I, F> {
     Stop(F),
 }
 
-/// The outcome of two neighbouring ranges: the items of both, or the fault that comes first. What
-/// stands behind it does not count. The one error is a failed allocation.
+/// The outcome of two neighbouring ranges: the items of both, or the fault that comes first,
+/// whatever follows it. The only error is a failed allocation.
 pub fn both<I: Drop, F: Drop>(
     left: Outcome<I, F>,
     right: Outcome<I, F>,
@@ -27,7 +28,7 @@ pub fn both<I: Drop, F: Drop>(
     }
 }
 
-// The outcome of two neighbouring ranges of which the left one gave items.
+// The outcome of two neighbouring ranges, the left one of which has items.
 fn followed<I: Drop, F: Drop>(
     items: Items<I>,
     right: Outcome<I, F>,

@@ -1,4 +1,4 @@
-// Pieces of work that are done.
+//! Completed pieces of work.
 ghost use Rattle.std.specs.Prelude.{◌≡◌, ◌≤◌, length, IfOk, OnOk};
 ghost use Rattle.mob_fan.specs.Pieces.{ArePieces};
 
@@ -7,18 +7,19 @@ use crate::work::Work;
 use std::alloc::{AllocError, Global};
 use std::sync::atomic::{AtomicU64, Ordering};
 
-/// A piece of work that is done.
+/// A completed piece of work.
 #[derive(Drop)]
 pub struct Piece<I, F> {
-    /// Where it begins.
+    /// The first number of its range.
     pub from: usize,
-    /// Where it ends.
+    /// The number after its range.
     pub to: usize,
     /// Its outcome.
     pub outcome: Outcome<I, F>,
 }
 
-// Where the piece of this number begins: the first one at 0, and one behind the last at the end.
+// The start of the piece of this number. The first piece starts at 0; the one after the last starts
+// at the end.
 fn start(cuts: &[usize], number: usize, len: usize) -> usize
     ensures within { result ≤ len }
 {
@@ -31,7 +32,7 @@ fn start(cuts: &[usize], number: usize, len: usize) -> usize
     cuts[number - 1].min(len)
 }
 
-// Does the piece of this number, if it has a length.
+// Does the piece of this number, if it is not empty.
 fn push_piece<W: Work>(
     alloc: Global,
     work: &W,
@@ -55,7 +56,8 @@ fn push_piece<W: Work>(
     Ok(())
 }
 
-/// The pieces that one worker does, each of them the next that no worker has taken.
+/// The pieces that one worker does, each of them the next that no worker has taken. The only error
+/// is a failed allocation.
 pub fn taken<W: Work>(
     alloc: Global,
     work: &W,

@@ -1,15 +1,15 @@
-// Even shares of a range.
+//! Even division of a range.
 ghost use Rattle.std.specs.Prelude.{◌+◌, ◌-◌, ◌*◌, ◌/◌, ◌≤◌};
 
 use std::alloc::{AllocError, Global};
 
-// How many pieces of the work there are for each worker. A worker that is slower than others takes
-// fewer of them, and all end at about the same time.
+// The number of pieces for each worker. A slower worker takes fewer of them, so all end at about
+// the same time.
 const PIECES: usize = 32;
 
-/// Where the first `low` of `count` pieces of the range from `from` to `to` end. On both sides of
-/// it there is an even share for each piece, rounded down, and at most one more for each: what is
-/// left over goes to the first ones, one each.
+/// The end of the first `low` of `count` pieces of the range from `from` to `to`. Every piece has
+/// the even share, rounded down. The first pieces have one number more each, until the remainder is
+/// used up.
 pub fn part_end(from: usize, to: usize, low: usize, count: usize) -> usize
     requires order { from ≤ to }
     requires some { 1 ≤ count }
@@ -26,8 +26,8 @@ pub fn part_end(from: usize, to: usize, low: usize, count: usize) -> usize
     from + share * low + left_over.min(low)
 }
 
-/// The places that cut a range from 0 into even pieces: 32 for each worker, or as many as the
-/// range is long.
+/// The positions that cut a range from 0 into even pieces: 32 for each worker, or as many as the
+/// range has numbers. The only error is a failed allocation.
 pub fn even_cuts(alloc: Global, len: usize, workers: usize) -> Result<Vec<usize>, AllocError>
     requires few { workers ≤ 64 }
 {

@@ -1,3 +1,4 @@
+//! The trait of work on a range of numbers.
 ghost use Rattle.std.specs.Prelude.{ℕ, ◌≡◌, ◌≤◌, List, Result, IfOk};
 ghost use Rattle.mob_fan.specs.Outcomes.{IsWork, outcome_seen};
 
@@ -6,20 +7,20 @@ use crate::shares::even_cuts;
 use std::alloc::{AllocError, Global};
 use std::marker::{Send, Sync};
 
-/// Work on a range of numbers, from 0 up to its size. Each range within it has an outcome, and that
-/// of a range is made of those of its two neighbouring parts.
+/// Work on a range of numbers, from 0 up to its size. Each range within it has an outcome, and the
+/// outcome of a range is that of its two neighbouring parts, joined.
 pub trait Work: Sync {
-    /// What the work gives, in order.
+    /// The items that the work returns, in order.
     type Item: Send + Drop;
 
-    /// Why a range has no items.
+    /// The reason why a range has no items.
     type Fault: Send + Drop;
 
     ghost size_of: { Self → ℕ };
 
     ghost comes: { Self → ℕ → ℕ → Result (List Self.Item) Self.Fault → Type 0 };
 
-    /// The outcome of the range from `from` up to `to`. A failed allocation is no part of it.
+    /// The outcome of the range from `from` up to `to`. The only error is a failed allocation.
     fn piece(
         &self,
         alloc: Global,
@@ -30,9 +31,9 @@ pub trait Work: Sync {
         requires range { to ≤ size_of self.now }
         ensures outcome { IfOk result (λ o. comes self.now from to (outcome_seen o)) };
 
-    /// The places at which work of this size is cut into pieces for so many workers, in order. Any
-    /// places give the same outcome: they decide only how long each piece takes. The default makes
-    /// 32 pieces for each worker, about as long as each other.
+    /// The positions, in order, at which work of this size is cut into pieces for so many workers.
+    /// Any positions give the same outcome: they only decide how long each piece takes. The default
+    /// makes 32 pieces for each worker, of about equal length.
     fn cuts(&self, alloc: Global, len: usize, workers: usize) -> Result<Vec<usize>, AllocError>
         requires size { len ≡ size_of self.now }
         requires some { 1 ≤ workers }

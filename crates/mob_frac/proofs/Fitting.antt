@@ -1,4 +1,4 @@
--- What fits of two lists of parts together.
+-- Two lists of parts that fit together.
 use Rattle.std.specs.Prelude.{List, [], ◌∷◌, ◌++◌}
 use Rattle.mob_ratio.specs.Ratio.{Ratio}
 use Rattle.mob_frac.specs.Formula.{AllFit}

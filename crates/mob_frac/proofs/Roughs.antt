@@ -14,7 +14,7 @@ use Rattle.mob_frac.specs.RoughInside.{IsRough, rough_value}
 use Rattle.mob_frac.specs.declared.rough.Rough.TheInside.{Inside}
 use Rattle.mob_frac.proofs.Operations.{abs_positive}
 
--- parts that fit do so in lowest terms
+-- if the parts fit, they fit in lowest terms
 pub fits_over : (n d : ℤ) → pos 0 <ℤ d → nat_abs n < 2 ^ 62 → nat_abs d < 2 ^ 62 → Fits (over n (nat_abs d))
 fits_over n d h p q =
     let e = over-parts n (nat_abs d) (abs_positive d h).1 in
@@ -34,7 +34,7 @@ times_positive (pos d) (pos e) h k =
 times_positive (negsuc d) e h k = absurd h.lt
 times_positive (pos d) (negsuc e) h k = absurd k.lt
 
--- the number is above 0 where its numerator is
+-- the number is above 0 if its numerator is
 pub num_above : (f : Inside) → IsRough f → whole (pos 0) <ℚ rough_value f → pos 0 <ℤ f.num
 num_above f h p = (zero_lt f.num (nat_abs f.den) (abs_positive f.den h.den_positive).1).0 (rw whole-over at p)
 
@@ -69,11 +69,11 @@ sum_parts a f h =
     let p : pos 0 <ℤ pos a.den = let q : 0 < a.den = den_pos a in omega (arith, linear) in
     rw (abs_times (pos a.den) f.den p h.den_positive) (sym s ∙ ap (λ z. z +ℚ rough_value f) (over-self a))
 
--- the time from l to u is above 0 where l is before u
+-- if l is before u, the time from l to u is above 0
 pub apart_above : (l u : Ratio) → l <ℚ u → whole (pos 0) <ℚ (u -ℚ l)
 apart_above = clear2 _ (λ D l u p h. let h' = simp cleared at h in simp cleared (omega (arith, linear)))
 
--- what is known of a number is known of the same one
+-- an equation carries the facts of one number over to the other
 pub carried : (o : Option Ratio) (x y : Ratio) → x ≡ y → IfSome o (λ r. (r ≡ x) × Fits r) → IfSome o (λ r. (r ≡ y) × Fits y)
 carried None x y e h = tt
 carried (Some r) x y e h = (h.0 ∙ e, subst Fits (h.0 ∙ e) h.1)

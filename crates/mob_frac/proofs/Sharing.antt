@@ -1,4 +1,4 @@
--- Sums and products whose common divisors are taken out of the parts before these are multiplied.
+-- Sums and products whose common divisors are divided out before multiplying.
 use Rattle.std.proofs.Common.{◌≡◌, ℕ, zero, suc, ◌+◌, ◌-◌, ◌*◌, ◌/◌, ◌<◌, ℤ, pos, ◌+ℤ◌, ◌*ℤ◌, ◌<ℤ◌, nat_abs, int_div, arith, ap, sym, subst, ◌∙◌, ◌⊎◌, inl, inr}
 use native.Mathlib.Nat.{dvd_refl, eq-one_of_dvd-one, mul_assoc, div-mul_cancel, mul-div_cancel, dvd-mul_right, dvd-mul_left, dvd-add, dvd-sub, dvd_trans, mul-pos, mul_comm}
 use Rattle.std.specs.Int.{◌∣◌}
@@ -16,7 +16,7 @@ use Rattle.mob_frac.specs.Fits.{IsLowest}
 pub den_positive : (q : Ratio) (d : ℤ) → d ≡ pos q.den → pos 0 <ℤ d
 den_positive q d e = let h : 0 < q.den = den_pos q in rw e (omega (arith, linear))
 
--- divisors of numbers without a common divisor have none
+-- divisors of coprime numbers are coprime
 coprime_parts : (m n x y : ℕ) → x ∣ m → y ∣ n → gcd m n ≡ 1 → gcd x y ≡ 1
 coprime_parts m n x y p q e = coprime-dvd m x y p (gcd_comm m y ∙ coprime-dvd n y m q (gcd_comm n m ∙ e))
 
@@ -34,7 +34,7 @@ parts_divide n d h =
       rw e.1 (subst (λ (m : ℕ). d / g ∣ m) y (dvd-mul_right (d / g) g)),
     )
 
--- the product, by each numerator over the denominator of the other
+-- the product, from each numerator over the other's denominator
 pub crossed : (a b p q : Ratio) → p ≡ over a.num b.den → q ≡ over b.num a.den
     → IsLowest (p.num *ℤ q.num) (pos (p.den * q.den)) × (over (p.num *ℤ q.num) (p.den * q.den) ≡ a *ℚ b)
 unfolding ◌*ℚ◌
@@ -63,7 +63,7 @@ dvd_of_sum d x y s t = by (cases_eq (nat_abs x) (nat_abs (x +ℤ y) + nat_abs y)
         let e : nat_abs x ≡ (nat_abs (x +ℤ y) - nat_abs y) + (nat_abs y - nat_abs (x +ℤ y)) = omega (arith, linear) in
         rw e (dvd-add d (dvd-sub d s t) (dvd-sub d t s))
 
--- the numerator of a sum has no divisor in common with the part of a denominator that is not shared
+-- the numerator of a sum is coprime to the unshared part of a denominator
 top_clear : (m n : ℤ) (p q : ℕ) → gcd (nat_abs m) p ≡ 1 → gcd p q ≡ 1 → gcd (nat_abs (m *ℤ pos q +ℤ n *ℤ pos p)) p ≡ 1
 top_clear m n p q e f =
     let t = m *ℤ pos q +ℤ n *ℤ pos p in
@@ -74,9 +74,8 @@ top_clear m n p q e f =
     let own : d ∣ nat_abs m = dvd_of_coprime d q (nat_abs m) (coprime-dvd p d q is.1 f) first in
     eq-one_of_dvd-one (subst (λ (k : ℕ). d ∣ k) e ((gcd-is (nat_abs m) p).2 d own is.1))
 
--- what is known of the parts of a sum of a and b: s is the greatest common divisor of the
--- denominators, p and q are what they have besides, and t is the numerator over the least common
--- denominator
+-- the parts of a sum of a and b: s is the greatest common divisor of the denominators, p and q are
+-- their quotients by s, and t is the numerator over the least common denominator
 pub record IsUnlike (a b : Ratio) (s p q : ℕ) (t : ℤ) : Type 0 where
   pub left : p * s ≡ a.den
   pub right : q * s ≡ b.den
@@ -126,8 +125,8 @@ top_value a b s p q t h =
         → x *ℤ pos ((p * s) * (q * s)) ≡ (m *ℤ pos (q * s) +ℤ n *ℤ pos (p * s)) *ℤ pos (p * (q * r))
     cross_value m n x s p q r e = let f = simp products at (ap (λ z. z *ℤ pos (s * p * q)) e) in simp products (omega (arith, linear, f))
 
--- the sum, over the least common denominator, by what the numerator has in common with what the
--- denominators share
+-- the sum over the least common denominator, reduced by the common divisor of its numerator and of
+-- s
 pub summed : (a b : Ratio) (s p q : ℕ) (t : ℤ) → IsUnlike a b s p q t
     → IsLowest (int_div t (pos (gcd (nat_abs t) s))) (pos (p * (b.den / gcd (nat_abs t) s)))
     × (over (int_div t (pos (gcd (nat_abs t) s))) (p * (b.den / gcd (nat_abs t) s)) ≡ a +ℚ b)
@@ -151,7 +150,7 @@ summed a b s p q t h =
 pub shared_positive : (a b : Ratio) (s : ℤ) → s ≡ pos (gcd a.den b.den) → pos 0 <ℤ s
 shared_positive a b s e = let h : 0 < gcd a.den b.den = gcd_pos a.den b.den (den_pos b) in rw e (omega (arith, linear))
 
--- the same of the integers that the code makes, one after another
+-- the same for the integers that the code computes, one after another
 pub summed_parts : (a b : Ratio) (s l r t g u v : ℤ) → s ≡ pos (gcd a.den b.den) → l ≡ int_div (pos a.den) s → r ≡ int_div (pos b.den) s
     → t ≡ a.num *ℤ r +ℤ b.num *ℤ l → g ≡ pos (gcd (nat_abs t) (nat_abs s)) → u ≡ int_div t g → v ≡ l *ℤ int_div (pos b.den) g
     → IsLowest u v × (over u (nat_abs v) ≡ a +ℚ b)

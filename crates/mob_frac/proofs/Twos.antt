@@ -1,4 +1,4 @@
--- Greatest common divisors of odd numbers, and of numbers with their twos put aside.
+-- Greatest common divisors of odd numbers, and of numbers without their factors of 2.
 use Rattle.std.proofs.Common.{◌≡◌, ℕ, zero, suc, ◌+◌, ◌-◌, ◌*◌, ◌/◌, ◌%◌, ◌^◌, ◌<◌, ◌≤◌, min, arith, ap, sym, subst, ◌∙◌, mod-eq_of_lt, pow-suc, mul_assoc, mul_comm, ◌⊎◌, inl, inr}
 use Rattle.std.specs.Int.{IsGcd, bit_at, w64, trailing_zeros, ◌∣◌}
 use Rattle.std.proofs.lemmas.Nat.{shr_split, mod-pow-add, pow_pos, pow-add}
@@ -10,7 +10,7 @@ use Rattle.mob_ratio.specs.Gcd.{gcd}
 use Rattle.mob_ratio.specs.GcdLaws.{gcd-is, gcd_comm, gcd-mul, gcd_one_right, gcd_le, dvd_of_coprime}
 use Rattle.mob_ratio.proofs.ProductLemmas.{coprime-mul, coprime-dvd}
 
--- low bits that are all 0 leave no rest
+-- if the low bits are all 0, the remainder is 0
 low_zero : (t n : ℕ) → ((i : ℕ) → i < t → bit_at n i ≡ 0) → n % 2 ^ t ≡ 0
 low_zero zero n h = omega arith
 low_zero (suc t) n h =
@@ -36,7 +36,7 @@ odd_pow : (k x : ℕ) → x % 2 ≡ 1 → gcd x (2 ^ k) ≡ 1
 odd_pow zero x h = gcd_one_right x
 odd_pow (suc k) x h = ap (gcd x) (pow-suc 2 k) ∙ coprime-mul x (2 ^ k) 2 (odd_pow k x h) (odd_two x h)
 
--- twos of the other number are no divisors of an odd one
+-- factors of 2 in one number do not divide an odd one
 odd_twos : (k x y g : ℕ) → x % 2 ≡ 1 → IsGcd x y g → IsGcd x (y * 2 ^ k) g
 odd_twos k x y g h is = (
   is.0,
@@ -44,7 +44,7 @@ odd_twos k x y g h is = (
   λ d p q. is.2 d p (dvd_of_coprime d (2 ^ k) y (coprime-dvd x d (2 ^ k) p (odd_pow k x h)) (subst (λ (n : ℕ). d ∣ n) (mul_comm y (2 ^ k)) q)),
 )
 
--- one step: the lesser of two odd numbers, and their difference with its twos taken out
+-- one step: the smaller of two odd numbers, and the odd part of their difference
 pub odd_step : (k x y rest g : ℕ) → x % 2 ≡ 1 → y % 2 ≡ 1 → rest * 2 ^ k ≡ (x - y) + (y - x) → IsGcd (min x y) rest g → IsGcd x y g
 odd_step k x y rest g hx hy e is = by (cases_lt x y)
   where
@@ -73,7 +73,7 @@ few_twos i j x y le h =
     in
     ap (gcd (x * 2 ^ i)) e ∙ gcd-mul x (y * 2 ^ (j - i)) (2 ^ i) (pow_pos i) ∙ ap (λ (n : ℕ). n * 2 ^ i) (gcd_twos (j - i) x y h)
 
--- the twos that both have are a common divisor
+-- the common factors of 2 are a common divisor
 pub twos_apart : (i j x y a b : ℕ) → x % 2 ≡ 1 → y % 2 ≡ 1 → x * 2 ^ i ≡ a → y * 2 ^ j ≡ b → gcd x y * 2 ^ min i j ≡ gcd a b
 twos_apart i j x y a b hx hy ea eb = by (cases_lt i j) ∙ ap (λ (n : ℕ). gcd n (y * 2 ^ j)) ea ∙ ap (gcd a) eb
   where
@@ -92,7 +92,7 @@ odd_least x y hx hy = by (cases_lt x y)
     by (inl lt) = let least : min x y ≡ x = omega arith in rw least hx
     by (inr le) = let least : min x y ≡ y = omega arith in rw least hy
 
--- the divisor fits where one of the numbers does, so shifting it drops nothing
+-- the divisor fits if one of the numbers does, so shifting it loses no bits
 pub shifted : (i j m x y r a b : ℕ) → 0 < b → b < 2 ^ 64 → x % 2 ≡ 1 → y % 2 ≡ 1 → x * 2 ^ i ≡ a → y * 2 ^ j ≡ b → r ≡ gcd x y → m ≡ min i j → (r * 2 ^ m) % 2 ^ 64 ≡ gcd a b
 shifted i j m x y r a b some fits hx hy ea eb er em =
     let e : r * 2 ^ m ≡ gcd a b = rw (er, em) (twos_apart i j x y a b hx hy ea eb) in
@@ -100,7 +100,7 @@ shifted i j m x y r a b some fits hx hy ea eb er em =
     let below : gcd a b < 2 ^ 64 = omega (arith, l) in
     ap (λ (n : ℕ). n % 2 ^ 64) e ∙ mod-eq_of_lt below
 
--- two equal numbers are their divisor
+-- two equal numbers are their own divisor
 pub gcd_same : (a b x y : ℕ) → x ≡ y → ((g : ℕ) → IsGcd x y g → IsGcd a b g) → x ≡ gcd a b
 gcd_same a b x y e f =
     let own : IsGcd x x x = (dvd_refl x, dvd_refl x, λ d p q. p) in
@@ -112,6 +112,6 @@ gcd_zero_right a b e = same_from_IsGcd a b a (gcd a b) (IsGcd-from_zero a b e) (
 pub gcd_zero_left : (a b : ℕ) → a ≡ 0 → b ≡ gcd a b
 gcd_zero_left a b e = gcd_zero_right b a e ∙ gcd_comm b a
 
--- what a number leaves of another has the same divisor with it
+-- a remainder has the same greatest common divisor with the divisor as the dividend
 pub gcd_rest : (a b : ℕ) → gcd b (a % b) ≡ gcd a b
 gcd_rest a b = same_from_IsGcd a b (gcd b (a % b)) (gcd a b) (IsGcd-from_mod a b (gcd b (a % b)) (gcd-is b (a % b))) (gcd-is a b)

@@ -1,8 +1,8 @@
 //! Exact fractions: a numerator and a denominator of at most 62 bits, in lowest terms.
 //!
-//! Each operation gives the result of the rational numbers, or `Overflow` exactly where that
-//! result, in lowest terms, has a part of more than 62 bits. Nothing is rounded, nothing panics and
-//! nothing takes memory. In contracts a `Frac` is the rational number that it stands for.
+//! Each operation returns the result of the rational numbers, or `Overflow` exactly if that result,
+//! in lowest terms, has a part of more than 62 bits. Nothing is rounded, nothing panics and nothing
+//! allocates. Contracts see a `Frac` as its rational number.
 #![tactic(auto)]
 
 mod fraction;

@@ -1,4 +1,4 @@
-// Fractions that need not be in lowest terms: steps on the way to a result that is reduced once.
+//! Fractions that need not be in lowest terms: intermediate steps of a result that is reduced once.
 ghost use Rattle.std.specs.Prelude.{◌≡◌, ◌<◌, pos, ◌<ℤ◌, nat_abs, IfSome};
 ghost use Rattle.mob_ratio.specs.Ratio.{over, whole, ◌+ℚ◌, ◌*ℚ◌, ◌/ℚ◌, ◌<ℚ◌};
 ghost use Rattle.mob_frac.specs.Fits.{Fits, IsExact};
@@ -7,8 +7,9 @@ use crate::fraction::{Frac, LIMIT, Overflow, reduced};
 use crate::reduction::product;
 use std::marker::Model;
 
-/// A fraction whose parts fit as those of a `Frac` do, and need not be in lowest terms. What does
-/// not fit so may fit in lowest terms, so there is no result where parts are too large.
+/// A fraction whose parts are below `2^62`, as those of a `Frac`, and need not be in lowest terms.
+/// An operation returns `None` if a part of its unreduced result is too large, even if it would fit
+/// in lowest terms.
 #[derive(Drop)]
 pub struct Rough {
     num: i64,
@@ -29,7 +30,7 @@ impl Model for Rough {
     ghost invariant = { IsRough };
 }
 
-// The fraction, where both parts fit.
+// The fraction, if both parts fit.
 #[inline(always)]
 pub(crate) fn fitting(num: i128, den: i128) -> Option<Rough>
     requires positive { pos 0 <ℤ den }
@@ -61,7 +62,8 @@ impl Rough {
         fitting(product(self.num, other.num), product(self.den, other.den))
     }
 
-    /// The sum with a number before it, in lowest terms.
+    /// The sum `first + self`, in lowest terms. It is `Overflow` exactly if the reduced sum has a
+    /// part of more than 62 bits.
     pub fn behind(&self, first: &Frac) -> Result<Frac, Overflow>
         ensures exact { IsExact (first.now +ℚ self.now) result }
     {

@@ -12,12 +12,10 @@ use Rattle.mob_slice.specs.declared.formula.Formula.{Formula}
 use Rattle.mob_list.proofs.Entries.{none_in, which_in}
 use Rattle.mob_rtree_nodes.specs.Tree.{AreSame, EntryOf}
 use Rattle.mob_rtree_nodes.specs.Reach.{Branch, IsSpread, is_root, entries_under}
-use Rattle.mob_knn.specs.declared.fault.NearFault.{NearFault}
-use Rattle.mob_knn.specs.declared.fault.NearFault.TheVariants.{Passed, NoMemory}
 use Rattle.mob_knn.specs.declared.waiting.Waiting.{Waiting}
 use Rattle.mob_knn.specs.declared.waiting.What.{What}
 use Rattle.mob_knn.specs.declared.waiting.What.TheVariants.{Node, Entry, Answer}
-use Rattle.mob_knn.specs.Nearest.{Trip, Asked, HasApproach, AreFirstRows, AreOfTrips, IsAskedBox, IsPassed, OnNearFault}
+use Rattle.mob_knn.specs.Nearest.{Trip, Asked, HasApproach, AreFirstRows, AreOfTrips, IsAskedBox, IsPassed}
 use Rattle.mob_knn.specs.Steps.{State, IsAdvanced, IsEntry, IsReachedIn, HasUnfitPart}
 use Rattle.mob_knn.specs.Waits.{waiting_cmp, entries_in, answers_at}
 use Rattle.mob_knn.proofs.Known.{entry_box, trips_known}
@@ -28,10 +26,6 @@ use Rattle.mob_knn.proofs.Searching.{IsKnown, IsHeld, IsSearching, IsPopped, IsD
 pub nil_of : {A : Type 0} (xs : List A) → length xs ≡ 0 → xs ≡ []
 nil_of [] h = refl
 nil_of (x ∷ xs) h = absurd (omega (arith, h))
-
-pub on_passed : (P Q : ℕ → Formula → Type 0) (e : NearFault) → OnNearFault P e → ((row : ℕ) (formula : Formula) → P row formula → Q row formula) → OnNearFault Q e
-on_passed P Q (Passed row formula) h f = f row formula h
-on_passed P Q NoMemory h f = tt
 
 module _ {bs : List Branch} {root : Option ℕ} {entries : List EntryOf} {has : ℕ → Ratio → Type 0} {q : BoxOf} (known : IsKnown bs root entries has q) where
   none_in_empty : (k : ℕ) → entries ≡ [] → AreFirstRows has k []

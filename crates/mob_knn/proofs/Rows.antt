@@ -6,12 +6,12 @@ use Rattle.mob_ratio.specs.Ratio.{Ratio}
 use Rattle.mob_slice.specs.Entries.{IsFirst}
 use Rattle.mob_slice.specs.Lines.{plane_value_of}
 use Rattle.mob_slice.specs.Sides.{Slices, given_at, pieces}
-use Rattle.mob_slice.specs.declared.formula.Passed.{Passed}
 use Rattle.mob_near.specs.Approaches.{IsApproach}
 use Rattle.mob_near.specs.Entries.{entries_of_approach}
 use Rattle.mob_near.proofs.OneApproach.{approach_once}
 use Rattle.mob_knn.specs.Nearest.{Trip, Asked, IsTrip, HasApproach}
 use Rattle.mob_knn.specs.Steps.{IsOnly, HasUnfitPart}
+use Rattle.mob_slice.specs.declared.formula.Formula.{Formula}
 
 -- one trip stands in a row
 inner : Option (Option Trip) → Option Trip
@@ -36,12 +36,12 @@ only_of : (trips : List (Option Trip)) (asked : Asked) (row : ℕ) (trip : Trip)
 only_of trips asked row trip None h k = λ m i. k (subst (λ v. IsApproach (given_at plane_value_of (Slices v)) (given_at plane_value_of asked) (Some m)) (one_trip trips row i.0 trip i.1 h) i.2).0
 only_of trips asked row trip (Some m) h k = (trip, h, k)
 
-pub only_there : (trips : List (Option Trip)) (asked : Asked) (row : ℕ) (trip : Trip) (r : Result (Option Ratio) Passed) → IsTrip trips row trip → IfOk r (λ o. IsApproach (given_at plane_value_of (Slices trip)) (given_at plane_value_of asked) o)
+pub only_there : (trips : List (Option Trip)) (asked : Asked) (row : ℕ) (trip : Trip) (r : Result (Option Ratio) Formula) → IsTrip trips row trip → IfOk r (λ o. IsApproach (given_at plane_value_of (Slices trip)) (given_at plane_value_of asked) o)
     → IfOk r (λ o. IsOnly (HasApproach trips asked row) o)
 only_there trips asked row trip (Ok o) h k = only_of trips asked row trip o h k
 only_there trips asked row trip (Err e) h k = tt
 
-pub only_unfit : (trips : List (Option Trip)) (asked : Asked) (row : ℕ) (trip : Trip) (r : Result (Option Ratio) Passed) → IsTrip trips row trip → IfErr r (λ p. IsFirst (flat_map entries_of_approach (pieces (Slices trip) asked)) (Some p.formula))
-    → IfErr r (λ p. HasUnfitPart trips asked row p.formula)
+pub only_unfit : (trips : List (Option Trip)) (asked : Asked) (row : ℕ) (trip : Trip) (r : Result (Option Ratio) Formula) → IsTrip trips row trip → IfErr r (λ p. IsFirst (flat_map entries_of_approach (pieces (Slices trip) asked)) (Some p))
+    → IfErr r (λ p. HasUnfitPart trips asked row p)
 only_unfit trips asked row trip (Ok o) h k = tt
 only_unfit trips asked row trip (Err e) h k = (trip, h, k)

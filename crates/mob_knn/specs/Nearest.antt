@@ -19,8 +19,6 @@ use Rattle.mob_meets.specs.Covers.{box_between}
 use Rattle.mob_gaps.specs.Gaps.{gap_of}
 use Rattle.mob_gaps.specs.declared.kind.Gap.{Gap}
 use Rattle.mob_gaps.specs.declared.kind.Gap.TheVariants.{Apart, AtLeast}
-use Rattle.mob_knn.specs.declared.fault.NearFault.{NearFault}
-use Rattle.mob_knn.specs.declared.fault.NearFault.TheVariants.{Passed, NoMemory}
 
 -- trips by their rows, of which each may be missing, and what is asked: a moving point or a point
 abbrev pub Trip : Type 0
@@ -128,8 +126,3 @@ pub record IsPassed (trips : List (Option Trip)) (asked : Asked) (k row : ℕ) (
   pub gap : Ratio
   pub far : gap_of box asked_box ≡ AtLeast gap
   pub below : HasFewBelow (HasApproach trips asked) k gap
-
--- the row and the formula of a fault; running out of memory has none
-abbrev pub OnNearFault : (ℕ → Formula → Type 0) → NearFault → Type 0
-OnNearFault P (Passed row formula) = P row formula
-OnNearFault P NoMemory = Unit {0}

@@ -1,16 +1,7 @@
 // Why there is no answer.
+use mob_list::fault::Fault;
 use mob_slice::Formula;
 
-/// Why a search has no answer.
-#[derive(Clone, Copy, Debug, Drop)]
-pub enum NearFault {
-    /// A part of a formula of the nearest approach of a trip does not fit.
-    Passed {
-        /// The row of the trip, from 0.
-        row: u32,
-        /// The first formula with such a part.
-        formula: Formula,
-    },
-    /// Out of memory.
-    NoMemory,
-}
+/// Why a search has no answer: the row of a trip, from 0, with the first formula of its nearest
+/// approach that has a part that does not fit, or out of memory.
+pub type NearFault = Fault<(u32, Formula)>;

@@ -1,13 +1,14 @@
 // The search.
 ghost use Rattle.std.specs.Prelude.{◌≡◌, ℕ, ◌<◌, ◌+◌, ◌≤◌, ◌++◌, ◌∷◌, [], IfOk, IfErr, OnOk, Option};
 ghost use Rattle.std.specs.List.Sorted.{IsPermutation};
+ghost use Rattle.mob_list.specs.Faults.{OnCause};
 ghost use Rattle.mob_ratio.specs.Ratio.{Ratio};
 ghost use Rattle.mob_rtree_nodes.specs.Reach.{IsSpread};
 ghost use Rattle.std.specs.BinaryHeap.{heap_items, KeepsHeap};
 ghost use Rattle.mob_slice.specs.Sides.{operand_of};
 ghost use Rattle.mob_stbox.specs.Boxes.{BoxOf};
-ghost use Rattle.mob_knn.specs.declared.fault.NearFault.TheVariants.{NoMemory};
-ghost use Rattle.mob_knn.specs.Nearest.{AreNearest, AreOfTrips, HasApproach, IsAskedBox, IsPassed, OnNearFault, count_within, reach_of};
+ghost use Rattle.mob_list.specs.declared.fault.Fault.TheVariants.{NoMemory};
+ghost use Rattle.mob_knn.specs.Nearest.{AreNearest, AreOfTrips, HasApproach, IsAskedBox, IsPassed, count_within, reach_of};
 ghost use Rattle.mob_knn.specs.Steps.{IsAdvanced, IsOnly, found_answer, IsEntry, IsReachedIn, HasUnfitPart};
 ghost use Rattle.mob_knn.specs.declared.waiting.What.TheVariants.{Node};
 ghost use Rattle.mob_knn.specs.Waits.{waiting_cmp};
@@ -17,6 +18,7 @@ use crate::fault::NearFault;
 use crate::trips::row_approach;
 use crate::waiting::{Waiting, What, open, wait};
 use mob_frac::Frac;
+use mob_list::fault::Fault;
 use mob_list::items::Items;
 use mob_rtree::RTree;
 use mob_slice::{Moving, Operand, PlaneLine};
@@ -38,16 +40,13 @@ fn look<L: Ledger>(
     ensures looked { OnOk result ((o : Option Ratio) × IsOnly (HasApproach trips.now (operand_of asked.now) row) o × IsPermutation (found_answer row o ++ heap_items heap.old) (heap_items heap.new)) }
     ensures order { OnOk result (KeepsHeap waiting_cmp (heap_items heap.old) (heap_items heap.new)) }
     ensures steps { steps.new ≡ steps.old + 1 }
-    ensures err { IfErr result (OnNearFault (λ r formula. (r ≡ row) × HasUnfitPart trips.now (operand_of asked.now) r formula)) }
+    ensures err { IfErr result (OnCause (λ f. (f.0 ≡ row) × HasUnfitPart trips.now (operand_of asked.now) f.0 f.1)) }
 {
     steps.tick();
     match row_approach(alloc, trips, row, asked) {
         Ok(Some(approach)) => wait(heap, approach, What::Answer(row)),
         Ok(None) => Ok(()),
-        Err(passed) => Err(NearFault::Passed {
-            row,
-            formula: passed.formula,
-        }),
+        Err(passed) => Err(Fault::Because((row, passed))),
     }
 }
 
@@ -56,10 +55,7 @@ fn tell(found: &mut Vec<(u32, Frac)>, row: u32, approach: Frac) -> Result<(), Ne
     ensures told { OnOk result (found.new.items ≡ found.old.items ++ (row, approach) ∷ []) }
     ensures err { IfErr result (λ e. e ≡ NoMemory) }
 {
-    match found.push((row, approach)) {
-        Ok(()) => Ok(()),
-        Err(_) => Err(NearFault::NoMemory),
-    }
+    Ok(found.push((row, approach))?)
 }
 
 // One step for what the heap gave first: opens a node, computes the approach of an entry, or adds
@@ -79,7 +75,7 @@ fn advance<L: Ledger>(
     ensures ok { OnOk result (IsAdvanced tree.now.nodes area.now (HasApproach trips.now (operand_of asked.now)) first.now.key first.now.what (record { heap = heap_items heap.old; found = found.old.items; steps = steps.old }) (record { heap = heap_items heap.new; found = found.new.items; steps = steps.new })) }
     ensures spread { OnOk result ((n : ℕ) → first.now.what ≡ Node n → IsSpread tree.now.nodes n) }
     ensures order { OnOk result (KeepsHeap waiting_cmp (heap_items heap.old) (heap_items heap.new)) }
-    ensures err { IfErr result (OnNearFault (λ row formula. IsEntry first.now.what row × HasUnfitPart trips.now (operand_of asked.now) row formula)) }
+    ensures err { IfErr result (OnCause (λ f. IsEntry first.now.what f.0 × HasUnfitPart trips.now (operand_of asked.now) f.0 f.1)) }
 {
     match first.what {
         What::Node(n) => open(heap, tree.part(n), &first.key, area),
@@ -103,7 +99,7 @@ fn search<L: Ledger>(
     requires some { 0 < k }
     ensures nearest { IfOk result (λ rs. AreNearest trips.now (operand_of asked.now) k rs.items) }
     ensures cost { IfOk result (λ rs. steps.new ≤ steps.old + count_within (reach_of k rs.items) area.now tree.now.entries) }
-    ensures passed { IfErr result (OnNearFault (IsPassed trips.now (operand_of asked.now) k)) }
+    ensures passed { IfErr result (OnCause (λ f. IsPassed trips.now (operand_of asked.now) k f.0 f.1)) }
 {
     let mut found = Vec::new(alloc);
     let Some(root) = tree.root() else {
@@ -148,7 +144,7 @@ pub fn nearest<L: Ledger>(
     requires entries { AreOfTrips trips.now tree.now.entries }
     ensures nearest { IfOk result (λ rs. AreNearest trips.now (operand_of asked.entry) k rs) }
     ensures cost { IfOk result (λ rs. (q : BoxOf) → IsAskedBox (operand_of asked.entry) q → steps.new ≤ steps.old + count_within (reach_of k rs) q tree.now.entries) }
-    ensures passed { IfErr result (OnNearFault (IsPassed trips.now (operand_of asked.entry) k)) }
+    ensures passed { IfErr result (OnCause (λ f. IsPassed trips.now (operand_of asked.entry) k f.0 f.1)) }
 {
     if k == 0 {
         let_go(asked);

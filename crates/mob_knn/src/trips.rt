@@ -12,7 +12,7 @@ ghost use Rattle.mob_knn.specs.Steps.{IsOnly, HasUnfitPart};
 use crate::asked::again;
 use mob_frac::Frac;
 use mob_near::approach_squared;
-use mob_slice::{Moving, Operand, Passed, PlaneLine};
+use mob_slice::{Formula, Moving, Operand, PlaneLine};
 use std::alloc::Global;
 
 // The square of the nearest approach of a trip.
@@ -20,9 +20,9 @@ fn trip_approach(
     alloc: Global,
     trip: &Moving<PlaneLine>,
     asked: &Operand<'_, PlaneLine>,
-) -> Result<Option<Frac>, Passed>
+) -> Result<Option<Frac>, Formula>
     ensures value { IfOk result (λ o. IsApproach (given_at plane_value_of (Slices trip.now)) (given_at plane_value_of (operand_of asked.now)) o) }
-    ensures unfit { IfErr result (λ p. IsFirst (flat_map entries_of_approach (pieces (Slices trip.now) (operand_of asked.now))) (Some p.formula)) }
+    ensures unfit { IfErr result (λ p. IsFirst (flat_map entries_of_approach (pieces (Slices trip.now) (operand_of asked.now))) (Some p)) }
 {
     approach_squared(alloc, Operand::Moving(trip), again(asked))
 }
@@ -47,9 +47,9 @@ pub fn row_approach(
     trips: &[Option<Moving<PlaneLine>>],
     row: u32,
     asked: &Operand<'_, PlaneLine>,
-) -> Result<Option<Frac>, Passed>
+) -> Result<Option<Frac>, Formula>
     ensures value { IfOk result (λ o. IsOnly (HasApproach trips.now (operand_of asked.now) row) o) }
-    ensures unfit { IfErr result (λ p. HasUnfitPart trips.now (operand_of asked.now) row p.formula) }
+    ensures unfit { IfErr result (λ p. HasUnfitPart trips.now (operand_of asked.now) row p) }
 {
     match trip_at(trips, row) {
         Some(trip) => trip_approach(alloc, trip, asked),

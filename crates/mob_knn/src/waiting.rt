@@ -7,13 +7,14 @@ ghost use Rattle.std.specs.Cmp.Rules.{comparing};
 ghost use Rattle.std.specs.List.Sorted.{IsPermutation};
 ghost use Rattle.std.specs.Ordering.{as_partial_cmp, eq_by_cmp};
 ghost use Rattle.mob_slice.specs.Ranks.{compare_ratio};
-ghost use Rattle.mob_knn.specs.declared.fault.NearFault.TheVariants.{NoMemory};
+ghost use Rattle.mob_list.specs.declared.fault.Fault.TheVariants.{NoMemory};
 ghost use Rattle.mob_knn.specs.Waits.{what_of, waiting_cmp, waiting_total, rank_of, waiting_number, waits_at, waits_of};
 
 use crate::fault::NearFault;
 use mob_frac::Frac;
 use mob_gaps::Gap;
 use mob_gaps::measure::gap;
+use mob_list::fault::Fault;
 use mob_plane::greater;
 use mob_rtree::Child;
 use mob_stbox::StBox;
@@ -135,10 +136,7 @@ pub fn wait(heap: &mut BinaryHeap<Waiting>, key: Frac, what: What) -> Result<(),
     ensures order { OnOk result (KeepsHeap waiting_cmp (heap_items heap.old) (heap_items heap.new)) }
     ensures err { IfErr result (λ e. e ≡ NoMemory) }
 {
-    match heap.push(Waiting { key, what }) {
-        Ok(()) => Ok(()),
-        Err(_) => Err(NearFault::NoMemory),
-    }
+    Ok(heap.push(Waiting { key, what })?)
 }
 
 /// Pushes the children of a node onto the heap, except those that are apart from the asked box.

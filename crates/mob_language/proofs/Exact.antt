@@ -1,10 +1,9 @@
--- A reader is exact for a language where it reads exactly the texts of the language, whatever
--- stands behind them that does not go on with them.
+-- A reader is exact for a language if it reads exactly the texts of the language, whatever follows
+-- that does not continue them.
 --
--- There is one law here for each way of building a language: where the parts' readers are exact, so
--- is the reader built of them. So the law of a whole text is a term that follows the text's
--- grammar. What is said of the bytes that may stand behind a text, or at its front, is in Heads;
--- lists are in Lists.
+-- There is one law here for each way to build a language: if the readers of the parts are exact, so
+-- is the reader built from them. So the law of a whole text is a term that follows the text's
+-- grammar. Heads has the facts on the bytes at the front of a text or after it; Lists has lists.
 use Rattle.std.proofs.Common.{◌≡◌, ℕ, [], ◌∷◌, ◌++◌, map, Bool, true, false, cond, Option, Some, None, refl, sym, ap, subst, ◌∙◌, append_assoc, arith, inl, inr, eqb}
 use Rattle.std.proofs.lemmas.Bool.{eqb-true}
 use Rattle.std.proofs.lemmas.List.{append-nil}
@@ -12,14 +11,14 @@ use Rattle.std.specs.Char.{to_ascii_lowercase}
 use Rattle.mob_language.specs.Language.{Text, Language, ◌▷◌, ◌∣◌, Maybe, Means, Where, Word, AnyCase, OneOf, AreAll, ManyOf}
 use Rattle.mob_language.specs.Readers.{TextReader, ◌>>=◌, then_at, else_at, or_at, maybe_at, maybe_of, means_at, where_at, word_at, any_case_at, one_at, split_while, grown, many_at, ended, all_of}
 
--- the text has a front that the language says v with, and the rest stands behind it
+-- the text has a prefix that denotes v in the language, followed by the rest
 pub record Reads {A : Type 0} (l : Language A) (text rest : Text) (v : A) : Type 0 where
   pub front : Text
   pub whole : text ≡ front ++ rest
   pub said : l front v
 
--- what is read in front is a text of the language (sound); and a text of the language is read,
--- whatever stands behind it that meets `follows` (complete)
+-- a prefix that is read is a text of the language (sound); and a text of the language is read,
+-- whatever follows that meets `follows` (complete)
 pub record Exact {A : Type 0} (l : Language A) (r : TextReader A) (follows : Text → Type 0) : Type 0 where
   pub sound : (text rest : Text) (v : A) → r text ≡ Some (v, rest) → Reads l text rest v
   pub complete : (text rest : Text) (v : A) → l text v → follows rest → r (text ++ rest) ≡ Some (v, rest)
@@ -32,11 +31,11 @@ bind_some None f y e = absurd cc
 abbrev some : {A : Type 0} → A → Option A
 some x = Some x
 
--- two values that are some are one value
+-- two equal `some` values hold one value
 pub some_is : {A : Type 0} (x y : A) → some x ≡ some y → x ≡ y
 some_is x y e = cc
 
--- one text, and behind it another; `goes` says that the second text does not go on with the first
+-- one text followed by another; `goes` says that the second text does not continue the first
 pub then_exact : {A B : Type 0} {l : Language A} {m : Language B} {r : TextReader A} {s : TextReader B} {F G : Text → Type 0}
     → Exact l r F → Exact m s G → ((text rest : Text) (v : B) → m text v → G rest → F (text ++ rest)) → Exact (l ▷ m) (then_at r s) G
 then_exact {A} {B} {l} {m} {r} {s} {F} {G} p q goes = record {
@@ -72,7 +71,7 @@ or_exact {A} {l} {m} {r} {s} p q apart = record {
   or_sound None n text rest v f g e = let h = g e in record { front = h.front; whole = h.whole; said = inr h.said }
   or_sound (Some x) n text rest v f g e = let h = f e in record { front = h.front; whole = h.whole; said = inl h.said }
 
--- a text, or nothing; `apart` says that the reader reads nothing of what may stand behind
+-- a text, or nothing; `apart` says that the reader reads nothing of what may follow
 pub maybe_exact : {A : Type 0} {l : Language A} {r : TextReader A} {F G : Text → Type 0}
     → Exact l r F → ((rest : Text) → G rest → r rest ≡ None) → Exact (Maybe l) (maybe_at r) (λ rest. F rest × G rest)
 maybe_exact {A} {l} {r} {F} {G} p apart = record {
@@ -93,7 +92,7 @@ maybe_exact {A} {l} {r} {F} {G} p apart = record {
   maybe_complete text rest None said after = rw (said, apart rest after.1) refl
   maybe_complete text rest (Some w) said after = rw (p.complete text rest w said after.0) refl
 
--- what a text stands for, by a function
+-- the value of a text, mapped by a function
 pub means_exact : {A B : Type 0} {l : Language A} {r : TextReader A} {F : Text → Type 0} (f : A → B)
     → Exact l r F → Exact (Means f l) (means_at f r) F
 means_exact {A} {B} {l} {r} {F} f p = record {
@@ -109,7 +108,7 @@ guarded : {A : Type 0} (b : Bool) (x y : A) → cond b (Some x) None ≡ Some y 
 guarded true x y e = (refl, cc)
 guarded false x y e = absurd cc
 
--- what a text stands for, where it passes a test
+-- the value of a text, if it passes a test
 pub where_exact : {A : Type 0} {l : Language A} {r : TextReader A} {F : Text → Type 0} (test : A → Bool)
     → Exact l r F → Exact (Where test l) (where_at test r) F
 where_exact {A} {l} {r} {F} test p = record {
@@ -121,11 +120,11 @@ where_exact {A} {l} {r} {F} test p = record {
   complete = λ text rest v said after. rw (p.complete text rest v said.said after, said.holds) refl;
 }
 
--- whatever follows
+-- anything may follow
 abbrev pub Any : Text → Type 0
 Any rest = Unit {0}
 
--- what follows does not begin with such a byte
+-- the rest does not begin with such a byte
 abbrev pub Stops : (ℕ → Bool) → Text → Type 0
 Stops test [] = Unit {0}
 Stops test (c ∷ cs) = test c ≡ false
@@ -182,7 +181,7 @@ any_case_again [] word rest e = rw (sym e) refl
 any_case_again (c ∷ cs) word rest e =
     rw (sym e, same_byte (to_ascii_lowercase c)) (any_case_again cs (map to_ascii_lowercase cs) rest refl)
 
--- a word in small or capital letters
+-- a word in upper or lower case
 pub any_case_exact : (word : Text) → Exact (AnyCase word) (any_case_at word) Any
 any_case_exact word = record {
   sound = λ text rest v e. any_case_sound word text rest v e;
@@ -218,7 +217,7 @@ pub many_again : (test : ℕ → Bool) (v rest : Text) → AreAll test v → Sto
 many_again test [] rest each h = many_stops test rest h
 many_again test (c ∷ cs) rest each h = rw (each.0, many_again test cs rest each.1 h) refl
 
--- any number of bytes that pass a test: behind them stands none of these
+-- any number of bytes that pass a test, followed by none of these
 pub many_exact : (test : ℕ → Bool) → Exact (ManyOf test) (many_at test) (Stops test)
 many_exact test = record {
   sound = λ text rest v e.
@@ -228,7 +227,7 @@ many_exact test = record {
   complete = λ text rest v said after. rw said.is (ap some (many_again test v rest said.each after));
 }
 
--- all of a text is read exactly where it is of the language
+-- a whole text is read exactly if it belongs to the language
 pub all_sound : {A : Type 0} {l : Language A} {r : TextReader A} {F : Text → Type 0} → Exact l r F → (text : Text) (v : A) → all_of r text ≡ Some v → l text v
 all_sound {A} {l} {r} p text v e =
     let a = bind_some (r text) ended v e in
@@ -248,8 +247,8 @@ all_complete p after text v said = rw (sym (append-nil text), p.complete text []
 pub one_value : {A : Type 0} {l : Language A} {r : TextReader A} {F : Text → Type 0} → Exact l r F → F [] → (text : Text) (v w : A) → l text v → l text w → v ≡ w
 one_value p after text v w a b = some_is v w (sym (all_complete p after text v a) ∙ all_complete p after text w b)
 
--- the readers of whole texts: what they read is said by the text, and where they read nothing the
--- text says nothing. The code has the text as a text and as its bytes.
+-- the readers of whole texts: the text denotes the value that they read, and if they read nothing
+-- it denotes none. The code has the text as a text and as its bytes.
 pub is_said : {A : Type 0} {l : Language A} {r : TextReader A} {F : Text → Type 0} → Exact l r F → (text bytes : Text) (v : A) → bytes ≡ text → Some v ≡ all_of r bytes → l text v
 is_said {r = r} p text bytes v e h = all_sound p text v (ap (all_of r) (sym e) ∙ sym h)
 

@@ -1,4 +1,4 @@
--- Worked examples, by hand.
+-- Worked examples.
 use Rattle.std.proofs.Common.{◌≡◌, [], ◌∷◌, Some, None, codes, refl}
 use Rattle.mob_language.specs.Language.{AnyCase, Separated, Word, is_blank, spaced}
 use Rattle.mob_language.specs.Readers.{any_case_at, spaced_at, split_while, all_of}
@@ -6,7 +6,7 @@ use Rattle.mob_language.specs.Readers.{any_case_at, spaced_at, split_while, all_
 any_case : AnyCase (codes "point") (codes "PoInt") tt
 any_case = refl
 
--- a capital letter's neighbours are no letters
+-- the bytes next to the capital letters are no letters
 other_bytes : any_case_at (codes "point") (codes "P0INT") ≡ None
 other_bytes = refl
 

@@ -1,12 +1,12 @@
--- Which bytes a text begins with, and what may stand behind it.
+-- Which bytes a text begins with, and which may follow it.
 --
--- A reader goes on as far as it can, so a text is read whole only where what stands behind it does
--- not go on with it. Three families of facts say this by the next byte alone, and each has a law
--- for each way of building a language:
---   NoHead l test    no text of l begins with a byte that passes the test
---   Nothing r test   the reader r reads nothing where the next byte does not pass the test
---   HasByte l        each text of l has a byte
--- and the laws of Exact are said again in these words (then_stops, maybe_stops, or_stops, ..).
+-- A reader goes on as far as it can, so it reads a whole text only if the rest does not continue
+-- it. Three families of facts say this by the next byte alone, and each has a law for each way to
+-- build a language:
+--     NoHead l test    no text of l begins with a byte that passes the test
+--     Nothing r test   the reader r reads nothing if the next byte does not pass the test
+--     HasByte l        each text of l has a byte
+-- The laws of Exact are stated again in these words (then_stops, maybe_stops, or_stops, ..).
 use Rattle.std.proofs.Common.{◌≡◌, ℕ, [], ◌∷◌, ◌++◌, Bool, true, false, Some, None, refl, sym, ap, subst, ◌∙◌, inl, inr}
 use Rattle.mob_language.specs.Language.{Text, Language, ◌▷◌, ◌∣◌, Maybe, Means, Where, Word, OneOf, AreAll, ManyOf, blanks, spaced, is_blank, in_middle, within_blanks}
 use Rattle.mob_language.specs.Readers.{TextReader, then_at, or_at, maybe_at, means_at, where_at, word_at, one_at, spaced_at, within_blanks_at}
@@ -55,7 +55,7 @@ many_stops p test h (c ∷ cs) each = h c each.0
 pub many_head : {p : ℕ → Bool} {test : ℕ → Bool} → Apart p test → NoHead (ManyOf p) test
 many_head {p} {test} h text v said = subst (Stops test) (sym said.is) (many_stops p test h v said.each)
 
--- fewer bytes stop less
+-- a rest that stops a test also stops a narrower one
 pub stops_less : (test some : ℕ → Bool) → ((c : ℕ) → test c ≡ false → some c ≡ false) → (rest : Text) → Stops test rest → Stops some rest
 stops_less test some h [] s = tt
 stops_less test some h (c ∷ cs) s = h c s
@@ -63,7 +63,7 @@ stops_less test some h (c ∷ cs) s = h c s
 pub exact_less : {A : Type 0} {l : Language A} {r : TextReader A} {F G : Text → Type 0} → Exact l r F → ((rest : Text) → G rest → F rest) → Exact l r G
 exact_less p h = record { sound = p.sound; complete = λ text rest v said after. p.complete text rest v said (h rest after) }
 
--- the reader reads nothing at such a rest
+-- the reader reads nothing from such a rest
 abbrev pub Nothing : {A : Type 0} → TextReader A → (ℕ → Bool) → Type 0
 Nothing r test = (rest : Text) → Stops test rest → r rest ≡ None
 
@@ -90,7 +90,7 @@ where_nothing p h rest s = rw (h rest s) refl
 pub or_nothing : {A : Type 0} {r s : TextReader A} {test : ℕ → Bool} → Nothing r test → Nothing s test → Nothing (or_at r s) test
 or_nothing h k rest s = rw (h rest s) (k rest s)
 
--- ---- the forms in which languages are joined where a test on the next byte tells how to go on
+-- ---- languages joined so that a test on the next byte decides how to continue
 
 pub then_stops : {A B : Type 0} {l : Language A} {m : Language B} {r : TextReader A} {s : TextReader B} {some test : ℕ → Bool}
     → Exact l r (Stops some) → Exact m s (Stops test) → ((c : ℕ) → test c ≡ false → some c ≡ false) → NoHead m some → Exact (l ▷ m) (then_at r s) (Stops test)
@@ -104,7 +104,7 @@ after_any p q = then_exact p q (λ text rest v said after. tt)
 pub maybe_stops : {A : Type 0} {l : Language A} {r : TextReader A} {test : ℕ → Bool} → Exact l r (Stops test) → Nothing r test → Exact (Maybe l) (maybe_at r) (Stops test)
 maybe_stops {A} {l} {r} {test} p h = exact_less (maybe_exact {G = Stops test} p h) (λ rest after. (after, after))
 
--- the first does not read what the second's texts begin with
+-- the first reader reads nothing that begins a text of the second
 pub or_stops : {A : Type 0} {l m : Language A} {r s : TextReader A} {some test : ℕ → Bool}
     → Exact l r (Stops test) → Exact m s (Stops test) → Nothing r some → NoHead m some → ((c : ℕ) → test c ≡ false → some c ≡ false) → Exact (l ∣ m) (or_at r s) (Stops test)
 or_stops {A} {l} {m} {r} {s} {some} {test} p q none h less =
@@ -134,7 +134,7 @@ means_byte f h text v said e = h text said.meant said.said e
 pub where_byte : {A : Type 0} (p : A → Bool) {l : Language A} → HasByte l → HasByte (Where p l)
 where_byte p h text v said e = h text v said.said e
 
--- a text with a byte ends what stands before it, whatever follows
+-- a nonempty text stops the text before it, whatever follows
 pub byte_stops : (test : ℕ → Bool) (text rest : Text) → Stops test text → (text ≡ [] → ⊥) → Stops test (text ++ rest)
 byte_stops test [] rest a h = absurd (h refl)
 byte_stops test (c ∷ cs) rest a h = a
@@ -161,7 +161,7 @@ word_byte w ws text v said e = nonempty (sym said ∙ e)
     nonempty : w ∷ ws ≡ [] → ⊥
     nonempty h = absurd cc
 
--- a sign with blanks beside it: behind it stands no blank
+-- a sign with blanks around it, not followed by a blank
 pub spaced_exact : (w : ℕ) (ws : Text) → is_blank w ≡ false → Exact (spaced (w ∷ ws)) (spaced_at (w ∷ ws)) (Stops is_blank)
 spaced_exact w ws h = means_exact (λ (v : Text × (Unit {0} × Text)). tt) (then_byte_stops (many_exact is_blank)
     (then_exact {F = Any} (word_exact (w ∷ ws)) (many_exact is_blank) (λ text rest v said after. tt))
@@ -171,7 +171,7 @@ spaced_exact w ws h = means_exact (λ (v : Text × (Unit {0} × Text)). tt) (the
 abbrev pub IsEnd : Text → Type 0
 IsEnd rest = rest ≡ []
 
--- a text with blanks at both ends, which itself has a byte and begins with no blank
+-- a text with blanks at both ends, which itself is not empty and begins with no blank
 pub within_exact : {A : Type 0} {l : Language A} {r : TextReader A} {F : Text → Type 0}
     → Exact l r F → NoHead l is_blank → HasByte l → ((bs : Text) → AreAll is_blank bs → F (bs ++ [])) → Exact (within_blanks l) (within_blanks_at r) IsEnd
 within_exact {F = F} p head byte before = means_exact in_middle (then_byte_stops (many_exact is_blank)
@@ -194,7 +194,7 @@ within_said text v said = record {
   is = refl;
 }
 
--- where a byte test fails at a blank, it stops before blanks to the end
+-- a byte test that fails on a blank stops before trailing blanks
 pub blanks_stop : (test : ℕ → Bool) → Apart is_blank test → (bs : Text) → AreAll is_blank bs → Stops test (bs ++ [])
 blanks_stop test h [] each = tt
 blanks_stop test h (b ∷ bs) each = h b each.0

@@ -1,4 +1,4 @@
--- Readers of lists: one text or more, with a text of another language between each two.
+-- Readers of lists: one or more texts, with a text of another language between neighbours.
 use Rattle.std.proofs.Common.{◌≡◌, ℕ, zero, suc, ◌+◌, ◌-◌, ◌<◌, ◌≤◌, List, [], ◌∷◌, ◌++◌, length, Option, Some, None, refl, sym, ap, subst, ◌∙◌, append_assoc, arith, length-append}
 use Rattle.mob_language.specs.Language.{Text, Language, Separated}
 use Rattle.mob_language.specs.Readers.{TextReader, ◌>>=◌, more_items, items_at, separated_at}
@@ -36,7 +36,7 @@ items_sound {A} {l} {s} {r} {t} p q (suc most) text rest vs e =
           said = prepend l s v b.0.0 first.front between.front others.front first.said between.said others.said;
         })
 
--- the first item may be followed by what ends the list, and by a text between
+-- the first item may be followed by the end of the list, or by a separator
 pub items_complete : {A : Type 0} {l : Language A} {s : Language Unit} {r : TextReader A} {t : TextReader Unit} {F G H : Text → Type 0}
     → Exact l r F → Exact s t G
     → ((rest : Text) → H rest → (t rest ≡ None) × F rest)
@@ -78,8 +78,8 @@ count_le l s h text (v ∷ w ∷ vs) said =
     some_length [] n = absurd (n refl)
     some_length (c ∷ cs) n = omega arith
 
--- a list. What stands behind it (H) does not begin with a text between, and may stand behind an
--- item; a text between may stand behind an item; and an item behind a text between
+-- a list. The text after it (H) does not begin with a separator, and may follow an item; a
+-- separator may follow an item; and an item may follow a separator
 pub separated_exact : {A : Type 0} {l : Language A} {s : Language Unit} {r : TextReader A} {t : TextReader Unit} {F G H : Text → Type 0}
     → Exact l r F → Exact s t G → HasByte s
     → ((rest : Text) → H rest → (t rest ≡ None) × F rest)
@@ -95,7 +95,7 @@ separated_exact {A} {l} {s} {r} {t} p q h ends on begins = record {
       items_complete p q ends on begins (suc (length (text ++ rest))) text rest vs (omega (arith, a, b)) said after;
 }
 
--- a loop over the items, with those that it has read
+-- a loop over the items, with those already read
 abbrev pub with_front : {A : Type 0} → List A → Option (List A × Text) → Option (List A × Text)
 with_front front read = read >>= λ x. Some (front ++ x.0, x.1)
 

@@ -1,22 +1,21 @@
 -- Languages of texts.
 --
--- A language says which texts there are, and what each of them stands for. It is a relation between
--- a text and a value, so a definition made of these words is the meaning of a text and names no way
--- of reading it. The words are those of a grammar:
+-- A language says which texts belong to it, and which value each of them denotes. It is a relation
+-- between a text and a value, so a definition built from these words is the meaning of a text and
+-- prescribes no way of reading it. The words are those of a grammar:
 --
--- l ▷ m             a text of l, and behind it a text of m; it stands for the pair of the two
--- values
---   l ∣ m             a text of l, or a text of m
---   Maybe l           a text of l, or nothing at all
---   Word w            the word w alone
---   AnyCase w         the word w, each letter of it small or capital
---   OneOf test        one byte that passes the test; it stands for that byte
---   Run test          any number of bytes that all pass the test; it stands for these bytes
--- Separated l s     one text of l or more, with a text of s between each two; it stands for the
--- list of the values
--- behind w l        the word w, and behind it a text of l; it stands for what the latter stands for
---   Means f l         a text of l; where it stands for a there, it stands for f a here
---   Where test l      a text of l whose value passes the test
+--     l ▷ m             a text of l followed by a text of m; it denotes the pair of the two values
+--     l ∣ m             a text of l, or a text of m
+--     Maybe l           a text of l, or nothing at all
+--     Word w            the word w alone
+--     AnyCase w         the word w, with each letter in either case
+--     OneOf test        one byte that passes the test; it denotes that byte
+--     ManyOf test       any number of bytes that all pass the test; it denotes these bytes
+--     Separated l s     one or more texts of l, with a text of s between neighbours; it denotes the
+--                       list of the values
+--     behind w l        the word w followed by a text of l; it denotes the value of the latter
+--     Means f l         a text of l; if it denotes a there, it denotes f a here
+--     Where test l      a text of l whose value passes the test
 use Rattle.std.specs.Prelude.{◌≡◌, ℕ, List, [], ◌∷◌, ◌++◌, map, Bool, true, ◌&&◌, ◌||◌, nat_le, nat_eq, Option, Some, None, ◌⊎◌}
 use Rattle.std.specs.Char.{to_ascii_lowercase}
 
@@ -24,13 +23,13 @@ use Rattle.std.specs.Char.{to_ascii_lowercase}
 abbrev pub Text : Type 0
 Text = List ℕ
 
--- for each text and each value, whether the text stands for the value
+-- the text denotes the value
 abbrev pub Language : Type 0 → Type 1
 Language A = Text → A → Type 0
 
 infixr 5 ◌▷◌
 infixr 4 ◌∣◌
--- a text of the one, and behind it a text of the other
+-- a text of the first, followed by a text of the second
 pub record ◌▷◌ {A B : Type 0} (l : Language A) (m : Language B) (text : Text) (v : A × B) : Type 0 where
   pub front : Text
   pub back : Text
@@ -38,7 +37,7 @@ pub record ◌▷◌ {A B : Type 0} (l : Language A) (m : Language B) (text : Te
   pub first : l front v.0
   pub second : m back v.1
 
--- a text of the one, or a text of the other
+-- a text of the first, or a text of the second
 abbrev pub ◌∣◌ : {A : Type 0} → Language A → Language A → Language A
 (l ∣ m) text v = l text v ⊎ m text v
 
@@ -47,7 +46,7 @@ abbrev pub Maybe : {A : Type 0} → Language A → Language (Option A)
 Maybe l text None = text ≡ []
 Maybe l text (Some a) = l text a
 
--- a text that stands for a in the language stands for f a
+-- a text that denotes a in the language denotes f a
 pub record Means {A B : Type 0} (f : A → B) (l : Language A) (text : Text) (v : B) : Type 0 where
   pub meant : A
   pub said : l text meant
@@ -62,11 +61,11 @@ pub record Where {A : Type 0} (test : A → Bool) (l : Language A) (text : Text)
 abbrev pub Word : Text → Language (Unit {0})
 Word word text v = text ≡ word
 
--- the text with each capital letter as a small one
+-- the text with each capital letter made lower case
 abbrev pub in_lower_case : Text → Text
 in_lower_case text = map to_ascii_lowercase text
 
--- a word whose letters may be small or capital; `word` is written in small letters
+-- a word in upper or lower case; `word` is written in lower case
 abbrev pub AnyCase : Text → Language (Unit {0})
 AnyCase word text v = in_lower_case text ≡ word
 
@@ -84,13 +83,13 @@ pub record ManyOf (test : ℕ → Bool) (text : Text) (v : Text) : Type 0 where
   pub is : text ≡ v
   pub each : AreAll test v
 
--- one text or more, with a text of another language between each two
+-- one or more texts, with a text of another language between neighbours
 abbrev pub Separated : {A : Type 0} → Language A → Language (Unit {0}) → Language (List A)
 Separated l s text [] = ⊥
 Separated l s text (v ∷ []) = l text v
 Separated l s text (v ∷ w ∷ vs) = (x : Text) × (y : Text) × (z : Text) × (text ≡ x ++ (y ++ z)) × l x v × s y tt × Separated l s z (w ∷ vs)
 
--- a text of the language behind a word
+-- a word followed by a text of the language
 abbrev pub behind : {A : Type 0} → Text → Language A → Language A
 behind word l = Means (λ (v : Unit {0} × _). v.1) (Word word ▷ l)
 
@@ -114,14 +113,14 @@ is_exponent_letter c = nat_eq c 101 || nat_eq c 69
 abbrev pub blanks : Language Text
 blanks = ManyOf is_blank
 
--- a sign with any number of blanks on both sides of it
+-- a sign with any number of blanks around it
 abbrev pub spaced : Text → Language (Unit {0})
 spaced sign = Means (λ (v : Text × (Unit {0} × Text)). tt) (blanks ▷ (Word sign ▷ blanks))
 
--- what stands between two others
+-- the middle of three
 abbrev pub in_middle : {A B C : Type 0} → A × (B × C) → B
 in_middle v = v.1.0
 
--- a text with any number of blanks before and behind it
+-- a text with any number of blanks before and after it
 abbrev pub within_blanks : {A : Type 0} → Language A → Language A
 within_blanks l = Means in_middle (blanks ▷ (l ▷ blanks))

@@ -7,6 +7,6 @@ use Rattle.mob_language.specs.Language.{Text, is_exponent_letter}
 abbrev pub is_figure : ℕ → Bool
 is_figure c = nat_le 49 c && nat_le c 57
 
--- a digit other than 0 stands before any letter of an exponent and any slash
+-- a digit other than 0 comes before any exponent letter and any slash
 abbrev pub has_figure : Text → Bool
 has_figure text = list_any is_figure (take_while (λ c. not (is_exponent_letter c || nat_eq c 47)) text)

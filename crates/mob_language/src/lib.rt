@@ -1,8 +1,8 @@
-//! Languages of texts: which texts there are, and what each of them says.
+//! Languages of texts: which texts belong to one, and what each of them denotes.
 //!
-//! `specs/Language.antt` has the few ways to build a language out of smaller ones. Definitions
-//! of whole texts, as those of a number, a moment or a list of instants, are made of these
-//! and read like a grammar. `specs/Readers.antt` has a reader from the left for each of them,
-//! and `proofs/` has, for each, the law that the reader reads exactly the texts of the language.
-//! The crate holds definitions and their laws alone, and no running code.
+//! `specs/Language.antt` has the few ways to build a language from smaller ones. Definitions of
+//! whole texts, such as a number, a timestamp or a list of instants, are built from these and read
+//! like a grammar. `specs/Readers.antt` has a reader from the left for each of them, and `proofs/`
+//! proves that each reader reads exactly the texts of its language. The crate has definitions and
+//! laws only, and no running code.
 #![tactic(auto)]

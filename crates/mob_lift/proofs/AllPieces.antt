@@ -1,4 +1,4 @@
--- Something holds at some instant of two operands exactly where a piece says so.
+-- A comparison holds at some instant of two operands exactly if it does on some piece.
 use Rattle.std.specs.Prelude.{◌≡◌, ◌⊎◌, ◌↔◌, ◌||◌, Bool, true, false, List, [], ◌∷◌, Option, Some, None, refl}
 use Rattle.std.specs.List.{AllByRecursion}
 use Rattle.std.proofs.Common.{ap, sym, ◌∙◌, subst, true≢false, inl, inr}
@@ -30,7 +30,7 @@ module _ {P : Type 0} (span : P → SpanOf) (holds : P → Ratio → Bool) (meet
   second_or true b h = refl
   second_or false b h = h
 
-  -- the answer is true exactly where it was before or a piece passes at some instant
+  -- the answer is true exactly if it was before or a piece passes at some instant
   abbrev pub IsSaid : Bool → Bool → List P → Type 0
   IsSaid b a ps = (b ≡ true) ↔ ((a ≡ true) ⊎ ((t : Ratio) × PassesAt ps t))
 
@@ -98,6 +98,6 @@ module _ {A X B Y : Type 0} (value : A → Ratio → Ratio → Ratio → X) (val
         sometime_of (inl h) = absurd (true≢false (sym h))
         sometime_of (inr w) = let u = subst (λ l. (t : Ratio) × PassesAt (λ q. q.span) holds meets l t) (sym e) w in to_sometime u.0 u.1
 
-    -- where each piece is exact, the answer over all of them is that of all common instants
+    -- if each piece is exact, the answer over all of them is that of all common instants
     pub is_ever : PiecesAreClear (λ q. q.span) (pieces a b) → AllByRecursion (IsExactOn (λ q. q.span) holds meets) (pieces a b) → IsEver op left right (walked either meets None (pieces a b))
     is_ever c x = ever_by (pieces a b) refl c x

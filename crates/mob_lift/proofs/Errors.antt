@@ -1,4 +1,4 @@
--- An error of a result of one type, in a result of another.
+-- An error of one result type, as an error of another.
 use Rattle.std.specs.Prelude.{◌≡◌, Result, Err}
 use Rattle.std.proofs.Common.{ap}
 

@@ -1,4 +1,4 @@
--- What an operator gives on all pieces of two operands.
+-- The result of an operator on all pieces of two operands.
 use Rattle.std.specs.Prelude.{◌≡◌, true, ◌||◌, List, map, Some, None, option_map, Result, Err, IfOk, refl}
 use Rattle.std.specs.List.{flat_map}
 use Rattle.std.specs.Iterator.{Yields, Drains, YieldsFirstBy}
@@ -13,8 +13,8 @@ use Rattle.mob_slice.specs.Entries.{Entry, IsFirst, IsJudged}
 use Rattle.mob_slice.specs.declared.slice.Slice.{Slice}
 use Rattle.mob_slice.specs.declared.side.Piece.{Piece}
 use Rattle.mob_slice.specs.declared.formula.Formula.{Formula}
-use Rattle.mob_slice.specs.declared.formula.OpFault.{OpFault}
-use Rattle.mob_slice.specs.declared.formula.OpFault.TheVariants.{Passed}
+use Rattle.mob_list.specs.declared.fault.Fault.{Fault}
+use Rattle.mob_list.specs.declared.fault.Fault.TheVariants.{Because}
 use Rattle.mob_slice.proofs.Yielded.{drained}
 use Rattle.mob_lift.proofs.PieceLaws.{map_at, twice, pieces_value}
 use Rattle.mob_lifted.specs.Piecewise.{IsPiecewise, IsFirstFailure}
@@ -39,14 +39,14 @@ module _ {A X B Y D Z V : Type 0} (value : A → Ratio → Ratio → Ratio → X
         ∙ pieces_value op value value' a b m t;
   }
 
-  -- Where the closure gave the operation on each piece, or the formula of the first entry of that
-  -- piece, the whole is the operation on the two operands, judged by the entries of all pieces.
-  -- These two facts an operator has to know of its closure.
-  pub whole : (entries : PieceOf (SideOf A X) (SideOf B Y) → List Entry) {I W : Type 0} (rest : I → List (PieceOf (SideOf A X) (SideOf B Y))) (list : W → List (Slice D)) (walk : I) (a : OperandOf A X) (b : OperandOf B Y) → (has_slices a || has_slices b) ≡ true → rest walk ≡ pieces a b → (gives : Piece A B X Y → V → Type 0) (fails : Formula → Piece A B X Y → Type 0) (r : Result W OpFault)
+  -- If the closure returned the operation on each piece, or the formula of the first entry of that
+  -- piece that does not fit, the whole is the operation on the two operands, judged by the entries
+  -- of all pieces. An operator has to know these two facts of its closure.
+  pub whole : (entries : PieceOf (SideOf A X) (SideOf B Y) → List Entry) {I W : Type 0} (rest : I → List (PieceOf (SideOf A X) (SideOf B Y))) (list : W → List (Slice D)) (walk : I) (a : OperandOf A X) (b : OperandOf B Y) → (has_slices a || has_slices b) ≡ true → rest walk ≡ pieces a b → (gives : Piece A B X Y → V → Type 0) (fails : Formula → Piece A B X Y → Type 0) (r : Result W (Fault Formula))
       → ((p : Piece A B X Y) (v : V) → gives p v → AreOn result start end (on_sides value value' op (piece_of p)) p.span (items v) × IsFirst (entries (piece_of p)) None)
       → ((f : Formula) (p : Piece A B X Y) → fails f p → IsFirst (entries (piece_of p)) (Some f))
       → IfOk r (λ all. (ps : List (Piece A B X Y)) × Drains (YieldsFirstBy piece_of rest) walk ps × IsPiecewise result start end span items gives ps (list all))
-      → ((f : Formula) → r ≡ Err (Passed f) → (ps : List (Piece A B X Y)) × (t : I) × Yields (YieldsFirstBy piece_of rest) walk ps t × IsFirstFailure gives (fails f) ps)
+      → ((f : Formula) → r ≡ Err (Because f) → (ps : List (Piece A B X Y)) × (t : I) × Yields (YieldsFirstBy piece_of rest) walk ps t × IsFirstFailure gives (fails f) ps)
       → IfOk r (λ all. AreLifted value value' result start end op a b (list all)) × IsJudged (flat_map entries (pieces a b)) r
   whole entries rest list walk a b m e gives fails r gave failed h k = (
     IfOk-weaker r _ _ (λ all n. lifted_values a b m gives n.0 (list all) (sym e ∙ drained piece_of rest walk n.0 n.1) (λ p v i. (gave p v i).0) n.2) h,

@@ -1,4 +1,4 @@
--- Which piece of two operands has an instant, and what the operands are there.
+-- The piece of two operands that has an instant, and the operands there.
 use Rattle.std.specs.Prelude.{◌≡◌, ◌⊎◌, ◌||◌, Bool, true, false, cond, List, [], ◌∷◌, Option, Some, None, option_map, refl}
 use Rattle.std.proofs.Common.{ap, sym, ◌∙◌, inl, inr}
 use Rattle.mob_ratio.specs.Ratio.{Ratio}
@@ -62,15 +62,15 @@ module _ {A X B Y : Type 0} (value : A → Ratio → Ratio → Ratio → X) (val
   abbrev sides : Ratio → PieceOf (SideOf A X) (SideOf B Y) → X × Y
   sides t p = (side_at value p.left t, side_at value' p.right t)
 
-  -- what the operands are at an instant of a piece
+  -- the operands at an instant of a piece
   pub there : (t : Ratio) (p : PieceOf (SideOf A X) (SideOf B Y)) → piece_at (λ q. q.span) (pieces a b) t ≡ Some p → (left t ≡ Some (side_at value p.left t)) × (right t ≡ Some (side_at value' p.right t))
   there t p e = both_some (left t) (right t) (side_at value p.left t) (side_at value' p.right t) (sym (pieces_value pair value value' a b m t) ∙ ap (option_map (sides t)) e)
 
-  -- at a common instant there is a piece
+  -- each common instant is in a piece
   pub found : (t : Ratio) (x : X) (y : Y) → left t ≡ Some x → right t ≡ Some y → (p : PieceOf (SideOf A X) (SideOf B Y)) × (piece_at (λ q. q.span) (pieces a b) t ≡ Some p) × (sides t p ≡ (x, y))
   found t x y e f = mapped_some (sides t) (piece_at (λ q. q.span) (pieces a b) t) (x, y) (pieces_value pair value value' a b m t ∙ ap (λ o. map_both pair o (right t)) e ∙ ap (λ o. map_both pair (Some x) o) f)
 
-  -- without a piece there is no common instant, and each instant of the first piece is one
+  -- without pieces no instant is common, and each instant of the first piece is common
   pub no_common : pieces a b ≡ [] → HaveCommon left right → ⊥
   no_common e h = let w = found h.0 h.1 h.2 h.3 h.4 in none_some w.0 (sym (ap (λ ps. piece_at (λ q. q.span) ps h.0) e) ∙ w.1)
 

@@ -1,4 +1,4 @@
--- What follows of the pieces of two operands.
+-- Lemmas on the pieces of two operands.
 use Rattle.std.specs.Prelude.{◌≡◌, Bool, true, false, cond, ◌||◌, Option, Some, None, option_map, List, [], ◌∷◌, map, refl}
 use Rattle.std.proofs.Common.{ap, sym, ◌∙◌, true≢false}
 use Rattle.mob_ratio.specs.Ratio.{Ratio}
@@ -14,7 +14,7 @@ use Rattle.mob_slice.specs.declared.slice.Slice.{Slice}
 use Rattle.std.specs.Option.{option_zip}
 use Rattle.mob_span.proofs.MeetLaws.{meets_at, sides}
 
--- a list of pieces that are made of others on the same spans
+-- a list of pieces made from others on the same spans
 module _ {P Q : Type 0} (span : P → SpanOf) (span' : Q → SpanOf) (f : P → Q) (same : (p : P) → span' (f p) ≡ span p) where
   pub map_at : (ps : List P) (t : Ratio) → piece_at span' (map f ps) t ≡ option_map f (piece_at span ps t)
   map_at [] t = refl

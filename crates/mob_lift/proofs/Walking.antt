@@ -1,4 +1,4 @@
--- A walk over the pieces of two operands: the answer so far, and the entries that were seen.
+-- A walk over the pieces of two operands: the answer so far, and the entries seen.
 use Rattle.std.specs.Prelude.{◌≡◌, List, [], ◌∷◌, Option, Some, None, refl}
 use Rattle.std.specs.List.{flat_map}
 use Rattle.std.proofs.Common.{ap, sym, ◌∙◌, subst}
@@ -6,7 +6,7 @@ use Rattle.mob_slice.specs.Entries.{Entry, IsFirst}
 use Rattle.mob_slice.specs.declared.formula.Formula.{Formula}
 use Rattle.mob_lifted.proofs.Firsts.{first_joined, first_front}
 
--- the answer so far and what the pieces add to it
+-- the answer so far, and then that of the pieces
 abbrev pub walked : {P V : Type 0} → (Option V → V → V) → (P → V) → Option V → List P → Option V
 walked more gives found [] = found
 walked more gives found (p ∷ ps) = walked more gives (Some (more found (gives p))) ps

@@ -1,4 +1,4 @@
--- What is given on one piece: one slice, and the same values under another name.
+-- The result on one piece: one slice, and the same values under another name.
 use Rattle.std.specs.Prelude.{◌≡◌, true, cond, List, [], ◌∷◌, Option, Some, None, Result, Ok, Err, refl}
 use Rattle.std.proofs.Common.{ap, sym, ◌∙◌, subst}
 use Rattle.mob_ratio.specs.Ratio.{Ratio}
@@ -10,11 +10,11 @@ use Rattle.mob_slice.specs.Entries.{Entry, IsFirst}
 use Rattle.mob_slice.specs.declared.slice.Slice.{Slice}
 use Rattle.mob_slice.specs.declared.steady.Steady.{Steady}
 use Rattle.mob_slice.specs.declared.formula.Formula.{Formula}
-use Rattle.mob_slice.specs.declared.formula.OpFault.{OpFault}
-use Rattle.mob_slice.specs.declared.formula.OpFault.TheVariants.{Passed, NoMemory}
+use Rattle.mob_list.specs.declared.fault.Fault.{Fault}
+use Rattle.mob_list.specs.declared.fault.Fault.TheVariants.{Because, NoMemory}
 use Rattle.mob_lifted.specs.OnPiece.{AreKeptOn, IsKeptBy}
 
--- the slice that has one value on a span
+-- the slice with one value on a span
 pub one_steady : {B : Type 0} (f : Ratio → Option B) (r : SpanOf) (x : B) → has_instant r ≡ true → ((t : Ratio) → has r t ≡ true → Some x ≡ f t) → AreKeptOn {C = Steady B} steady_value steady_limit steady_limit f r (record { span = r; course = record { value = x } } ∷ [])
 one_steady f r x i e = record {
   ordered = (record { some = i; level = λ n. refl }, tt, tt);
@@ -23,7 +23,7 @@ one_steady f r x i e = record {
 }
 
 module _ {C B : Type 0} (value : C → Ratio → Ratio → Ratio → B) (start end : C → B) where
-  -- one slice with the values g, where these are the values f
+  -- one slice with the values g, if these are the values f
   pub one_kept : (f : Ratio → Option B) (g : Ratio → B) (r : SpanOf) (s : Slice C) → HasValues value start end g r s → ((t : Ratio) → has r t ≡ true → Some (g t) ≡ f t) → AreKeptOn value start end f r (s ∷ [])
   one_kept f g r s h e = record {
     ordered = (h.sound, tt, tt);
@@ -34,8 +34,8 @@ module _ {C B : Type 0} (value : C → Ratio → Ratio → Ratio → B) (start e
   pub kept_same : (f g : Ratio → Option B) (r : SpanOf) (v : List (Slice C)) → ((t : Ratio) → has r t ≡ true → f t ≡ g t) → AreKeptOn value start end f r v → AreKeptOn value start end g r v
   kept_same f g r v e h = record { ordered = h.ordered; inside = h.inside; values = λ t i. h.values t i ∙ e t i }
 
-  -- the same values under another name, behind other entries
-  pub kept_behind : {V : Type 0} (items : V → List (Slice C)) (f g : Ratio → Option B) (r : SpanOf) (before after : List Entry) (q : Result V OpFault) → ((t : Ratio) → has r t ≡ true → f t ≡ g t) → ((o : Option Formula) → IsFirst after o → IsFirst before o) → IsKeptBy value start end items f r after q → IsKeptBy value start end items g r before q
+  -- the same values under another name, after other entries
+  pub kept_behind : {V : Type 0} (items : V → List (Slice C)) (f g : Ratio → Option B) (r : SpanOf) (before after : List Entry) (q : Result V (Fault Formula)) → ((t : Ratio) → has r t ≡ true → f t ≡ g t) → ((o : Option Formula) → IsFirst after o → IsFirst before o) → IsKeptBy value start end items f r after q → IsKeptBy value start end items g r before q
   kept_behind items f g r before after (Ok v) e h m = (kept_same f g r (items v) e m.0, h None m.1)
-  kept_behind items f g r before after (Err (Passed x)) e h m = h (Some x) m
+  kept_behind items f g r before after (Err (Because x)) e h m = h (Some x) m
   kept_behind items f g r before after (Err NoMemory) e h m = tt

@@ -1,4 +1,4 @@
--- What is there, and what is missing, of an option.
+-- Lemmas on options that are some or none.
 use Rattle.std.specs.Prelude.{◌≡◌, Some, None}
 
 pub none_some : {A : Type 0} {R : Type 0} (x : A) → None ≡ Some x → R

@@ -1,8 +1,8 @@
--- A loop that changes each entry of a list in its place: how far it is.
+-- Invariants of a loop that changes each entry of a list in place.
 use Rattle.std.proofs.Common.{◌≡◌, ◌∙◌, refl, ap, subst, ℕ, zero, suc, arith, ◌<◌, ◌≤◌, length, List, [], ◌∷◌, get_or, set}
 use Rattle.std.specs.List.{AllZip}
 
--- the first n of a list are changed so, and the others not at all
+-- the first n entries are changed by R, and the others not at all
 abbrev pub AreChanged : {A : Type 0} → (A → A → Type 0) → ℕ → List A → List A → Type 0
 AreChanged R n [] [] = Unit {0}
 AreChanged R n [] (y ∷ ys) = ⊥
@@ -36,7 +36,7 @@ module _ {A : Type 0} (R : A → A → Type 0) where
   changed_length zero (x ∷ xs) (y ∷ ys) h = ap suc (changed_length zero xs ys h.1)
   changed_length (suc n) (x ∷ xs) (y ∷ ys) h = ap suc (changed_length n xs ys h.1)
 
-  -- what is not changed yet is as it was
+  -- an entry not yet changed has its old value
   pub still : (n : ℕ) (xs ys : List A) (y : A) → n < length ys → y ≡ get_or ys n y → AreChanged R n xs ys → (n < length xs) × (y ≡ get_or xs n y)
   still n [] [] y lt is h = absurd (omega (arith, lt))
   still n [] (b ∷ ys) y lt is h = absurd h

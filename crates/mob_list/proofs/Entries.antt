@@ -19,7 +19,7 @@ which_in {A} y ys x h = by_place h.0 h.1 h.2
     by_place zero lt e = inl e
     by_place (suc k) lt e = inr (k, omega arith, e)
 
--- what holds of each entry holds of all, and what holds of all holds of each
+-- a property of each entry holds for all, and the converse
 pub all_by_each : {A : Type 0} (P : A → Type 0) (xs : List A) → ((x : A) → Contains xs x → P x) → AllByRecursion P xs
 all_by_each P [] h = tt
 all_by_each P (x ∷ xs) h = (h x (first_in x xs), all_by_each P xs (λ y c. h y (later_in x xs y c)))
@@ -31,10 +31,10 @@ each_of_all P (y ∷ ys) h x c = elim (which_in y ys x c) [
   | inr d ↦ each_of_all P ys h.1 x d
 ]
 
--- what is left of a list from an entry on begins with it
+-- the list from an entry on begins with that entry
 pub drop_read : {X : Type 0} (xs : List X) (i : ℕ) (x : X) → i < length xs → x ≡ get_or xs i x → drop i xs ≡ x ∷ drop (i + 1) xs
 drop_read xs i x h e = rw add-one (rw (drop-cons xs i x) (ap (λ y. y ∷ drop (suc i) xs) (sym e)))
 
--- a list that is walked: one entry less is left
+-- a list that is walked: one entry fewer is left
 pub counted_down : {A : Type 0} (x : A) (xs ys : List A) (m n : ℕ) → ys ≡ x ∷ xs → m + 1 ≡ n → n ≡ length ys → m ≡ length xs
 counted_down x xs ys m n e f h = let l = ap length e in omega (arith, f, h, l)

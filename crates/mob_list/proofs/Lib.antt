@@ -1,3 +1,4 @@
 pub mod Each
 pub mod Entries
 pub mod Changing
+pub mod Faults

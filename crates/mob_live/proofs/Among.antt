@@ -1,4 +1,4 @@
--- A search among numbers that do not fall.
+-- A search in sorted numbers.
 use Rattle.std.proofs.Common.{arith, ◌≡◌, ◌⊎◌, inl, inr, ◌∙◌, refl, sym, ap, ℕ, zero, suc, ◌<◌, ◌≤◌, ◌==◌, ◌||◌, Bool, true, false, length, List, [], ◌∷◌, get_or, Result, Ok, Err}
 use Rattle.std.specs.Prelude.{◌≢◌, is_ok, nat_lt}
 use Rattle.std.specs.Ordering.{nat_cmp}

@@ -1,4 +1,4 @@
--- What is left of numbers when others go.
+-- Numbers after the removal of others.
 use Rattle.std.proofs.Common.{arith, ◌≡◌, ◌∙◌, refl, sym, ap, subst, true≢false, ℕ, zero, suc, ◌<◌, ◌==◌, ◌||◌, Bool, true, false, not, cond, length, List, [], ◌∷◌, get_or, Ok, Err}
 use Rattle.std.specs.Ordering.{nat_cmp}
 use Rattle.std.specs.List.{AllByRecursion, filter, remove}
@@ -10,7 +10,7 @@ use Rattle.mob_live.specs.Rows.{is_among, without}
 use Rattle.mob_live.proofs.Among.{at_among, found_among}
 use Rattle.mob_live.proofs.Rising.{above_first, not_falling, rises_up, tail_rises}
 
--- what holds of each number holds of each that a test leaves
+-- a property of each number holds for each that a filter keeps
 pub filter_each : (test : ℕ → Bool) (P : ℕ → Type 0) (xs : List ℕ) → AllByRecursion P xs → AllByRecursion P (filter test xs)
 filter_each test P [] h = tt
 filter_each test P (x ∷ xs) h = by (test x) (filter_each test P xs h.1)
@@ -48,7 +48,7 @@ both_each : (P Q R : ℕ → Type 0) → ((n : ℕ) → P n → Q n → R n) →
 both_each P Q R f [] p q = tt
 both_each P Q R f (n ∷ ns) p q = (f n p.0 q.0, both_each P Q R f ns p.1 q.1)
 
--- those that are left stand among none of those that go
+-- none of the numbers kept is among those removed
 pub out_apart : (gone rows : List ℕ) → AllByRecursion (λ n. is_among n gone ≡ false) (filter (λ n. not (is_among n gone)) rows)
 out_apart gone [] = tt
 out_apart gone (x ∷ xs) = by (is_among x gone) refl (out_apart gone xs)
@@ -57,7 +57,7 @@ out_apart gone (x ∷ xs) = by (is_among x gone) refl (out_apart gone xs)
     by true e rest = rest
     by false e rest = (e, rest)
 
--- each number of a list stands among its numbers
+-- each number of a list is in it
 pub all_among : (rows : List ℕ) → AllByRecursion (λ n. is_among n rows ≡ true) rows
 all_among [] = tt
 all_among (x ∷ xs) = (ap (λ b. b || is_among x xs) (eq-eqb x x refl), each_on (λ n. is_among n xs ≡ true) (λ n. is_among n (x ∷ xs) ≡ true) (λ n h. by (x == n) (is_among n xs) h) xs (all_among xs))
@@ -66,7 +66,7 @@ all_among (x ∷ xs) = (ap (λ b. b || is_among x xs) (eq-eqb x x refl), each_on
     by true t h = refl
     by false t h = h
 
--- of numbers that rise, those that stand among others of them that rise are these
+-- in an increasing list, the numbers that are in an increasing sublist form that sublist
 pub filter_gone : (rows gone : List ℕ) → IsStrictlyIncreasing rows → IsStrictlyIncreasing gone → AllByRecursion (λ n. is_among n rows ≡ true) gone → filter (λ n. is_among n gone) rows ≡ gone
 filter_gone [] [] rise up h = refl
 filter_gone [] (y ∷ ys) rise up h = absurd (true≢false (sym h.0))
@@ -91,9 +91,9 @@ filter_gone (x ∷ xs) (y ∷ ys) rise up h = by (x == y) refl h.0 (λ gone. fil
         let within : AllByRecursion (λ n. is_among n xs ≡ true) ys = both_each (λ n. x < n) (λ n. is_among n (x ∷ xs) ≡ true) (λ n. is_among n xs ≡ true) (λ n lt is. not_first x n xs lt is) ys above h.1 in
         ap (λ b. cond b (x ∷ filter (λ n. is_among n (y ∷ ys)) xs) (filter (λ n. is_among n (y ∷ ys)) xs)) first ∙ rest (y ∷ ys) up (t, within)
 
--- ---- one number that goes away
+-- ---- one number removed
 
--- numbers above one, without it
+-- numbers above n, without n
 above_left : (n : ℕ) (xs : List ℕ) → AllByRecursion (λ x. n < x) xs → without (n ∷ []) xs ≡ xs
 above_left n [] h = refl
 above_left n (x ∷ xs) h =
@@ -109,7 +109,7 @@ none_left n (x ∷ xs) h = by (x == n) refl h (none_left n xs)
     by false e h rest =
         ap (λ b. cond (not (b || false)) (x ∷ without (n ∷ []) xs) (without (n ∷ []) xs)) (ne_eqb n x (λ f. true≢false (sym (eq-eqb x n (sym f)) ∙ e))) ∙ ap (λ z. x ∷ z) (rest h)
 
--- numbers that rise, without the one at a place
+-- increasing numbers, without the one at an index
 place_left : (xs : List ℕ) (n i : ℕ) → IsStrictlyIncreasing xs → i < length xs → get_or xs i 0 ≡ n → without (n ∷ []) xs ≡ remove xs i
 place_left [] n i rise lt at = absurd (omega (arith, lt))
 place_left (x ∷ xs) n zero rise lt at =
@@ -118,10 +118,10 @@ place_left (x ∷ xs) n (suc i) rise lt at =
     let less : x < n = of_among (λ y. x < y) n xs (above_first x xs rise) (at_among xs n i (omega (arith, lt)) at) in
     ap (λ b. cond (not (b || false)) (x ∷ without (n ∷ []) xs) (without (n ∷ []) xs)) (ne_eqb n x (λ e. omega (arith, e, less))) ∙ ap (λ z. x ∷ z) (place_left xs n i (tail_rises x xs rise) (omega (arith, lt)) at)
 
--- by a search that finds the number
+-- after a search that finds the number
 pub found_left : (xs : List ℕ) (n i : ℕ) → IsBinarySearchResult (λ y. nat_cmp y n) xs (Ok i) → IsStrictlyIncreasing xs → remove xs i ≡ without (n ∷ []) xs
 found_left xs n i h rise = let at = searched xs n (Ok i) h (rises_up xs rise) in sym (place_left xs n i rise at.0 at.1)
 
--- and by one that does not
+-- after a search that does not
 pub missed_left : (xs : List ℕ) (n i : ℕ) → IsBinarySearchResult (λ y. nat_cmp y n) xs (Err i) → IsStrictlyIncreasing xs → xs ≡ without (n ∷ []) xs
 missed_left xs n i h rise = sym (none_left n xs (sym (found_among xs n (Err i) h (not_falling xs rise))))

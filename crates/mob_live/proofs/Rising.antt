@@ -1,4 +1,4 @@
--- Numbers that rise.
+-- Numbers that increase strictly.
 use Rattle.std.proofs.Common.{arith, ℕ, zero, suc, ◌<◌, ◌≤◌, length, List, [], ◌∷◌, get_or}
 use native.Mathlib.Numerals.{unary_clauses}
 use Rattle.std.specs.List.{AllByRecursion}
@@ -6,7 +6,7 @@ use Rattle.std.specs.List.Sorted.{IsNonDecreasing, IsStrictlyIncreasing}
 use Rattle.std.proofs.lemmas.List.Sorted.{IsNonDecreasingBy-from_default}
 use Rattle.mob_list.proofs.Each.{each_on}
 
--- those behind the first rise too
+-- the numbers after the first increase too
 pub tail_rises : (x : ℕ) (xs : List ℕ) → IsStrictlyIncreasing (x ∷ xs) → IsStrictlyIncreasing xs
 tail_rises x xs h k lt = simp unary_clauses (simp unary_clauses at h (suc k) (omega (arith, lt)))
 
@@ -29,6 +29,6 @@ rises_up (x ∷ xs) h zero (suc j) le lt = let k = each_number (λ n. x < n) xs 
 rises_up (x ∷ xs) h (suc i) zero le lt = absurd (omega (arith, le))
 rises_up (x ∷ xs) h (suc i) (suc j) le lt = rises_up xs (tail_rises x xs h) i j (omega (arith, le)) (omega (arith, lt))
 
--- so they do not fall
+-- so they are sorted
 pub not_falling : (xs : List ℕ) → IsStrictlyIncreasing xs → IsNonDecreasing xs
 not_falling xs rise = IsNonDecreasingBy-from_default (λ x. x) xs 0 (rises_up xs rise)

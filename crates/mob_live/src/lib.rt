@@ -1,5 +1,4 @@
-//! The numbers of the rows of a table that are there, which rise: what is left of them when others
-//! go.
+//! The sorted numbers of live rows, and their removal.
 #![tactic(auto)]
 
 pub mod rows;

@@ -1,7 +1,7 @@
 // One check: a literal, a new table, a row of an INSERT, or a file.
 ghost use Rattle.std.specs.Prelude.{◌≡◌, ◌≢◌, ◌+◌, ◌^◌, ◌<◌, ◌≤◌, IfErr, IfOk, IfSome, OnOk, length, map, option_map, slice_get, slice_index, slice_set, Some};
 ghost use Rattle.mob_outside.specs.Told.{AsksFor, KeepsFiles, MayAskFor, file_of};
-ghost use Rattle.mob_catalog.specs.Faults.{OnRefused};
+ghost use Rattle.mob_list.specs.Faults.{OnCause};
 ghost use Rattle.mob_catalog.specs.TableFile.{FileFails, IsTable};
 ghost use Rattle.mob_load.specs.Checks.{check_seen, file};
 ghost use Rattle.mob_load.specs.Fronts.{AsksForAll, AsksForSome, OnFiles};
@@ -14,6 +14,7 @@ use crate::loading::Loading;
 use crate::program::LoadEnd;
 use mob_ast::{Kind, Refusal, SqlType};
 use mob_catalog::{LoadFault, constant, read_table};
+use mob_list::fault::Fault;
 use mob_list::text::Text;
 use mob_outside::Files;
 use mob_scalar::Epoch;
@@ -131,7 +132,7 @@ fn rows_of_bytes(
 ) -> Result<Rows<Value>, LoadFault>
     requires narrow { length (columns_or_none (option_map (λ c. c.now) columns)) ≤ 64 }
     ensures table { IfOk result (IsTable (columns_or_none (option_map (λ c. c.now) columns.entry)) epoch.now room bytes.now) }
-    ensures first_fault { IfErr result (OnRefused (FileFails (columns_or_none (option_map (λ c. c.now) columns.entry)) epoch.now room bytes.now)) }
+    ensures first_fault { IfErr result (OnCause (FileFails (columns_or_none (option_map (λ c. c.now) columns.entry)) epoch.now room bytes.now)) }
 {
     match columns {
         Some(columns) => read_table(alloc, bytes, columns, epoch, room),
@@ -172,13 +173,13 @@ fn load_bytes(
     let columns = columns_of_table(&loading.tables, table);
     match rows_of_bytes(alloc, bytes, columns, epoch, room) {
         Ok(rows) => put_rows(loading, table, rows),
-        Err(LoadFault::Refused { kind, rec, field }) => Err(LoadEnd::TableRefused {
+        Err(Fault::Because(wrong)) => Err(LoadEnd::TableRefused {
             file: name.copy(alloc)?,
-            kind,
-            rec,
-            field,
+            kind: wrong.kind,
+            rec: wrong.rec,
+            field: wrong.field,
         }),
-        Err(LoadFault::NoMemory) => Err(LoadEnd::NoMemory),
+        Err(Fault::NoMemory) => Err(LoadEnd::NoMemory),
     }
 }
 

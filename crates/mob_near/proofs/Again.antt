@@ -1,4 +1,4 @@
--- What is known at the end of a piece, taken up again.
+-- Results kept at the end of a piece, and reused.
 use Rattle.std.specs.Prelude.{◌≡◌}
 use Rattle.std.proofs.Common.{sym}
 use Rattle.mob_ratio.specs.Ratio.{Ratio}

@@ -26,7 +26,7 @@ use Rattle.mob_near.proofs.OnPieces.{square_on, IsNearestOn}
 up_to-trans : (a b c : Ratio) → up_to a b ≡ true → up_to b c ≡ true → up_to a c ≡ true
 up_to-trans a b c h k = rw (le-up_to a c (le_trans a b c (not-up_to-le a b h) (not-up_to-le b c k))) refl
 
--- ---- the smaller one of two
+-- ---- the smaller of two
 either_below : (a b n : Ratio) (c : Bool) → before a b ≡ c → before (cond c a b) n ≡ true → (before a n ≡ true) ⊎ (before b n ≡ true)
 either_below a b n true e h = inl h
 either_below a b n false e h = inr h
@@ -115,6 +115,6 @@ module _ (a b : OperandOf PlaneLine Point) (moving : (has_slices a || has_slices
       let i = some_instant p.span c.0 in
       subst (λ o. IsApproach left right o) (sym k.1) (common_by plane_value_of plane_value_of a b moving ps p i.0 e i.1, nearest p ps k.0 e c near.0 k.2)
 
-  -- where each piece has its nearest, that of all of them is that of all common instants
+  -- if each piece has its nearest approach, that of all of them is that of all common instants
   pub is_approach : PiecesAreClear (λ q. q.span) (pieces a b) → AllByRecursion (λ p. IsNearestOn p (piece_approach p)) (pieces a b) → IsApproach left right (walked nearest_of piece_approach None (pieces a b))
   is_approach c near = approach_by_pieces (pieces a b) refl c near

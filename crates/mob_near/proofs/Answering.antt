@@ -1,4 +1,4 @@
--- What the answers of all pieces say of a distance.
+-- The meaning of the answers of all pieces for a distance.
 use Rattle.std.specs.Prelude.{◌≡◌, ◌↔◌, ◌||◌, Bool, true, false, cond, List, [], ◌∷◌, Option, Some, None, Result, Ok, Err, IfOk, IsTrue, MatchOption, not, refl}
 use Rattle.std.specs.Option.{is_some}
 use Rattle.std.proofs.Common.{ap, sym, ◌∙◌, subst, true≢false}
@@ -11,7 +11,6 @@ use Rattle.mob_span.specs.Pieces.{PiecesAreClear}
 use Rattle.mob_span.proofs.SpanLemmas.{some_instant}
 use Rattle.mob_slice.specs.Sides.{OperandOf, pieces, given_at, has_slices}
 use Rattle.mob_slice.specs.Lines.{plane_value_of}
-use Rattle.mob_slice.specs.declared.formula.Passed.{Passed}
 use Rattle.mob_slice.specs.declared.line.PlaneLine.{PlaneLine}
 use Rattle.mob_lift.specs.Sometime.{HaveCommon, IsEver}
 use Rattle.mob_lift.proofs.PieceAt.{no_common, common_by}
@@ -19,9 +18,10 @@ use Rattle.mob_quadratic.proofs.Convex.{square_le}
 use Rattle.mob_near.specs.Distances.{distance_squared, are_within}
 use Rattle.mob_near.specs.Entries.{PointPiece}
 use Rattle.mob_near.specs.Legs.{are_some}
+use Rattle.mob_slice.specs.declared.formula.Formula.{Formula}
 
 -- ---- a common instant
--- the first step of a walk tells whether there is a piece
+-- the first step of a walk shows whether any piece exists
 pub next_tells : {A : Type 0} (view : A → PointPiece) (r : Option A) (all rest : List PointPiece) → MatchOption r ((all ≡ []) × (rest ≡ [])) (λ x. all ≡ view x ∷ rest) → is_some r ≡ are_some all
 next_tells view None all rest h = sym (ap are_some h.0)
 next_tells view (Some x) all rest h = sym (ap are_some h)
@@ -31,7 +31,7 @@ module _ (a b : OperandOf PlaneLine Point) (moving : (has_slices a || has_slices
   common_of [] e c = (λ h. absurd (true≢false (sym h)), λ h. absurd (no_common plane_value_of plane_value_of a b moving e h))
   common_of (p ∷ ps) e c = let i = some_instant p.span c.0 in (λ h. common_by plane_value_of plane_value_of a b moving ps p i.0 e i.1, λ h. refl)
 
-  -- there is one exactly where there is a piece
+  -- an instant is common exactly if a piece exists
   pub common_exact : (r : Bool) → r ≡ are_some (pieces a b) → PiecesAreClear (λ q. q.span) (pieces a b) → IsTrue r ↔ HaveCommon (given_at plane_value_of a) (given_at plane_value_of b)
   common_exact r e c = subst (λ z. IsTrue z ↔ HaveCommon (given_at plane_value_of a) (given_at plane_value_of b)) (sym e) (common_of (pieces a b) refl c)
 
@@ -45,8 +45,8 @@ module _ (d : Ratio) (left right : Ratio → Option Point) where
   never_within true r h k e = subst (IsEver (are_within d) left right) (sym e) (h.0 refl, (λ f. absurd (true≢false (sym f)), λ m. below_nil m.1 m.2 k m.5))
   never_within false r h k e = subst (IsEver (are_within d) left right) (sym e) (λ m. true≢false (sym (h.1 m)))
 
-  -- without a common instant there is no answer
-  pub none_within : (b : Bool) (r : Result (Option Bool) Passed) (f : Passed) → IsTrue b ↔ HaveCommon left right → r ≡ cond b (Err f) (Ok None) → IfOk r (IsEver (are_within d) left right)
+  -- if no instant is common, the answer is none
+  pub none_within : (b : Bool) (r : Result (Option Bool) Formula) (f : Formula) → IsTrue b ↔ HaveCommon left right → r ≡ cond b (Err f) (Ok None) → IfOk r (IsEver (are_within d) left right)
   none_within true r f h e = subst (λ z. IfOk z (IsEver (are_within d) left right)) (sym e) tt
   none_within false r f h e = subst (λ z. IfOk z (IsEver (are_within d) left right)) (sym e) (λ m. true≢false (sym (h.1 m)))
 
@@ -64,8 +64,8 @@ module _ (d : Ratio) (left right : Ratio → Option Point) where
     ),
   )
 
-  -- two points are within a distance where the squares stand so
-  pub within_by_squares : (s : Ratio) (r : Result (Option Bool) Passed) → before d nil ≡ false → s ≡ d *ℚ d → IfOk r (IsEver (λ x y. up_to (distance_squared x y) s) left right) → IfOk r (IsEver (are_within d) left right)
+  -- two points are within a distance exactly if their squares compare that way
+  pub within_by_squares : (s : Ratio) (r : Result (Option Bool) Formula) → before d nil ≡ false → s ≡ d *ℚ d → IfOk r (IsEver (λ x y. up_to (distance_squared x y) s) left right) → IfOk r (IsEver (are_within d) left right)
   within_by_squares s (Ok v) h e k = ever_within_by s v h e k
   within_by_squares s (Err f) h e k = tt
 

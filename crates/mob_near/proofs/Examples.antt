@@ -19,7 +19,7 @@ n k = whole (pos k)
 abbrev point : Ratio → Ratio → Point
 point x y = record { x = x; y = y }
 
--- from (0, 0) and (3, 4) it is 5, and not less
+-- from (0, 0) to (3, 4) the distance is 5, and not less
 five : distance_squared (point (n 0) (n 0)) (point (n 3) (n 4)) ≡ n 25
 unfolding over gcd gcd_steps in_lowest_terms whole ◌+ℚ◌ neg_ℚ ◌*ℚ◌
 five = refl
@@ -37,7 +37,7 @@ never : are_within (whole (negsuc 0)) (point (n 0) (n 0)) (point (n 0) (n 0)) �
 unfolding over gcd gcd_steps in_lowest_terms whole ◌+ℚ◌ neg_ℚ ◌*ℚ◌ before
 never = refl
 
--- from 0 to 10 a point goes from (0, 0) to (10, 0), where it is no more; another stays at (13, 0)
+-- from 0 to 10 a point moves from (0, 0) to (10, 0), excluding the end; another stays at (13, 0)
 abbrev towards : PointPiece
 towards = record {
   span = record { lower = n 0; upper = n 10; lower_inc = true; upper_inc = false };
@@ -45,7 +45,7 @@ towards = record {
   right = Stays (point (n 13) (n 0));
 }
 
--- they are never within 3, and 9 is the square of their nearest approach all the same
+-- they are never within 3, and yet their nearest approach squared is 9
 not_reached : piece_reaches (n 9) towards ≡ false
 unfolding over gcd gcd_steps in_lowest_terms whole ◌+ℚ◌ neg_ℚ ◌*ℚ◌ inverse turned before same line_at line_value absolute
 not_reached = refl
@@ -54,7 +54,7 @@ approached : piece_approach towards ≡ n 9
 unfolding over gcd gcd_steps in_lowest_terms whole ◌+ℚ◌ neg_ℚ ◌*ℚ◌ inverse turned before same line_at line_value
 approached = refl
 
--- their formulas: there is no quotient, since the nearest point is none between
+-- their formulas: no quotient, since the nearest point is not strictly between
 entries : entries_of_within (n 3) (towards ∷ []) ≡
     record { formula = F6; parts = n 9 ∷ [] }
     ∷ record { formula = F1; parts = [] }
@@ -69,7 +69,7 @@ no_entries : entries_of_within (whole (negsuc 2)) (towards ∷ []) ≡ []
 unfolding over gcd gcd_steps in_lowest_terms whole before
 no_entries = refl
 
--- between 0 and 5 two points go side by side, 3 apart, and neither end is included
+-- between 0 and 5 two points move side by side, 3 apart, with both ends excluded
 abbrev beside : PointPiece
 beside = record {
   span = record { lower = n 0; upper = n 5; lower_inc = false; upper_inc = false };

@@ -1,4 +1,4 @@
--- The parts of the formulas, once their numbers are named.
+-- The parts of the formulas, from their named numbers.
 use Rattle.std.specs.Prelude.{◌≡◌, true, ◌&&◌, List, [], ◌∷◌, ◌++◌, Result, Ok, Err, refl}
 use Rattle.std.proofs.Common.{arith, ap, sym, ◌∙◌, subst}
 use Rattle.mob_ratio.specs.Ratio.{Ratio, ◌+ℚ◌, ◌-ℚ◌, ◌*ℚ◌, ◌<ℚ◌}
@@ -22,7 +22,7 @@ pub cross_last : {E : Type 0} (r : Result Ratio E) (x y z w p q : Ratio) → (p 
 cross_last r x y z w p q hp hq h =
     last_part ((x *ℚ y) ∷ (z *ℚ w) ∷ []) (x *ℚ y -ℚ z *ℚ w) (x *ℚ y -ℚ z *ℚ w) r refl (hp.1, (hq.1, tt)) (subst (λ g. IsExact (g -ℚ z *ℚ w) r) hp.0 (subst (λ g. IsExact (p -ℚ g) r) hq.0 h))
 
--- where the nearest point is between the ends, the way is longer than 0
+-- if the nearest point is strictly between the ends, the segment is longer than 0
 pub way_is_long : (length along beyond : Ratio) → beyond ≡ length +ℚ along → (before along nil && before nil beyond) ≡ true → length ≡ nil → ⊥
 way_is_long length along beyond e h z =
     let a = before-lt along nil (grind (arith, h)) in

@@ -15,7 +15,6 @@ use Rattle.mob_slice.specs.declared.line.PlaneLine.{PlaneLine}
 use Rattle.mob_slice.specs.declared.formula.Formula.{Formula}
 use Rattle.mob_slice.proofs.Cuts.{all_both}
 use Rattle.mob_slice.specs.declared.formula.Formula.TheVariants.{F2, F5, F6}
-use Rattle.mob_slice.specs.declared.formula.Passed.{Passed}
 use Rattle.mob_cells.specs.Gaps.{entries_of_ends}
 use Rattle.mob_lifted.proofs.Firsts.{first_joined, first_front}
 use Rattle.mob_near.specs.Entries.{PointPiece, entries_of_squares, entries_of_reach, entries_of_within}
@@ -30,7 +29,7 @@ module _ (p : PointPiece) (l r : PlaneLine) (left : (l ≡ ends_of p.left p.span
   same_parts : leg_parts l r ≡ leg_parts (ends_of p.left p.span) (ends_of p.right p.span)
   same_parts = ap (λ z. leg_parts z r) left.0 ∙ ap (leg_parts (ends_of p.left p.span)) right.0
 
-  pub leg_decided : (q : Result Leg Passed) → IsComputed F2 (leg_parts l r) (leg_between l r) q → IsDecided (entries_of_ends plane_value_of plane_parts_of point_gaps p) q
+  pub leg_decided : (q : Result Leg Formula) → IsComputed F2 (leg_parts l r) (leg_between l r) q → IsDecided (entries_of_ends plane_value_of plane_parts_of point_gaps p) q
   leg_decided (Ok g) h = inl (points_fit, inl (subst AllFit same_parts h.1, refl))
   leg_decided (Err f) h = inl (points_fit, inr (λ all. h.1 (subst AllFit (sym same_parts) all), ap Some h.0))
 
@@ -64,13 +63,13 @@ module _ (d : Ratio) where
       split [] ys zs r f h = f r h
       split (x ∷ xs) ys zs r f h = ⊎_elim (λ m. inl (m.0, split xs ys zs r f m.1)) (λ m. inr m) h
 
-  -- the square of a distance that is not below 0 fits, and the rest is as it is
-  pub within_fits : {V : Type 0} (ps : List PointPiece) (r : Result V Passed) → before d nil ≡ false → AllFit (distance_parts d) → IsDecided (flat_map (entries_of_reach (d *ℚ d)) ps) r → IsDecided (entries_of_within d ps) r
+  -- if the square of a distance of at least 0 fits, only the other entries matter
+  pub within_fits : {V : Type 0} (ps : List PointPiece) (r : Result V Formula) → before d nil ≡ false → AllFit (distance_parts d) → IsDecided (flat_map (entries_of_reach (d *ℚ d)) ps) r → IsDecided (entries_of_within d ps) r
   within_fits ps (Ok v) h fit k = rw h (squares_fit fit ps None k)
-  within_fits ps (Err e) h fit k = rw h (squares_fit fit ps (Some e.formula) k)
+  within_fits ps (Err e) h fit k = rw h (squares_fit fit ps (Some e) k)
 
-  -- it does not fit, where there is a piece
-  pub within_unfit : (ps : List PointPiece) → before d nil ≡ false → (¬ AllFit (distance_parts d)) → IsDecided {V = Option Bool} (entries_of_within d ps) (cond (are_some ps) (Err (record { formula = F6 })) (Ok None))
+  -- if it does not fit, it is the first fault as soon as a piece exists
+  pub within_unfit : (ps : List PointPiece) → before d nil ≡ false → (¬ AllFit (distance_parts d)) → IsDecided {V = Option Bool} (entries_of_within d ps) (cond (are_some ps) (Err (F6)) (Ok None))
   within_unfit [] h bad = rw h refl
   within_unfit (p ∷ ps) h bad = rw h (inr (bad, refl))
 

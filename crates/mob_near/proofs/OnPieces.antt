@@ -1,4 +1,4 @@
--- How near two points come on a piece of time.
+-- The nearness of two points on a piece of time.
 use Rattle.std.specs.Prelude.{◌≡◌, ◌↔◌, Bool, true, false, cond, not, List, [], ◌∷◌, refl}
 use Rattle.std.specs.List.{AllByRecursion}
 use Rattle.std.proofs.Common.{arith, ap, sym, ◌∙◌, subst}
@@ -25,7 +25,7 @@ use Rattle.mob_near.proofs.Place.{square_at, reached, approached}
 abbrev pub IsHeld : PointPiece → Type 0
 IsHeld p = HoldsPiece (λ c. c.from) (λ c. c.to) (λ c. c.from) (λ c. c.to) p
 
--- the square of the distance at an instant
+-- the squared distance at an instant
 abbrev pub square_on : PointPiece → Ratio → Ratio
 square_on p t = distance_squared (side_at plane_value_of p.left t) (side_at plane_value_of p.right t)
 
@@ -40,7 +40,7 @@ along_leg p held some t i = ap length_of (gaps_on plane_laws plane_comparison p 
 short_square : (g : Leg) (r : SpanOf) (t : Ratio) → before r.lower r.upper ≡ false → square_at g r t ≡ (squares_of g).first
 short_square g r t h = rw (line_at-short g.x0 g.x1 r.lower r.upper t h, line_at-short g.y0 g.y1 r.lower r.upper t h) refl
 
--- a span of one instant has it
+-- a span of one instant includes it
 lower_has : (r : SpanOf) → has_instant r ≡ true → before r.lower r.upper ≡ false → has r r.lower ≡ true
 lower_has r h k = grind (arith, h, k, before-self r.lower)
 

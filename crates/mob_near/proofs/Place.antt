@@ -1,5 +1,5 @@
--- The square of the length of a difference that goes evenly is a convex quadratic of the part of
--- the time that has gone.
+-- The squared length of a difference that changes linearly is a convex quadratic function of the
+-- elapsed fraction of the time.
 use Rattle.std.specs.Prelude.{◌≡◌, ◌↔◌, ◌&&◌, Bool, true, false, [], ◌∷◌, pos, refl}
 use Rattle.std.proofs.Common.{ap, sym, ◌∙◌, subst}
 use Rattle.mob_ratio.specs.Ratio.{Ratio, ◌+ℚ◌, ◌-ℚ◌, ◌*ℚ◌, ◌/ℚ◌, ◌<ℚ◌, ◌≤ℚ◌}
@@ -21,7 +21,7 @@ use Rattle.mob_near.specs.Distances.{length_squared}
 use Rattle.mob_near.specs.Legs.{squares_of, foot_of, leg_reaches, leg_approach}
 use Rattle.mob_near.specs.declared.leg.Leg.{Leg}
 
--- how far the way goes, its length and its product with the start
+-- the vector of the segment, its squared length, and its dot product with the start
 abbrev going : Ratio → Ratio → Ratio → Ratio
 going x0 x1 s = x0 +ℚ s *ℚ (x1 -ℚ x0)
 
@@ -56,7 +56,7 @@ as_across g =
 squared_le : (x y : Ratio) → nil ≤ℚ length_squared x y
 squared_le x y = add_le _ _ (square_le x) (square_le y)
 
--- ---- s is the part of the time from l to u that has gone at t
+-- ---- s is the elapsed fraction of the time from l to u at t
 record IsGone (l u t s : Ratio) : Type 0 where
   pub is : s *ℚ (u -ℚ l) ≡ t -ℚ l
 
@@ -99,7 +99,7 @@ gone_of l u t h = record { is = div-mul (t -ℚ l) (u -ℚ l) (sub_ne-zero l u (
 gone_at : (l u s : Ratio) → IsGone l u (l +ℚ s *ℚ (u -ℚ l)) s
 gone_at l u s = let L = at 0 in let U = at 1 in let S = at 2 in record { is = ring_ℚ (l ∷ u ∷ s ∷ []) (S ⊗ (U ⊖ L)) ((L ⊕ S ⊗ (U ⊖ L)) ⊖ L) refl }
 
--- ---- the square of the length on the way
+-- ---- the squared length along the segment
 abbrev pub square_at : Leg → SpanOf → Ratio → Ratio
 square_at g r t = length_squared (line_at g.x0 g.x1 r.lower r.upper t) (line_at g.y0 g.y1 r.lower r.upper t)
 
@@ -116,7 +116,7 @@ same_test g D lower_inc upper_inc h = rw (as_last g, foot_same g D h (dips (way 
 last_le : (g : Leg) → nil ≤ℚ at_one (way g) (along g) (start g)
 last_le g = rw (as_last g) (squared_le g.x1 g.y1)
 
--- somewhere on the way the square of the length is at most D, exactly where the test says so
+-- somewhere on the segment the squared length is at most D, exactly if the test is true
 pub reached : (g : Leg) (r : SpanOf) (D : Ratio) → before r.lower r.upper ≡ true → nil ≤ℚ D → (leg_reaches D r.lower_inc r.upper_inc g ≡ true) ↔ ((t : Ratio) × (has r t ≡ true) × (up_to (square_at g r t) D ≡ true))
 reached g r D h hd =
     let d = decided (way g) (along g) (start g) D r.lower_inc r.upper_inc (squared_le _ _) (squared_le g.x0 g.y0) (last_le g) in (
@@ -137,7 +137,7 @@ approach_cases : (g : Leg) (b : Bool) → dips (way g) (along g) ≡ b → leg_a
 approach_cases g true e = rw (e, as_across g, mul_assoc (foot_of g).across (foot_of g).across) refl
 approach_cases g false e = rw (e, as_last g) refl
 
--- and the greatest lower bound is that of all the way
+-- and the greatest lower bound is that of the whole segment
 pub record IsLeastOn (g : Leg) (r : SpanOf) (m : Ratio) : Type 0 where
   pub lower : (t : Ratio) → has r t ≡ true → up_to m (square_at g r t) ≡ true
   pub greatest : (n : Ratio) → before m n ≡ true → (t : Ratio) × (has r t ≡ true) × (before (square_at g r t) n ≡ true)

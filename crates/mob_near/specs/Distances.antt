@@ -1,18 +1,19 @@
--- How far two points are apart, and whether that is at most a given distance.
+-- The distance of two points, and whether it is at most a given distance.
 use Rattle.std.specs.Prelude.{Bool, ◌&&◌}
 use Rattle.mob_ratio.specs.Ratio.{Ratio, ◌+ℚ◌, ◌-ℚ◌, ◌*ℚ◌}
 use Rattle.mob_ratio.specs.Order.{up_to}
 use Rattle.mob_ratio.specs.Sign.{nil}
 use Rattle.mob_plane.specs.declared.point.Point.{Point}
 
--- the square of the length of a vector (Pythagoras): always a rational, as the length itself is not
+-- the squared length of a vector (Pythagoras), which is always rational, unlike the length itself
 abbrev pub length_squared : Ratio → Ratio → Ratio
 length_squared x y = x *ℚ x +ℚ y *ℚ y
 
--- the square of the distance of two points
+-- the squared distance of two points
 abbrev pub distance_squared : Point → Point → Ratio
 distance_squared a b = length_squared (a.x -ℚ b.x) (a.y -ℚ b.y)
 
--- whether the distance is at most d: then d is not below 0, and the squares stand so
+-- the distance is at most d: then d is not below 0, and the square of the distance is at most that
+-- of d
 abbrev pub are_within : Ratio → Point → Point → Bool
 are_within d a b = up_to nil d && up_to (distance_squared a b) (d *ℚ d)

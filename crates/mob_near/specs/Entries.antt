@@ -1,5 +1,5 @@
 -- The formulas of nearness, on each piece that two points share, in the order in which they are
--- judged.
+-- checked.
 use Rattle.std.specs.Prelude.{cond, List, [], ◌∷◌, ◌++◌}
 use Rattle.std.specs.List.{flat_map}
 use Rattle.mob_ratio.specs.Ratio.{Ratio, ◌-ℚ◌, ◌*ℚ◌}
@@ -16,36 +16,36 @@ use Rattle.mob_slice.specs.declared.line.PlaneLine.{PlaneLine}
 use Rattle.mob_slice.specs.declared.formula.Formula.TheVariants.{F5, F6}
 use Rattle.mob_cells.specs.Gaps.{entries_of_ends}
 
--- a piece of time with two points that move evenly, or stay
+-- a piece of time with two points that move linearly or stay
 abbrev pub PointPiece : Type 0
 PointPiece = PieceOf (SideOf PlaneLine Point) (SideOf PlaneLine Point)
 
--- how far they are apart at t, to the east and to the north
+-- the differences of their coordinates at t, to the east and to the north
 abbrev pub gap_x : PointPiece → Ratio → Ratio
 gap_x p t = (side_at plane_value_of p.left t).x -ℚ (side_at plane_value_of p.right t).x
 
 abbrev pub gap_y : PointPiece → Ratio → Ratio
 gap_y p t = (side_at plane_value_of p.left t).y -ℚ (side_at plane_value_of p.right t).y
 
--- F1 of both points at the ends of the piece, F2, how far they are apart there, and F6, the square
--- of that distance
+-- F1 of both points at the ends of the piece, F2, their difference there, and F6, its squared
+-- length
 abbrev pub entries_of_squares : PointPiece → List Entry
 entries_of_squares p = entries_of_ends plane_value_of plane_parts_of point_gaps p ++ record { formula = F6; parts = at_ends (λ t. square_parts (gap_x p t) (gap_y p t)) p.span } ∷ []
 
--- a formula of the difference from one end of the piece to the other, where that is longer than an
--- instant
+-- a formula of the difference from one end of the piece to the other, if the piece is longer than
+-- an instant
 abbrev pub parts_between : (Ratio → Ratio → Ratio → Ratio → List Ratio) → PointPiece → List Ratio
 parts_between parts p = cond (before p.span.lower p.span.upper) (parts (gap_x p p.span.lower) (gap_y p p.span.lower) (gap_x p p.span.upper) (gap_y p p.span.upper)) []
 
--- and then F5, by the square D of a distance
+-- those entries, and then F5, for the squared distance D
 abbrev pub entries_of_reach : Ratio → PointPiece → List Entry
 entries_of_reach D p = entries_of_squares p ++ record { formula = F5; parts = parts_between (within_parts D) p } ∷ []
 
--- The entries of nearness within d: on each piece first F6, the square of d. A distance below 0 has
--- no formula.
+-- The entries of nearness within d: on each piece, first F6, the square of d. A distance below 0
+-- has no formula.
 abbrev pub entries_of_within : Ratio → List PointPiece → List Entry
 entries_of_within d ps = cond (before d nil) [] (flat_map (λ p. record { formula = F6; parts = distance_parts d } ∷ entries_of_reach (d *ℚ d) p) ps)
 
--- those of the nearest approach
+-- the entries of the nearest approach
 abbrev pub entries_of_approach : PointPiece → List Entry
 entries_of_approach p = entries_of_squares p ++ record { formula = F5; parts = parts_between approach_parts p } ∷ []

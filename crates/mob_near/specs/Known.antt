@@ -1,4 +1,4 @@
--- What is known at the end of a piece of time, for the piece that begins there.
+-- Results at the end of a piece of time, kept for the piece that begins there.
 use Rattle.std.specs.Prelude.{◌≡◌}
 use Rattle.mob_ratio.specs.Ratio.{Ratio, ◌-ℚ◌}
 use Rattle.mob_frac.specs.Formula.{AllFit, square_parts}
@@ -17,11 +17,11 @@ pub record FoundOf : Type 0 where
   pub at : Ratio
   pub point : Point
 
--- it is the slice's own, and each part of its formula fits
+-- it is the point of the slice, and each part of its formula fits
 abbrev pub IsFound : FoundOf → Type 0
 IsFound f = (f.point ≡ slice_value plane_value_of f.slice f.at) × AllFit (slice_parts plane_parts_of f.slice f.at)
 
--- how far a point is from another, to the east and to the north
+-- the difference of two points, to the east and to the north
 pub record ApartOf : Type 0 where
   pub left : Point
   pub right : Point
@@ -32,12 +32,12 @@ pub record ApartOf : Type 0 where
 abbrev pub IsDifference : ApartOf → Type 0
 IsDifference a = (a.x ≡ a.left.x -ℚ a.right.x) × (a.y ≡ a.left.y -ℚ a.right.y) × AllFit (gap_parts (point_gaps a.left a.right))
 
--- the square of the length of a vector
+-- the squared length of a vector
 pub record SquaredOf : Type 0 where
   pub x : Ratio
   pub y : Ratio
   pub square : Ratio
 
--- it is the square, and each part of its formula fits
+-- it is the squared length, and each part of its formula fits
 abbrev pub IsSquareOf : SquaredOf → Type 0
 IsSquareOf s = (s.square ≡ length_squared s.x s.y) × AllFit (square_parts s.x s.y)

@@ -1,5 +1,5 @@
--- How the difference of two points goes on a piece of time, straight from (x0, y0) to (x1, y1), and
--- what follows for its length.
+-- The difference of two points on a piece of time, along a straight segment from (x0, y0) to (x1,
+-- y1), and the consequences for its length.
 use Rattle.std.specs.Prelude.{Bool, true, false, cond, ◌&&◌, List, [], ◌∷◌, ◌++◌, Option, Some, None}
 use Rattle.mob_ratio.specs.Ratio.{Ratio, ◌+ℚ◌, ◌-ℚ◌, ◌*ℚ◌, ◌/ℚ◌}
 use Rattle.mob_ratio.specs.Order.{before, up_to, same}
@@ -20,31 +20,31 @@ use Rattle.mob_near.specs.declared.leg.Leg.{Leg}
 use Rattle.mob_near.specs.declared.leg.Squares.{Squares}
 use Rattle.mob_near.specs.declared.foot.Foot.{Foot}
 
--- the way of the difference on a piece
+-- the segment of the difference on a piece
 abbrev pub leg_of : PointPiece → Leg
 leg_of p = record { x0 = gap_x p p.span.lower; y0 = gap_y p p.span.lower; x1 = gap_x p p.span.upper; y1 = gap_y p p.span.upper }
 
--- where a side is at both ends of a span
+-- the points of a side at both ends of a span
 abbrev pub ends_of : SideOf PlaneLine Point → SpanOf → PlaneLine
 ends_of q r = record { from = side_at plane_value_of q r.lower; to = side_at plane_value_of q r.upper }
 
--- the way of the difference of two points that go evenly, and the parts of its formula
+-- the segment of the difference of two points that move linearly, and the parts of its formula
 abbrev pub leg_between : PlaneLine → PlaneLine → Leg
 leg_between c d = record { x0 = c.from.x -ℚ d.from.x; y0 = c.from.y -ℚ d.from.y; x1 = c.to.x -ℚ d.to.x; y1 = c.to.y -ℚ d.to.y }
 
 abbrev pub leg_parts : PlaneLine → PlaneLine → List Ratio
 leg_parts c d = gap_parts (point_gaps c.from d.from) ++ gap_parts (point_gaps c.to d.to)
 
--- the squares of its lengths at both ends, and the parts of their formula
+-- the squared lengths at both of its ends, and the parts of their formula
 abbrev pub squares_of : Leg → Squares
 squares_of g = record { first = length_squared g.x0 g.y0; last = length_squared g.x1 g.y1 }
 
 abbrev pub squares_parts : Leg → List Ratio
 squares_parts g = square_parts g.x0 g.y0 ++ square_parts g.x1 g.y1
 
--- the numbers by which the point of a way that is nearest to (0, 0) is found, from its start and
--- how far it goes on each axis: the square of the way's length, the product of start and way, that
--- of end and way, and that of the start and the way turned by a right angle
+-- the numbers that give the point of a segment nearest to (0, 0), from its start and its vector:
+-- the squared length of the segment, the dot products of the start and of the end with its vector,
+-- and the cross product of the start with its vector
 abbrev pub foot_by : Ratio → Ratio → Ratio → Ratio → Foot
 foot_by x0 y0 ex ey = record {
   length = ex *ℚ ex +ℚ ey *ℚ ey;
@@ -67,47 +67,46 @@ foot_by_parts x0 y0 ex ey = dot_parts ex ex ey ey ++ (dot_parts x0 ex y0 ey ++ (
 abbrev pub foot_of : Leg → Foot
 foot_of g = foot_by g.x0 g.y0 (g.x1 -ℚ g.x0) (g.y1 -ℚ g.y0)
 
--- whether that point lies strictly between the ends: at the start the way comes nearer, at the end
--- it goes away
+-- that point lies strictly between the ends: the segment approaches at its start and recedes at its
+-- end
 abbrev pub is_on_the_way : Foot → Bool
 is_on_the_way f = before f.along nil && before nil f.beyond
 
--- whether it lies there and the square of its length is at most D, and the parts of the quotients
+-- it lies there and its squared length is at most D, and the parts of the quotients
 abbrev pub foot_reaches : Ratio → Foot → Bool
 foot_reaches D f = is_on_the_way f && square_is_within f.length f.across D
 
 abbrev pub reach_quotients : Ratio → Foot → List Ratio
 reach_quotients D f = cond (is_on_the_way f) ((f.across /ℚ f.length) ∷ cond (same f.across nil) [] ((D /ℚ f.across) ∷ [])) []
 
--- the square of its length where it lies there, and the parts
+-- its squared length, if it lies there, and the parts
 abbrev pub foot_square : Foot → Option Ratio
 foot_square f = cond (is_on_the_way f) (Some (f.across *ℚ (f.across /ℚ f.length))) None
 
 abbrev pub square_quotients : Foot → List Ratio
 square_quotients f = cond (is_on_the_way f) ((f.across /ℚ f.length) ∷ (f.across *ℚ (f.across /ℚ f.length)) ∷ []) []
 
--- whether the square of the length is at most D somewhere on a way that takes longer than an
--- instant
+-- the squared length is at most D somewhere on a segment that takes longer than an instant
 abbrev pub leg_reaches : Ratio → Bool → Bool → Leg → Bool
 leg_reaches D lower_inc upper_inc g = reaches_by D (squares_of g).first (squares_of g).last lower_inc upper_inc (foot_reaches D (foot_of g))
 
--- the greatest lower bound of the square of the length on such a way, whichever ends are included
+-- the greatest lower bound of the squared length on such a segment, whichever ends are included
 abbrev pub leg_approach : Leg → Ratio
 leg_approach g = infimum_by (squares_of g).first (squares_of g).last (foot_square (foot_of g))
 
--- on a piece of time
+-- the squared length is at most D somewhere on a piece of time
 abbrev pub piece_reaches : Ratio → PointPiece → Bool
 piece_reaches D p = cond (before p.span.lower p.span.upper) (leg_reaches D p.span.lower_inc p.span.upper_inc (leg_of p)) (up_to (squares_of (leg_of p)).first D)
 
 abbrev pub piece_approach : PointPiece → Ratio
 piece_approach p = cond (before p.span.lower p.span.upper) (leg_approach (leg_of p)) (squares_of (leg_of p)).first
 
--- the smaller one of what there was so far and what one more piece has
+-- the smaller of the result so far and that of one more piece
 abbrev pub nearest_of : Option Ratio → Ratio → Ratio
 nearest_of None m = m
 nearest_of (Some b) m = smaller m b
 
--- there is a piece
+-- the list of pieces is not empty
 abbrev pub are_some : List PointPiece → Bool
 are_some [] = false
 are_some (p ∷ ps) = true

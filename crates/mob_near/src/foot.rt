@@ -1,4 +1,4 @@
-//! The point of a way that is nearest to (0, 0).
+//! The point of a segment that is nearest to (0, 0).
 ghost use Rattle.std.specs.Prelude.{◌≡◌, ◌&&◌};
 ghost use Rattle.mob_ratio.specs.Ratio.{◌+ℚ◌, ◌-ℚ◌, ◌*ℚ◌};
 ghost use Rattle.mob_frac.specs.Formula.{IsFormula, approach_parts, within_parts};
@@ -8,16 +8,18 @@ ghost use Rattle.mob_near.specs.Legs.{dot_parts, cross_parts, foot_by, foot_by_p
 use crate::leg::Leg;
 use mob_frac::{Frac, Overflow};
 
-/// By what the nearest point of the way of a difference is found.
+/// The numbers that give the nearest point of the segment of a difference.
 #[derive(Clone, Copy, Drop)]
 pub struct Foot {
-    /// The square of the length of the way.
+    /// The squared length of the segment.
     pub length: Frac,
-    /// The product of the first difference and the way: below 0 where the points first come nearer.
+    /// The dot product of the first difference and the segment's vector: below 0 if the points
+    /// approach at the start.
     pub along: Frac,
-    /// That of the last difference and the way: above 0 where the points at last go apart.
+    /// The dot product of the last difference and the segment's vector: above 0 if the points
+    /// recede at the end.
     pub beyond: Frac,
-    /// That of the first difference and the way turned by a right angle.
+    /// The cross product of the first difference and the segment's vector.
     pub across: Frac,
 }
 
@@ -39,7 +41,7 @@ fn cross(x: &Frac, y: &Frac, z: &Frac, w: &Frac) -> Result<Frac, Overflow>
     p.sub(&q)
 }
 
-// The numbers of a way from (x0, y0) that goes `ex` to the east and `ey` to the north.
+// The numbers of a segment from (x0, y0) that goes `ex` to the east and `ey` to the north.
 fn foot_by(x0: &Frac, y0: &Frac, ex: &Frac, ey: &Frac) -> Result<Foot, Overflow>
     ensures value { IsFormula (foot_by_parts x0.now y0.now ex.now ey.now) (foot_by x0.now y0.now ex.now ey.now) result }
 {
@@ -62,7 +64,7 @@ fn is_on_the_way(foot: &Foot) -> bool
     foot.along.is_before(&Frac::zero()) && Frac::zero().is_before(&foot.beyond)
 }
 
-// The number without its sign.
+// The absolute value.
 #[tactic(auto, unfolding(mob_quadratic::specs::Quadratic::absolute))]
 fn absolute(number: &Frac) -> Frac
     ensures value { result ≡ absolute number.now }
@@ -73,7 +75,7 @@ fn absolute(number: &Frac) -> Frac
     *number
 }
 
-// Whether the nearest point lies between the ends, and the square of its length is at most
+// Whether the nearest point lies strictly between the ends, and its squared length is at most
 // `square`.
 fn foot_reaches(foot: &Foot, square: &Frac) -> Result<bool, Overflow>
     requires sum { foot.now.beyond ≡ foot.now.length +ℚ foot.now.along }
@@ -90,7 +92,7 @@ fn foot_reaches(foot: &Foot, square: &Frac) -> Result<bool, Overflow>
     Ok(!absolute(&bound).is_before(&absolute(&height)))
 }
 
-// The square of the length of the nearest point, where it lies between the ends.
+// The squared length of the nearest point, if it lies strictly between the ends.
 fn foot_square(foot: &Foot) -> Result<Option<Frac>, Overflow>
     requires sum { foot.now.beyond ≡ foot.now.length +ℚ foot.now.along }
     ensures value { IsFormula (square_quotients foot.now) (foot_square foot.now) result }
@@ -102,8 +104,8 @@ fn foot_square(foot: &Foot) -> Result<Option<Frac>, Overflow>
     Ok(Some(foot.across.mul(&height)?))
 }
 
-/// Whether the nearest point of a leg lies strictly between its ends, and the square of its length
-/// is at most `square`.
+/// Whether the nearest point of a leg lies strictly between its ends, and its squared length is at
+/// most `square`. It is `Overflow` exactly if a part of F5 does not fit.
 pub fn reaches_between(leg: &Leg, square: &Frac) -> Result<bool, Overflow>
     ensures value { IsFormula (within_parts square.now leg.now.x0 leg.now.y0 leg.now.x1 leg.now.y1) (foot_reaches square.now (foot_of leg.now)) result }
 {
@@ -115,7 +117,8 @@ pub fn reaches_between(leg: &Leg, square: &Frac) -> Result<bool, Overflow>
     }
 }
 
-/// The square of the length of the nearest point of a leg, where it lies strictly between its ends.
+/// The squared length of the nearest point of a leg, if it lies strictly between its ends. It is
+/// `Overflow` exactly if a part of F5 does not fit.
 pub fn square_between(leg: &Leg) -> Result<Option<Frac>, Overflow>
     ensures value { IsFormula (approach_parts leg.now.x0 leg.now.y0 leg.now.x1 leg.now.y1) (foot_square (foot_of leg.now)) result }
 {

@@ -1,5 +1,5 @@
-//! What is known at the end of a piece, for the piece that begins there: two neighbours share an
-//! instant, and mostly the points at it.
+//! Results at the end of a piece, kept for the piece that begins there: two neighbours share an
+//! instant, and usually the points at it.
 
 ghost use Rattle.std.specs.Prelude.{◌≡◌, true, MatchOption};
 ghost use Rattle.mob_ratio.specs.Ratio.{◌-ℚ◌};
@@ -15,13 +15,14 @@ ghost use Rattle.mob_slice.specs.declared.formula.Formula.TheVariants.{F1};
 ghost use Rattle.mob_near.specs.Distances.{length_squared};
 
 use mob_frac::{Frac, Overflow};
+use mob_list::fault::Fault;
 use mob_plane::Point;
-use mob_slice::{Course, Formula, LookFault, Passed, PlaneLine, Slice};
+use mob_slice::{Course, Formula, PlaneLine, Slice};
 use mob_sync::are_alike;
 use std::alloc::Global;
 use std::marker::Model;
 
-/// Where a moving point is at an instant strictly inside a slice.
+/// The position of a moving point at an instant strictly inside a slice.
 #[derive(Drop)]
 pub struct Found {
     slice: Slice<PlaneLine>,
@@ -39,7 +40,7 @@ impl Model for Found {
     ghost invariant = { λ f. IsFound (record { slice = f.slice; at = f.at; point = f.point }) };
 }
 
-/// How far a point is from another.
+/// The difference of two points.
 #[derive(Drop)]
 pub struct Apart {
     left: Point,
@@ -58,7 +59,7 @@ impl Model for Apart {
     ghost invariant = { λ a. IsDifference (record { left = a.left; right = a.right; x = a.x; y = a.y }) };
 }
 
-/// The square of the length of a vector.
+/// The squared length of a vector.
 #[derive(Drop)]
 pub struct Squared {
     x: Frac,
@@ -76,7 +77,7 @@ impl Model for Squared {
     ghost invariant = { λ s. IsSquareOf (record { x = s.x; y = s.y; square = s.square }) };
 }
 
-/// What was computed last: the point of either side, their difference, and its square.
+/// The last results: the point of either side, their difference, and its squared length.
 #[derive(Drop)]
 pub struct Last {
     /// The point of the first side.
@@ -85,11 +86,11 @@ pub struct Last {
     pub right: Option<Found>,
     /// Their difference.
     pub apart: Option<Apart>,
-    /// Its square.
+    /// Its squared length.
     pub squared: Option<Squared>,
 }
 
-/// Nothing is known yet.
+/// No results yet.
 pub fn nothing() -> Last {
     Last {
         left: None,
@@ -103,7 +104,7 @@ pub fn nothing() -> Last {
 fn is_found(found: &Found, slice: &Slice<PlaneLine>, t: &Frac) -> bool
     ensures value { result ≡ true → (found.now.point ≡ slice_value plane_value_of slice.now t.now) × AllFit (slice_parts plane_parts_of slice.now t.now) }
 {
-    // A body that reads a field knows the invariant of `found`.
+    // Reading a field gives the proof the invariant of `found`.
     let _point = &found.point;
     if !found.at.is_same(t) {
         return false;
@@ -111,7 +112,7 @@ fn is_found(found: &Found, slice: &Slice<PlaneLine>, t: &Frac) -> bool
     are_alike(slice, &found.slice)
 }
 
-// The point of a slice at an instant, where it is the one that was found last.
+// The point of a slice at an instant, if it is the last one found.
 fn found_again(found: &Option<Found>, slice: &Slice<PlaneLine>, t: &Frac) -> Option<Point>
     ensures value { MatchOption result (Unit {0}) (λ p. (p ≡ slice_value plane_value_of slice.now t.now) × AllFit (slice_parts plane_parts_of slice.now t.now)) }
 {
@@ -126,15 +127,15 @@ fn found_again(found: &Option<Found>, slice: &Slice<PlaneLine>, t: &Frac) -> Opt
     }
 }
 
-// The point of a slice at an instant strictly inside, as it is kept.
-fn found_on(alloc: Global, slice: &Slice<PlaneLine>, t: &Frac) -> Result<Found, Passed>
+// The point of a slice at an instant strictly inside, in the form in which it is kept.
+fn found_on(alloc: Global, slice: &Slice<PlaneLine>, t: &Frac) -> Result<Found, Formula>
     requires inside { has slice.now.span t.now ≡ true }
     ensures value { IsComputed F1 (slice_parts plane_parts_of slice.now t.now) (record { slice = slice.now; at = t.now; point = slice_value plane_value_of slice.now t.now }) result }
 {
     let point = match slice.course.at(alloc, &slice.span, t) {
         Ok(point) => point,
-        Err(LookFault::Passed { formula }) => return Err(Passed { formula }),
-        Err(LookFault::NoMemory) => unreachable!(),
+        Err(Fault::Because(formula)) => return Err(formula),
+        Err(Fault::NoMemory) => unreachable!(),
     };
     Ok(Found {
         slice: Slice {
@@ -152,30 +153,27 @@ fn point_within(
     slice: &Slice<PlaneLine>,
     t: &Frac,
     found: &mut Option<Found>,
-) -> Result<Point, Passed>
+) -> Result<Point, Formula>
     requires inside { has slice.now.span t.now ≡ true }
     ensures value { IsComputed F1 (slice_parts plane_parts_of slice.now t.now) (slice_value plane_value_of slice.now t.now) result }
 {
     if let Some(point) = found_again(found, slice, t) {
         return Ok(point);
     }
-    let next = match found_on(alloc, slice, t) {
-        Ok(next) => next,
-        Err(passed) => return Err(passed),
-    };
+    let next = found_on(alloc, slice, t)?;
     let point = next.point;
     *found = Some(next);
     Ok(point)
 }
 
-/// The point of a slice at an instant of its span, or its limit at an end that the span leaves out.
-/// `Passed` names F1, exactly where a part of it does not fit.
+/// The point of a slice at an instant of its span, or its limit at an end that the span excludes.
+/// The fault is F1, exactly if a part of it does not fit.
 pub fn point_at(
     alloc: Global,
     slice: &Slice<PlaneLine>,
     t: &Frac,
     found: &mut Option<Found>,
-) -> Result<Point, Passed>
+) -> Result<Point, Formula>
     requires after { up_to slice.now.span.lower t.now ≡ true }
     requires until { up_to t.now slice.now.span.upper ≡ true }
     ensures value { IsComputed F1 (slice_parts plane_parts_of slice.now t.now) (slice_value plane_value_of slice.now t.now) result }
@@ -199,13 +197,13 @@ fn is_apart(apart: &Apart, left: &Point, right: &Point) -> bool
     apart.right.is_same(right)
 }
 
-// The difference of two points, where it is the one that was computed last.
+// The difference of two points, if it is the last one computed.
 fn apart_again(apart: &Option<Apart>, left: &Point, right: &Point) -> Option<(Frac, Frac)>
     ensures value { MatchOption result (Unit {0}) (λ d. (d ≡ (left.now.x -ℚ right.now.x, left.now.y -ℚ right.now.y)) × AllFit (gap_parts (point_gaps left.now right.now))) }
 {
     match apart {
         Some(last) => {
-            // A body that reads a field knows the invariant of `last`.
+            // Reading a field gives the proof the invariant of `last`.
             let _x = &last.x;
             if is_apart(last, left, right) {
                 return Some((last.x, last.y));
@@ -225,8 +223,8 @@ fn difference_of(left: &Point, right: &Point) -> Result<(Frac, Frac), Overflow>
     Ok((x, y))
 }
 
-/// How far the first point is to the east and to the north of the second. They are mostly those at
-/// the end of the piece before.
+/// The difference `left - right` to the east and to the north. Usually it is the one kept from the
+/// end of the piece before. It is `Overflow` exactly if a part of it does not fit.
 pub fn difference(
     left: &Point,
     right: &Point,
@@ -240,8 +238,8 @@ pub fn difference(
     difference_of(left, right)
 }
 
-/// How far the first point is to the east and to the north of the second, at the end of a piece,
-/// where it is kept.
+/// The difference `left - right` to the east and to the north at the end of a piece, which is kept.
+/// It is `Overflow` exactly if a part of it does not fit.
 pub fn difference_kept(
     left: &Point,
     right: &Point,
@@ -260,7 +258,7 @@ pub fn difference_kept(
     Ok((x, y))
 }
 
-// Whether this is the vector whose square is known.
+// Whether this is the vector whose squared length is known.
 fn is_squared(squared: &Squared, x: &Frac, y: &Frac) -> bool
     ensures value { result ≡ true → (squared.now.x ≡ x.now) × (squared.now.y ≡ y.now) }
 {
@@ -270,13 +268,13 @@ fn is_squared(squared: &Squared, x: &Frac, y: &Frac) -> bool
     squared.y.is_same(y)
 }
 
-// The square of the length of a vector, where it is the one that was computed last.
+// The squared length of a vector, if it is the last one computed.
 fn squared_again(squared: &Option<Squared>, x: &Frac, y: &Frac) -> Option<Frac>
     ensures value { MatchOption result (Unit {0}) (λ s. (s ≡ length_squared x.now y.now) × AllFit (square_parts x.now y.now)) }
 {
     match squared {
         Some(last) => {
-            // A body that reads a field knows the invariant of `last`.
+            // Reading a field gives the proof the invariant of `last`.
             let _square = &last.square;
             if is_squared(last, x, y) {
                 return Some(last.square);
@@ -287,7 +285,7 @@ fn squared_again(squared: &Option<Squared>, x: &Frac, y: &Frac) -> Option<Frac>
     }
 }
 
-// The square of the length of a vector.
+// The squared length of a vector.
 fn square_of(x: &Frac, y: &Frac) -> Result<Frac, Overflow>
     ensures value { IsFormula (square_parts x.now y.now) (length_squared x.now y.now) result }
 {
@@ -296,7 +294,8 @@ fn square_of(x: &Frac, y: &Frac) -> Result<Frac, Overflow>
     east.add(&north)
 }
 
-/// The square of the length of a vector, which is mostly that at the end of the piece before.
+/// The squared length of a vector. Usually it is the one kept from the end of the piece before. It
+/// is `Overflow` exactly if a part of F6 does not fit.
 pub fn square(x: &Frac, y: &Frac, squared: &Option<Squared>) -> Result<Frac, Overflow>
     ensures value { IsFormula (square_parts x.now y.now) (length_squared x.now y.now) result }
 {
@@ -306,7 +305,8 @@ pub fn square(x: &Frac, y: &Frac, squared: &Option<Squared>) -> Result<Frac, Ove
     square_of(x, y)
 }
 
-/// The square of the length of a vector at the end of a piece, where it is kept.
+/// The squared length of a vector at the end of a piece, which is kept. It is `Overflow` exactly if
+/// a part of F6 does not fit.
 pub fn square_kept(x: &Frac, y: &Frac, squared: &mut Option<Squared>) -> Result<Frac, Overflow>
     ensures value { IsFormula (square_parts x.now y.now) (length_squared x.now y.now) result }
 {

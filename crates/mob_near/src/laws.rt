@@ -1,4 +1,4 @@
-//! What holds of every nearest approach. No code runs here.
+//! Laws of nearest approaches. No code runs here.
 
 ghost use Rattle.std.specs.Prelude.{◌≡◌, Option};
 ghost use Rattle.mob_ratio.specs.Ratio.{Ratio};

@@ -1,3 +1,4 @@
+//! The difference of two moving points on a piece of time.
 ghost use Rattle.std.specs.Prelude.{◌≡◌, true, IfOk};
 ghost use Rattle.mob_span.specs.Neighbours.{is_inside};
 ghost use Rattle.mob_slice.specs.Computed.{IsComputed};
@@ -15,59 +16,56 @@ use crate::known::{
     Apart, Found, Last, Squared, difference, difference_kept, point_at, square, square_kept,
 };
 use mob_frac::Frac;
-use mob_slice::{Formula, Passed, Piece, PlaneLine, Side, Slice};
+use mob_slice::{Formula, Piece, PlaneLine, Side, Slice};
 use mob_span::Span;
 use std::alloc::Global;
 
-/// The difference of two points on a piece of time: it goes straight from (x0, y0) to (x1, y1).
+/// The difference of two points on a piece of time: a straight segment from (x0, y0) to (x1, y1).
 #[derive(Clone, Copy, Drop)]
 pub struct Leg {
-    /// How far the first point is to the east of the second at the lower end.
+    /// The difference to the east at the lower end: the first point minus the second.
     pub x0: Frac,
-    /// And to the north.
+    /// The difference to the north at the lower end.
     pub y0: Frac,
-    /// How far to the east at the upper end.
+    /// The difference to the east at the upper end.
     pub x1: Frac,
-    /// And to the north.
+    /// The difference to the north at the upper end.
     pub y1: Frac,
 }
 
-/// The squares of the distances at both ends of a piece.
+/// The squared distances at both ends of a piece.
 #[derive(Clone, Copy, Drop)]
 pub struct Squares {
-    /// That at the lower end.
+    /// The squared distance at the lower end.
     pub first: Frac,
-    /// That at the upper end.
+    /// The squared distance at the upper end.
     pub last: Frac,
 }
 
-// Where a slice is at the two ends of a piece of its span.
+// The points of a slice at the two ends of a piece of its span.
 fn ends_on(
     alloc: Global,
     slice: &Slice<PlaneLine>,
     span: &Span,
     found: &mut Option<Found>,
-) -> Result<PlaneLine, Passed>
+) -> Result<PlaneLine, Formula>
     requires holds { IsSound (λ c. c.from) (λ c. c.to) slice.now × (is_inside slice.now.span span.now ≡ true) }
     ensures ends { IsComputed F1 (at_ends (slice_parts plane_parts_of slice.now) span.now) (record { from = slice_value plane_value_of slice.now span.now.lower; to = slice_value plane_value_of slice.now span.now.upper }) result }
 {
-    let from = match point_at(alloc, slice, span.lower(), found) {
-        Ok(from) => from,
-        Err(passed) => return Err(passed),
-    };
+    let from = point_at(alloc, slice, span.lower(), found)?;
     match point_at(alloc, slice, span.upper(), found) {
         Ok(to) => Ok(PlaneLine { from, to }),
         Err(passed) => Err(passed),
     }
 }
 
-// Where a side is at the two ends of a piece.
+// The points of a side at the two ends of a piece.
 fn ends_of(
     alloc: Global,
     side: &Side<'_, PlaneLine>,
     span: &Span,
     found: &mut Option<Found>,
-) -> Result<PlaneLine, Passed>
+) -> Result<PlaneLine, Formula>
     requires holds { HoldsSide (λ c. c.from) (λ c. c.to) (side_of side.now) span.now }
     ensures ends { IsComputed F1 (at_ends (side_parts plane_parts_of (side_of side.now)) span.now) (ends_of (side_of side.now) span.now) result }
 {
@@ -80,23 +78,19 @@ fn ends_of(
     }
 }
 
-// The leg of the difference of two ways.
+// The leg of the difference of two linear motions.
 fn leg_between(
     left: &PlaneLine,
     right: &PlaneLine,
     apart: &mut Option<Apart>,
-) -> Result<Leg, Passed>
+) -> Result<Leg, Formula>
     ensures leg { IsComputed F2 (leg_parts left.now right.now) (leg_between left.now right.now) result }
 {
     let Ok(lower) = difference(&left.from, &right.from, apart) else {
-        return Err(Passed {
-            formula: Formula::F2,
-        });
+        return Err(Formula::F2);
     };
     let Ok(upper) = difference_kept(&left.to, &right.to, apart) else {
-        return Err(Passed {
-            formula: Formula::F2,
-        });
+        return Err(Formula::F2);
     };
     Ok(Leg {
         x0: lower.0,
@@ -106,16 +100,16 @@ fn leg_between(
     })
 }
 
-/// How the difference of the two points goes on the piece. What is known of its lower end is taken
-/// over, and what is computed at its upper end is kept.
+/// The difference of the two points on the piece. Known results at its lower end are reused, and
+/// those at its upper end are kept.
 ///
-/// `Passed` names the formula of the first entry that does not fit: F1 at the ends of the piece,
+/// The fault names the formula of the first entry that does not fit: F1 at the ends of the piece,
 /// then F2, the differences there.
 pub fn leg_on(
     alloc: Global,
     piece: &Piece<'_, PlaneLine, PlaneLine>,
     last: &mut Last,
-) -> Result<Leg, Passed>
+) -> Result<Leg, Formula>
     requires holds { HoldsPiece (λ c. c.from) (λ c. c.to) (λ c. c.from) (λ c. c.to) (piece_of piece.now) }
     ensures leg { IfOk result (λ g. g ≡ leg_of (piece_of piece.now)) }
     ensures first { IsDecided (entries_of_ends plane_value_of plane_parts_of point_gaps (piece_of piece.now)) result }
@@ -131,20 +125,15 @@ pub fn leg_on(
     leg_between(&left, &right, &mut last.apart)
 }
 
-/// The squares of the distances at both ends. `Passed` names F6, exactly where a part of one does
-/// not fit.
-pub fn squares_at_ends(leg: &Leg, squared: &mut Option<Squared>) -> Result<Squares, Passed>
+/// The squared distances at both ends. The fault is F6, exactly if a part of one does not fit.
+pub fn squares_at_ends(leg: &Leg, squared: &mut Option<Squared>) -> Result<Squares, Formula>
     ensures value { IsComputed F6 (squares_parts leg.now) (squares_of leg.now) result }
 {
     let Ok(first) = square(&leg.x0, &leg.y0, squared) else {
-        return Err(Passed {
-            formula: Formula::F6,
-        });
+        return Err(Formula::F6);
     };
     let Ok(last) = square_kept(&leg.x1, &leg.y1, squared) else {
-        return Err(Passed {
-            formula: Formula::F6,
-        });
+        return Err(Formula::F6);
     };
     Ok(Squares { first, last })
 }

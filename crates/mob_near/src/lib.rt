@@ -1,5 +1,5 @@
-//! How near two moving points come, excluded ends included: whether they are ever within a
-//! distance, and the square of their nearest approach.
+//! The nearest approach of two moving points: whether they are ever within a distance, and the
+//! squared distance of their nearest approach, which includes excluded ends.
 #![tactic(auto)]
 
 mod foot;

@@ -1,3 +1,4 @@
+//! The nearness of two moving points over all their common instants.
 ghost use Rattle.std.specs.Prelude.{◌≡◌, ◌||◌, true, false, cond, Some, None, Ok, Err, IfOk, IsTrue, ◌↔◌};
 ghost use Rattle.std.specs.List.{flat_map};
 ghost use Rattle.mob_ratio.specs.Order.{up_to};
@@ -17,11 +18,11 @@ use crate::piece::{piece_approach, piece_reaches};
 use mob_frac::Frac;
 use mob_lift::either;
 use mob_plane::smaller;
-use mob_slice::{Formula, Operand, Passed, PlaneLine};
+use mob_slice::{Formula, Operand, PlaneLine};
 use mob_sync::Pieces;
 use std::alloc::Global;
 
-// Whether there is a common instant.
+// Whether some instant is common.
 fn share_time(a: Operand<'_, PlaneLine>, b: Operand<'_, PlaneLine>) -> bool
     requires moving { (has_slices (operand_of a) || has_slices (operand_of b)) ≡ true }
     ensures common { IsTrue result ↔ HaveCommon (given_at plane_value_of (operand_of a.entry)) (given_at plane_value_of (operand_of b.entry)) }
@@ -31,7 +32,7 @@ fn share_time(a: Operand<'_, PlaneLine>, b: Operand<'_, PlaneLine>) -> bool
     pieces.next().is_some()
 }
 
-// No, where there is a common instant.
+// `false`, if some instant is common.
 fn never(shared: bool) -> Option<bool>
     ensures value { result ≡ cond shared (Some false) None }
 {
@@ -41,26 +42,24 @@ fn never(shared: bool) -> Option<bool>
     None
 }
 
-// The square of a distance does not fit, where a piece asks for it.
-fn passed_where(shared: bool) -> Result<Option<bool>, Passed>
-    ensures value { result ≡ cond shared (Err (record { formula = F6 })) (Ok None) }
+// The error that the square of the distance does not fit, if some piece computes it.
+fn passed_where(shared: bool) -> Result<Option<bool>, Formula>
+    ensures value { result ≡ cond shared (Err F6) (Ok None) }
 {
     if shared {
-        return Err(Passed {
-            formula: Formula::F6,
-        });
+        return Err(Formula::F6);
     }
     Ok(None)
 }
 
-// Whether the square of the distance is at most `square` at some common instant. Every piece is
-// walked, also behind one that has settled the answer: each has its formulas.
+// Whether the squared distance is at most `square` at some common instant. Every piece is visited,
+// even after one that settles the answer: each has its formulas.
 fn ever_reaches(
     alloc: Global,
     a: Operand<'_, PlaneLine>,
     b: Operand<'_, PlaneLine>,
     square: &Frac,
-) -> Result<Option<bool>, Passed>
+) -> Result<Option<bool>, Formula>
     requires moving { (has_slices (operand_of a) || has_slices (operand_of b)) ≡ true }
     requires square { up_to nil square.now ≡ true }
     ensures value { IfOk result (IsEver (λ x y. up_to (distance_squared x y) square.now) (given_at plane_value_of (operand_of a.entry)) (given_at plane_value_of (operand_of b.entry))) }
@@ -79,20 +78,20 @@ fn ever_reaches(
 }
 
 /// Whether the two points are within the distance `d` of each other at some instant at which both
-/// are somewhere (MobilityDB's `eDwithin`). Only actual instants count: an end that is left out
-/// does not. For a distance below 0 the answer is false. None exactly where there is no such
-/// instant. It takes no memory.
+/// are defined (MobilityDB's `eDwithin`). Only actual instants count: an excluded end does not. For
+/// a distance below 0 the answer is false. `None` exactly if no such instant exists. It does not
+/// allocate.
 ///
-/// `Passed` names the formula of the first entry that has a part that does not fit: on each piece
+/// The fault names the formula of the first entry that has a part that does not fit: on each piece
 /// that the two share F6, `d·d`, then F1, the points at its ends, F2, their difference there by
-/// coordinate, F6, the squares of its length, and F5, the nearest point between, also on pieces
-/// behind one that has settled the answer. A distance below 0 has no formula.
+/// coordinate, F6, the squares of its length, and F5, the nearest point between, even on pieces
+/// after one that settles the answer. A distance below 0 has no formula.
 pub fn ever_within(
     alloc: Global,
     a: Operand<'_, PlaneLine>,
     b: Operand<'_, PlaneLine>,
     d: &Frac,
-) -> Result<Option<bool>, Passed>
+) -> Result<Option<bool>, Formula>
     requires moving { (has_slices (operand_of a) || has_slices (operand_of b)) ≡ true }
     ensures value { IfOk result (IsEver (are_within d.now) (given_at plane_value_of (operand_of a.entry)) (given_at plane_value_of (operand_of b.entry))) }
     ensures first { IsDecided (entries_of_within d.now (pieces (operand_of a.entry) (operand_of b.entry))) result }
@@ -106,7 +105,7 @@ pub fn ever_within(
     }
 }
 
-// The smaller one of what there was so far and what one more piece has.
+// The smaller of the result so far and that of one more piece.
 fn nearest_of(found: Option<Frac>, here: Frac) -> Frac
     ensures value { result ≡ nearest_of found here }
 {
@@ -116,17 +115,17 @@ fn nearest_of(found: Option<Frac>, here: Frac) -> Frac
     }
 }
 
-/// The greatest lower bound of the square of the distance of the two points over all instants at
-/// which both are somewhere: the square of their nearest approach, also where that is only
-/// approached, at an end that is left out. None exactly where there is no such instant. It takes no
-/// memory. (MobilityDB's `nearestApproachDistance` has the distance, which may be irrational.)
+/// The greatest lower bound of the squared distance of the two points over all instants at which
+/// both are defined: the squared distance of their nearest approach, even if it is only approached,
+/// at an excluded end. `None` exactly if no such instant exists. It does not allocate.
+/// (MobilityDB's `nearestApproachDistance` is the distance, which may be irrational.)
 ///
-/// `Passed` is that of `ever_within`, without the square of a distance.
+/// The fault is that of `ever_within`, without the square of a distance.
 pub fn approach_squared(
     alloc: Global,
     a: Operand<'_, PlaneLine>,
     b: Operand<'_, PlaneLine>,
-) -> Result<Option<Frac>, Passed>
+) -> Result<Option<Frac>, Formula>
     requires moving { (has_slices (operand_of a) || has_slices (operand_of b)) ≡ true }
     ensures value { IfOk result (IsApproach (given_at plane_value_of (operand_of a.entry)) (given_at plane_value_of (operand_of b.entry))) }
     ensures first { IsDecided (flat_map entries_of_approach (pieces (operand_of a.entry) (operand_of b.entry))) result }

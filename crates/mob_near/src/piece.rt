@@ -1,4 +1,4 @@
-//! How near two points come on one piece of time.
+//! The nearness of two points on one piece of time.
 ghost use Rattle.std.specs.Prelude.{◌≡◌, ◌&&◌, ◌||◌, IfOk};
 ghost use Rattle.mob_quadratic.specs.Quadratic.{reaches_by, infimum_by};
 ghost use Rattle.mob_slice.specs.Entries.{IsDecided};
@@ -11,12 +11,12 @@ use crate::known::Last;
 use crate::leg::{Squares, leg_on, squares_at_ends};
 use mob_frac::Frac;
 use mob_plane::smaller;
-use mob_slice::{Formula, Passed, Piece, PlaneLine};
+use mob_slice::{Formula, Piece, PlaneLine};
 use mob_span::Span;
 use std::alloc::Global;
 
-// Whether the bound is reached at some instant of a span longer than one, by the squares at its
-// ends and whether the nearest point reaches it.
+// Whether the bound is reached at some instant of a span longer than an instant, from the squares
+// at its ends and from whether the nearest point reaches it.
 fn reaches_by(span: &Span, squares: &Squares, square: &Frac, between: bool) -> bool
     ensures value { result ≡ reaches_by square.now squares.now.first squares.now.last span.now.lower_inc span.now.upper_inc between }
 {
@@ -30,16 +30,16 @@ fn reaches_by(span: &Span, squares: &Squares, square: &Frac, between: bool) -> b
         || between
 }
 
-/// Whether the square of the distance is at most `square` at some instant of the piece.
+/// Whether the squared distance is at most `square` at some instant of the piece.
 ///
-/// `Passed` names the formula of the first entry that does not fit: F1 at the ends of the piece,
+/// The fault names the formula of the first entry that does not fit: F1 at the ends of the piece,
 /// F2, the difference there, F6, the squares there, and F5, the nearest point between.
 pub fn piece_reaches(
     alloc: Global,
     piece: &Piece<'_, PlaneLine, PlaneLine>,
     square: &Frac,
     last: &mut Last,
-) -> Result<bool, Passed>
+) -> Result<bool, Formula>
     requires holds { HoldsPiece (λ c. c.from) (λ c. c.to) (λ c. c.from) (λ c. c.to) (piece_of piece.now) }
     ensures value { IfOk result (λ b. b ≡ piece_reaches square.now (piece_of piece.now)) }
     ensures first { IsDecided (entries_of_reach square.now (piece_of piece.now)) result }
@@ -57,13 +57,11 @@ pub fn piece_reaches(
     }
     match reaches_between(&leg, square) {
         Ok(between) => Ok(reaches_by(&piece.span, &squares, square, between)),
-        Err(_) => Err(Passed {
-            formula: Formula::F5,
-        }),
+        Err(_) => Err(Formula::F5),
     }
 }
 
-// The greatest lower bound of the squares: that of the nearest point, else the smaller one at an
+// The greatest lower bound of the squares: that of the nearest point, or else the smaller one at an
 // end.
 fn infimum_by(squares: &Squares, between: Option<Frac>) -> Frac
     ensures value { result ≡ infimum_by squares.now.first squares.now.last between }
@@ -74,14 +72,14 @@ fn infimum_by(squares: &Squares, between: Option<Frac>) -> Frac
     }
 }
 
-/// The greatest lower bound of the square of the distance on the piece.
+/// The greatest lower bound of the squared distance on the piece.
 ///
-/// `Passed` names the formula of the first entry that does not fit, as that of `piece_reaches`.
+/// The fault is that of `piece_reaches`.
 pub fn piece_approach(
     alloc: Global,
     piece: &Piece<'_, PlaneLine, PlaneLine>,
     last: &mut Last,
-) -> Result<Frac, Passed>
+) -> Result<Frac, Formula>
     requires holds { HoldsPiece (λ c. c.from) (λ c. c.to) (λ c. c.from) (λ c. c.to) (piece_of piece.now) }
     ensures value { IfOk result (λ m. m ≡ piece_approach (piece_of piece.now)) }
     ensures first { IsDecided (entries_of_approach (piece_of piece.now)) result }
@@ -99,8 +97,6 @@ pub fn piece_approach(
     }
     match square_between(&leg) {
         Ok(between) => Ok(infimum_by(&squares, between)),
-        Err(_) => Err(Passed {
-            formula: Formula::F5,
-        }),
+        Err(_) => Err(Formula::F5),
     }
 }

@@ -2,8 +2,8 @@
 use Rattle.std.specs.Prelude.{◌≡◌, ◌∷◌, ℕ, List, [], codes}
 use Rattle.mob_slice.specs.declared.formula.Formula.{Formula}
 use Rattle.mob_outside.specs.EndsSeen.{StreamSeen}
-use Rattle.mob_knn.specs.declared.fault.NearFault.{NearFault}
-use Rattle.mob_knn.specs.declared.fault.NearFault.TheVariants as near
+use Rattle.mob_list.specs.declared.fault.Fault.{Fault}
+use Rattle.mob_list.specs.declared.fault.Fault.TheVariants as fault
 use Rattle.mob_trips.specs.Endings.{IsTripsEnding}
 use Rattle.mob_trips.specs.Program.{ProgramOf}
 use Rattle.mob_trips.specs.Seen.{trips_seen}
@@ -26,9 +26,9 @@ near_program = record {
 }
 
 -- the ending of a fault: that row with its formula, or out of memory
-abbrev pub EndsAt : NearFault → Ending → Type 0
-EndsAt (near.Passed row formula) ending = ending ≡ end.Overflow (row ∷ []) formula
-EndsAt near.NoMemory ending = ending ≡ end.NoMemory
+abbrev pub EndsAt : Fault (ℕ × Formula) → Ending → Type 0
+EndsAt (fault.Because f) ending = ending ≡ end.Overflow (f.0 ∷ []) f.1
+EndsAt fault.NoMemory ending = ending ≡ end.NoMemory
 
 -- so ends a run on these streams, where its arguments say these settings
 abbrev pub NearEnds : NearSettings → StreamSeen → StreamSeen → Ending → Type 0

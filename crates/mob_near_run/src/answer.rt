@@ -1,14 +1,16 @@
 // The text of the answer.
 ghost use Rattle.std.specs.Prelude.{◌≡◌, ◌≤◌, ◌<◌, IfOk, IfErr, length, map};
+ghost use Rattle.mob_list.specs.Faults.{OnCause};
 ghost use Rattle.mob_numeral.specs.NumberText.{number_text};
 ghost use Rattle.mob_slice.specs.Sides.{operand_of};
 ghost use Rattle.mob_records.specs.AnswerText.{answer_text};
-ghost use Rattle.mob_knn.specs.Nearest.{AreNearest, AreOfTrips, IsPassed, OnNearFault};
+ghost use Rattle.mob_knn.specs.Nearest.{AreNearest, AreOfTrips, IsPassed};
 ghost use Rattle.mob_near_run.specs.NearAnswers.{IsRowPassed, NearWrites, target_operand, near_fields, near_names};
 
 use crate::settings::{NearSettings, Target};
 use mob_frac::Frac;
 use mob_knn::{NearFault, index_of, nearest};
+use mob_list::fault::Fault;
 use mob_list::items::Items;
 use mob_list::text::Text;
 use mob_numeral::write_number;
@@ -47,7 +49,7 @@ fn nearest_alone<L: Ledger>(
     requires parts { blank.parts ≡ L.parts }
     requires some { 0 < L.parts }
     ensures nearest { IfOk result (λ rs. AreNearest trips.now (target_operand to.now) k rs) }
-    ensures passed { IfErr result (OnNearFault (λ row formula. IsPassed trips.now (target_operand to.now) k row formula)) }
+    ensures passed { IfErr result (OnCause (λ f. IsPassed trips.now (target_operand to.now) k f.0 f.1)) }
 {
     let mut steps = Steps::<L>::new(blank);
     nearest(alloc, tree, trips, asked(to), k, &mut steps)
@@ -62,11 +64,11 @@ fn found(
 ) -> Result<Items<(u32, Frac)>, NearFault>
     requires few { length trips.now ≤ 1000000 }
     ensures nearest { IfOk result (λ rs. AreNearest trips.now (target_operand to.now) k rs) }
-    ensures passed { IfErr result (OnNearFault (λ row formula. IsPassed trips.now (target_operand to.now) k row formula)) }
+    ensures passed { IfErr result (OnCause (λ f. IsPassed trips.now (target_operand to.now) k f.0 f.1)) }
 {
     match index_of(alloc, trips) {
         Ok(tree) => nearest_alone::<Brand>(alloc, &tree, trips, to, k, Blank::new(1)),
-        Err(_) => Err(NearFault::NoMemory),
+        Err(_) => Err(Fault::NoMemory),
     }
 }
 
@@ -145,18 +147,12 @@ pub fn near_text(
 ) -> Result<Vec<u8>, NearFault>
     requires few { length rows ≤ 1000000 }
     ensures writes { IfOk result (λ t. NearWrites settings.now rows t.items) }
-    ensures passed { IfErr result (OnNearFault (IsRowPassed settings.now rows)) }
+    ensures passed { IfErr result (OnCause (λ f. IsRowPassed settings.now rows f.0 f.1)) }
 {
     let (ids, trips) = match split_rows(alloc, rows) {
         Ok(split) => split,
-        Err(_) => return Err(NearFault::NoMemory),
+        Err(_) => return Err(Fault::NoMemory),
     };
-    let found = match found(alloc, trips.as_slice(), &settings.to, settings.k) {
-        Ok(found) => found,
-        Err(fault) => return Err(fault),
-    };
-    match text_of(alloc, ids.as_slice(), found.as_slice(), &settings.epoch) {
-        Ok(text) => Ok(text),
-        Err(_) => Err(NearFault::NoMemory),
-    }
+    let found = found(alloc, trips.as_slice(), &settings.to, settings.k)?;
+    Ok(text_of(alloc, ids.as_slice(), found.as_slice(), &settings.epoch)?)
 }

@@ -9,6 +9,7 @@ use crate::answer::near_text;
 use crate::reading::settings;
 use crate::settings::NearSettings;
 use mob_knn::NearFault;
+use mob_list::fault::Fault;
 use mob_outside::{Sink, Source};
 use mob_trips::{Ending, put_text, read_trips};
 use mob_tuples::Tuple;
@@ -19,11 +20,11 @@ fn ending_of(fault: NearFault) -> Ending
     ensures ending { EndsAt fault result }
 {
     match fault {
-        NearFault::Passed { row, formula } => Ending::Overflow {
+        Fault::Because((row, formula)) => Ending::Overflow {
             rows: Tuple::new().with(row),
             formula,
         },
-        NearFault::NoMemory => Ending::NoMemory,
+        Fault::NoMemory => Ending::NoMemory,
     }
 }
 

@@ -1,4 +1,4 @@
--- A normal list of steps stays normal as level lines, and keeps its values.
+-- A normal list of steps stays normal as constant lines, and keeps its values.
 use Rattle.std.specs.Prelude.{◌≡◌, ◌≢◌, Bool, false, cond, List, [], ◌∷◌, ◌++◌, map, Some, refl, ℕ, ◌≤◌, length}
 use Rattle.std.proofs.Common.{ap, sym, ◌∙◌, append-nil, drop, true≢false}
 use Rattle.std.proofs.lemmas.List.{drop_all}
@@ -16,7 +16,7 @@ use Rattle.mob_slice.specs.declared.steady.Steady.{Steady}
 use Rattle.mob_slice.proofs.Straight.{goes_not}
 use Rattle.mob_normal.specs.Widened.{level_line}
 
--- two steps go on as one where their values are the same
+-- two steps continue as one if their values are equal
 abbrev pub steps_continue : Steady Ratio → Steady Ratio → Ratio → Ratio → Ratio → Bool
 steps_continue c d lower middle upper = same c.value d.value
 
@@ -29,7 +29,8 @@ line_end c = c.to
 differ : (s r : Slice (Steady Ratio)) → same s.course.value r.course.value ≡ false → s.course.value ≢ r.course.value
 differ s r h = λ e. true≢false (sym ((same_exact s.course.value r.course.value).1 e) ∙ h)
 
--- steps that meet have different values, and level lines with different values do not go on as one
+-- steps that meet have different values, and constant lines with different values do not continue
+-- as one
 level_pair : (s r : Slice (Steady Ratio)) → IsNormalPair steady_limit steady_limit steps_continue s r → IsNormalPair line_start line_end line_continued (level_line s) (level_line r)
 level_pair s r h = record {
   in_order = h.in_order;
@@ -62,7 +63,7 @@ level_values (s ∷ v) t =
 pub level_at : (v : List (Slice (Steady Ratio))) (lines : List (Slice Line)) → lines ≡ map level_line v → (t : Ratio) → value_at line_value_of lines t ≡ value_at steady_value v t
 level_at v lines e t = ap (λ z. value_at line_value_of z t) e ∙ level_values v t
 
--- at the end of the walk all are made
+-- at the end of the walk, all slices are made
 pub all_level : (v w : List (Slice (Steady Ratio))) (o : List (Slice Line)) (i : ℕ) → v ≡ w → length v ≤ i → o ++ map level_line (drop i v) ≡ map level_line v → o ≡ map level_line w
 all_level v w o i e h k =
     let none : drop i v ≡ [] = drop_all i v h in

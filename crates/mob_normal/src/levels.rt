@@ -1,4 +1,4 @@
-//! Step values of numbers as values that change evenly.
+//! Step functions of numbers as linear ones.
 
 ghost use Rattle.std.specs.Prelude.{◌≡◌, IfOk, map};
 ghost use Rattle.mob_ratio.specs.Ratio.{Ratio};
@@ -11,9 +11,9 @@ use mob_frac::Frac;
 use mob_slice::{Line, Moving, Slice, Steady};
 use std::alloc::{AllocError, Global};
 
-/// A temporal number that changes by steps, as one that may change evenly: at every instant it has
-/// the same value, or none. No number is computed, so none can be too large; a failed allocation is
-/// the one error.
+/// A temporal number that changes in steps, as one that may change linearly. At every instant it
+/// has the same value, or none. No number is computed, so nothing overflows: the only error is a
+/// failed allocation.
 pub fn widen(alloc: Global, a: &Moving<Steady<Frac>>) -> Result<Moving<Line>, AllocError>
     ensures same { IfOk result (λ b. (t : Ratio) → value_at line_value_of b t ≡ value_at steady_value a.now t) }
     ensures level { IfOk result (λ b. b ≡ map level_line a.now) }
@@ -26,7 +26,7 @@ pub fn widen(alloc: Global, a: &Moving<Steady<Frac>>) -> Result<Moving<Line>, Al
     Ok(Moving::from_normal(lines))
 }
 
-// The slice that goes from the value of a step to that value.
+// The constant slice at the value of a step.
 fn level_line(slice: &Slice<Steady<Frac>>) -> Slice<Line>
     ensures level { result ≡ level_line slice.now }
 {

@@ -17,7 +17,7 @@ use Rattle.mob_plan.specs.Keys.{PlanKey, overlap_key, within_key, inside_key}
 use Rattle.mob_eval.specs.declared.keys.Probe.TheVariants.{Everything}
 use Rattle.mob_eval.specs.Keys.{KeyAsks}
 use Rattle.mob_meaning.specs.Scene.{Scene}
-use Rattle.mob_meaning.specs.Evaluation.{Fault, TreeEvaluatesTo}
+use Rattle.mob_meaning.specs.Evaluation.{PlacedFormula, TreeEvaluatesTo}
 
 -- as stored values are: a moving point has a box, and the rings of a polygon are closed and of four
 -- points at least
@@ -44,7 +44,7 @@ HasItsTypes s (inside_key e) = Gives s e (IsEitherOf sql.Polygon sql.Polygon)
 
 -- an expression has a fault
 abbrev pub HasFault : Scene → TypedTree → Type 0
-HasFault s e = (f : Fault) × TreeEvaluatesTo s e (Err f)
+HasFault s e = (f : PlacedFormula) × TreeEvaluatesTo s e (Err f)
 
 -- the box of the value, moved outward by the distance, has a side that does not fit
 pub record DoesNotExpand (s : Scene) (e d : TypedTree) : Type 0 where

@@ -2,7 +2,8 @@
 ghost use Rattle.std.specs.Prelude.{◌≡◌, not, cond, true, false, None, Some, Ok, Err, MatchResult, option_map};
 ghost use Rattle.mob_ordinary.specs.Ordinary.{truth_of, known, conjunction, disjunction, is_null, is_true_value};
 
-use mob_slice::{OpFault, Passed};
+use mob_list::fault::Fault;
+use mob_slice::Formula;
 use mob_value::Value;
 
 /// The truth value of a value. None where it is NULL or no truth value.
@@ -26,12 +27,12 @@ pub fn known(truth: Option<bool>) -> Value
 }
 
 /// An answer that may have passed a formula, as a truth value or NULL.
-pub fn answered(answer: Result<Option<bool>, Passed>) -> Result<Value, OpFault>
-    ensures value { MatchResult answer (λ truth. result ≡ Ok (known truth)) (λ e. result ≡ Err (OpFault.Passed e.formula)) }
+pub fn answered(answer: Result<Option<bool>, Formula>) -> Result<Value, Fault<Formula>>
+    ensures value { MatchResult answer (λ truth. result ≡ Ok (known truth)) (λ e. result ≡ Err (Fault.Because e)) }
 {
     match answer {
         Ok(truth) => Ok(known(truth)),
-        Err(Passed { formula }) => Err(OpFault::Passed { formula }),
+        Err(formula) => Err(Fault::Because(formula)),
     }
 }
 

@@ -9,6 +9,7 @@ ghost use Rattle.mob_value.specs.declared.value.Value.{Value as value_of};
 ghost use Rattle.mob_outcome.specs.Faults.{Says};
 
 use crate::fault::EvalFault;
+use mob_list::fault::Fault;
 use mob_slice::Formula;
 use mob_value::Value;
 use mob_value::held::Held;
@@ -111,10 +112,7 @@ fn lent<'a, K: Telling>(told: &'a Told<K>) -> Result<Held<'a>, EvalFault>
 {
     match &told.answer.outcome {
         Ok(value) => Ok(Held::Stored(value)),
-        Err(fault) => Err(EvalFault::Passed {
-            place: fault.0,
-            formula: fault.1,
-        }),
+        Err(fault) => Err(Fault::Because(*fault)),
     }
 }
 
@@ -124,10 +122,7 @@ fn handed<'a>(outcome: Result<Value, (u32, Formula)>) -> Result<Held<'a>, EvalFa
 {
     match outcome {
         Ok(value) => Ok(Held::Made(value)),
-        Err(fault) => Err(EvalFault::Passed {
-            place: fault.0,
-            formula: fault.1,
-        }),
+        Err(fault) => Err(Fault::Because(fault)),
     }
 }
 
@@ -230,8 +225,8 @@ impl<'a, K: Telling> Cell<'a, Told<K>> {
         match outcome {
             Ok(Held::Made(value)) => self.keep_value(alloc, value),
             Ok(Held::Stored(value)) => Ok(Held::Stored(value)),
-            Err(EvalFault::Passed { place, formula }) => self.keep(alloc, Err((place, formula))),
-            Err(EvalFault::NoMemory) => Err(EvalFault::NoMemory),
+            Err(Fault::Because(fault)) => self.keep(alloc, Err(fault)),
+            Err(Fault::NoMemory) => Err(Fault::NoMemory),
         }
     }
 }

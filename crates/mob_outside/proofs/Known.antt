@@ -1,4 +1,4 @@
--- Known bytes that grow and are taken in steps.
+-- Visible bytes that grow and are taken in steps.
 use Rattle.std.proofs.Common.{arith, ◌≡◌, ◌∙◌, refl, sym, ap, ℕ, ◌+◌, ◌-◌, ◌≤◌, List, [], ◌++◌, take, drop, length, Some, None}
 use Rattle.std.specs.Prelude.{Option}
 use Rattle.std.specs.Io.KnownBytes.{Appends, Consumes}
@@ -30,17 +30,17 @@ takes_more (Some xs) (Some ys) (Some zs) x y first next = first ∙ ap (λ (w : 
 pub reads_none : (limit : ℕ) (o : Option (List ℕ)) → ReadsPart limit o o
 reads_none limit o = record { bytes = []; taken = takes_nothing o; bound = omega arith }
 
--- what was read is all that there was, where it is not longer than the limit
+-- the bytes read are all bytes, if they do not exceed the limit
 pub read_whole : (limit : ℕ) (old : List ℕ) (new : Option (List ℕ)) (bytes : List ℕ) → ReadsTo limit (Some old) new bytes → length bytes ≤ limit → old ≡ bytes
 read_whole limit old None bytes reads short = absurd reads.taken
 read_whole limit old (Some left) bytes reads short = reads.taken ∙ ap (λ (w : List ℕ). bytes ++ w) (reads.whole short) ∙ append-nil bytes
 
--- what was there is no shorter than what was read of it
+-- the bytes before are no fewer than those read
 pub read_within : (limit : ℕ) (old : List ℕ) (new : Option (List ℕ)) (bytes : List ℕ) → ReadsTo limit (Some old) new bytes → length bytes ≤ length old
 read_within limit old None bytes reads = absurd reads.taken
 read_within limit old (Some left) bytes reads = let parts : length old ≡ length bytes + length left = ap length reads.taken ∙ length-append bytes left in omega arith
 
--- a take that gave n bytes more
+-- a take that returned n more bytes
 pub reads_more : (limit : ℕ) (old now new : Option (List ℕ)) (text into : List ℕ) (n : ℕ) → Consumes old now text
     → Consumes now new (take n into) → length text + n ≤ limit + 1 → ReadsPart limit old new
 reads_more limit old now new text into n first next room = record {

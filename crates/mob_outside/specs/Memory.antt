@@ -2,8 +2,8 @@
 use Rattle.std.specs.Prelude.{ℕ, List, [], Bool, false}
 use Rattle.mob_outside.specs.Told.{Contents}
 
--- A source in memory: the bytes that are left, the numbers of the calls that fail, the most bytes
--- that a call gives, and how many calls there were and how many of them failed.
+-- A source in memory: the bytes left, the numbers of the calls that fail, the most bytes that a
+-- call returns, the number of calls so far, and how many of them failed.
 pub record SourceState : Type 0 where
   pub left : List ℕ
   pub failing : List ℕ
@@ -15,7 +15,7 @@ pub record SourceState : Type 0 where
 abbrev pub new_source : List ℕ → List ℕ → ℕ → SourceState
 new_source bytes failing step = record { left = bytes; failing = failing; step = step; calls = 0; faults = 0 }
 
--- A sink in memory: the bytes that it took, and the rest as for a source.
+-- A sink in memory: the bytes that it took, and the other fields of a source.
 pub record SinkState : Type 0 where
   pub held : List ℕ
   pub failing : List ℕ
@@ -27,8 +27,8 @@ pub record SinkState : Type 0 where
 abbrev pub new_sink : List ℕ → ℕ → SinkState
 new_sink failing step = record { held = []; failing = failing; step = step; calls = 0; faults = 0 }
 
--- Files in memory: the files, the names that were asked for, what the opened file has left, whether
--- one is open, and the rest as for a source, with opens and takes counted together.
+-- Files in memory: the files, the names requested, the bytes that the open file has left, whether
+-- one is open, and the other fields of a source. Opens and takes are counted together.
 pub record FilesState : Type 0 where
   pub files : Contents
   pub asked : List (List ℕ)

@@ -1,11 +1,11 @@
--- What reading up to a limit takes, and what putting a text leaves. Where a stream tells nothing,
--- nothing is claimed of it.
+-- The bytes that reading up to a limit takes, and those that putting a text appends. Nothing is
+-- claimed of an opaque stream.
 use Rattle.std.specs.Prelude.{◌⊎◌, ◌<◌, ◌≤◌, ◌+◌, ℕ, List, length, take, Option}
 use Rattle.std.specs.Io.KnownBytes.{Appends, Consumes, IsAtEnd}
 use Rattle.mob_outside.specs.Faults.{Rose}
 
--- these bytes were taken from the front: at most one past the limit, and no further than the limit
--- only at the end
+-- these bytes were taken from the front: at most one past the limit, and the whole rest if they do
+-- not exceed the limit
 pub record ReadsTo (limit : ℕ) (old new : Option (List ℕ)) (bytes : List ℕ) : Type 0 where
   pub taken : Consumes old new bytes
   pub bound : length bytes ≤ limit + 1
@@ -21,7 +21,7 @@ pub record ReadsPart (limit : ℕ) (old new : Option (List ℕ)) : Type 0 where
 abbrev pub PutsPart : List ℕ → Option (List ℕ) → Option (List ℕ) → Type 0
 PutsPart text old new = (n : ℕ) × (n < length text) × Appends old new (take n text)
 
--- the text was put, or a proper prefix of it where the count of faults rose
+-- the text was put, or a proper prefix of it if the count of faults rose
 pub record Puts (text : List ℕ) (old new : Option (List ℕ)) (before now : ℕ) : Type 0 where
   pub later : before ≤ now
   pub put : Appends old new text ⊎ (Rose before now × PutsPart text old new)

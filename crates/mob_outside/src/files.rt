@@ -1,4 +1,4 @@
-// Files by their names.
+//! Files by name.
 ghost use Rattle.std.specs.Prelude.{◌≡◌, ◌↔◌, ◌⊎◌, ◌<◌, ◌≤◌, ◌∷◌, ◌++◌, ◌&&◌, List, ℕ, Bool, true, false, Option, [], Some, None, Contains, IsErr, IfOk, OnOk, OnErr, IfSome, IfNone, map, drop, length, is_some, string_bytes, option_map};
 ghost use Rattle.std.specs.Result.{is_ok};
 ghost use Rattle.std.specs.Io.{ReadsAtMost};
@@ -15,24 +15,24 @@ use std::io::Read;
 use std::marker::Model;
 use std::rt::Files as Disk;
 
-/// Files by their names. At first none is open.
+/// Files by name. At first none is open.
 pub trait Files {
-    /// The files, where they are told. No call changes them.
+    /// The files, if visible. No call changes them.
     ghost files: { Self → Option Contents };
 
-    /// The names that were asked for, in order, where that is told.
+    /// The names requested, in order, if visible.
     ghost asked: { Self → Option (List (List ℕ)) };
 
-    /// The bytes that the opened file has left, where that is told.
+    /// The bytes that the open file has left, if visible.
     ghost left: { Self → Option (List ℕ) };
 
     /// A file is open, and no call has failed since.
     ghost is_ready: { Self → Bool };
 
-    /// How many calls have failed. It never falls.
+    /// The number of failed calls. It never falls.
     ghost faults: { Self → ℕ };
 
-    /// Opens a file at its start. A name that is not there is a fault. After a fault nothing can be
+    /// Opens a file at its start. A name without a file is a fault. After a fault nothing can be
     /// taken until a file is opened.
     fn open(&mut self, name: &str) -> Result<(), Failed>
         ensures files { KeepsFiles (files self.old) (files self.new) }
@@ -42,8 +42,8 @@ pub trait Files {
         ensures ready { is_ready self.new ≡ is_ok result }
         ensures cause { HasCause (faults self.old) (faults self.new) result };
 
-    /// Moves the first bytes that the opened file has left to the front of `into`, and answers how
-    /// many. That is 0 only at the end. After a fault nothing can be taken until a file is opened.
+    /// Moves the next bytes of the open file to the front of `into`, and returns their number. It
+    /// is 0 only at the end. After a fault nothing can be taken until a file is opened.
     fn take(&mut self, into: &mut [u8]) -> Result<usize, Failed>
         requires ready { is_ready self.old ≡ true }
         requires room { 0 < length into.old }
@@ -55,8 +55,7 @@ pub trait Files {
         ensures cause { HasCause (faults self.old) (faults self.new) result };
 }
 
-/// Files in memory whose calls fail and are cut short as their maker says. Contracts see them as a
-/// `FilesState`.
+/// Files in memory, with failing and short calls as set up. Contracts see them as a `FilesState`.
 #[derive(Drop)]
 pub struct MemFiles {
     alloc: Global,
@@ -89,9 +88,9 @@ impl Model for MemFiles {
 }
 
 impl MemFiles {
-    /// These files, none of them open; of two with one name the first counts. The calls whose
-    /// numbers stand in `failing`, opens and takes counted together from 1, fail; each other take
-    /// gives at most `step` bytes.
+    /// These files, none of them open; of two with the same name the first counts. The calls whose
+    /// numbers are in `failing` fail, opens and takes counted together from 1. Every other take
+    /// returns at most `step` bytes.
     pub fn new(
         alloc: Global,
         files: Vec<(String, Vec<u8>)>,
@@ -115,15 +114,15 @@ impl MemFiles {
         }
     }
 
-    /// The names that were asked for, in order. A failed open may have noted its name or not.
+    /// The names requested, in order. A failed open may or may not have added its name.
     pub fn asked(&self) -> &[String]
         ensures names { map string_bytes result.now ≡ self.now.asked }
     {
         &self.asked
     }
 
-    // Notes the name and copies the file. None where the call is to fail, where there is no such
-    // file, and for a failed allocation.
+    // Adds the name to those requested and copies the file. `None` if the call is set up to fail,
+    // if no such file exists, and for a failed allocation.
     fn look(&mut self, name: &str) -> Option<Vec<u8>>
         ensures asked { IfSome result (λ _. self.new.asked ≡ self.old.asked ++ name.now ∷ []) }
         ensures other { IfNone result ((self.new.asked ≡ self.old.asked)
@@ -156,8 +155,8 @@ impl Files for MemFiles {
 
     ghost faults = { λ s. s.faults };
 
-    /// As all files; fails at the calls that their maker named, where no file has this name, and
-    /// where there is no memory to note the name or to copy the file.
+    /// As for all files; fails at the calls set up to fail, if no file has this name, and for a
+    /// failed allocation.
     fn open(&mut self, name: &str) -> Result<(), Failed>
         ensures files { KeepsFiles (Some self.old.files) (Some self.new.files) }
         ensures asked { OnOk result (AsksFor name.now (Some self.old.asked) (Some self.new.asked)) }
@@ -185,7 +184,7 @@ impl Files for MemFiles {
         }
     }
 
-    /// As all files; fails exactly at the calls that their maker named.
+    /// As for all files; fails exactly at the calls set up to fail.
     #[tactic(auto, using(crate::proofs::Rest::drop_rest))]
     fn take(&mut self, into: &mut [u8]) -> Result<usize, Failed>
         requires ready { self.old.is_ready ≡ true }
@@ -226,8 +225,9 @@ fn find<'a>(files: &'a [(String, Vec<u8>)], name: &str) -> Option<&'a [u8]>
     None
 }
 
-/// The files of the current folder. They tell neither which files there are nor the names asked;
-/// what the opened file has left they tell where that file does. Contracts see them as a `Folder`.
+/// The files of the current folder. Their names and contents are opaque, and so are the names
+/// requested. The bytes that the open file has left are visible if that file shows them. Contracts
+/// see them as a `Folder`.
 #[derive(Drop)]
 pub struct DirFiles<D: Disk + Drop> {
     disk: D,
@@ -243,7 +243,7 @@ impl<D: Disk + Drop> Model for DirFiles<D> {
 }
 
 impl<D: Disk + Drop> DirFiles<D> {
-    /// The files of the folder that this runtime runs in, none of them open yet.
+    /// The files of the folder of this runtime, none of them open yet.
     pub fn new(disk: D) -> DirFiles<D>
         ensures starts { result ≡ record { told = None; is_ready = false; faults = 0 } }
     {
@@ -255,7 +255,7 @@ impl<D: Disk + Drop> DirFiles<D> {
         }
     }
 
-    // Holds the file that was opened now, or none, in place of the one before it.
+    // Replaces the open file by `opened`, or by none.
     fn hold(&mut self, opened: Option<D::File>) -> Result<(), Failed>
         ensures told { self.new.told ≡ left_of D.File.remaining opened }
         ensures opened { is_ok result ≡ is_some opened }
@@ -284,7 +284,7 @@ impl<D: Disk + Drop> Files for DirFiles<D> {
 
     ghost faults = { λ s. s.faults };
 
-    /// As all files; counts the calls that failed and no other.
+    /// As for all files; counts exactly the calls that failed.
     fn open(&mut self, name: &str) -> Result<(), Failed>
         ensures ready { self.new.is_ready ≡ is_ok result }
         ensures cause { HasCause self.old.faults self.new.faults result }
@@ -294,7 +294,7 @@ impl<D: Disk + Drop> Files for DirFiles<D> {
         self.hold(opened)
     }
 
-    /// As all files; counts the calls that failed and no other.
+    /// As for all files; counts exactly the calls that failed.
     fn take(&mut self, into: &mut [u8]) -> Result<usize, Failed>
         requires ready { self.old.is_ready ≡ true }
         requires room { 0 < length into.old }

@@ -1,9 +1,8 @@
-// What each worker passes as it starts.
+//! The gate that each worker passes as it starts.
 
-/// A gate that each worker passes as it starts. It answers nothing, so no result can depend
-/// on it.
+/// A gate that each worker passes as it starts. It returns nothing, so no result can depend on it.
 pub trait Gate: Sync {
-    /// Worker number `worker`, counted from 0, starts now.
+    /// Worker number `worker`, counted from 0, starts.
     fn enter(&self, worker: usize);
 }
 

@@ -1,10 +1,9 @@
-//! The outside of a run: where its script comes from, the files that it reads, where its answers
-//! and its notes go, and the gate that each of its workers passes. Whole texts are read and put
+//! The outside of a run: the source of its script, the files that it reads, the sinks of its
+//! answers and notes, and the gate that each of its workers passes. Whole texts are read and put
 //! through the calls of these ends.
 //!
-//! Each end counts its faults, and a call fails only where the count rose. What an end holds or has
-//! left is told by the ends in memory; those over the process's streams and its folder need not
-//! tell it.
+//! Each end counts its faults, and a call fails only if the count rose. Ends in memory show their
+//! contents to the proof; those over the streams and the folder of the process may be opaque.
 #![tactic(auto)]
 
 mod fault;

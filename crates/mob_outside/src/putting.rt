@@ -1,4 +1,4 @@
-// Whole texts through the calls of a sink.
+//! Writes whole texts through the calls of a sink.
 ghost use Rattle.std.specs.Prelude.{OnOk, OnErr, map};
 ghost use Rattle.std.specs.List.{concat};
 ghost use Rattle.std.specs.Io.KnownBytes.{Appends};
@@ -7,7 +7,7 @@ ghost use Rattle.mob_outside.specs.Streams.{Puts, PutsPart};
 
 use crate::{Failed, Sink};
 
-/// Puts a whole text. After a failure a proper prefix of it was put.
+/// Puts a whole text. After a failure, a proper prefix of it was put.
 pub fn put_all<K: Sink>(sink: &mut K, text: &[u8]) -> Result<(), Failed>
     ensures whole { OnOk result (Appends (K.held sink.old) (K.held sink.new) text.now) }
     ensures part { OnErr result (PutsPart text.now (K.held sink.old) (K.held sink.new)) }
@@ -21,7 +21,7 @@ pub fn put_all<K: Sink>(sink: &mut K, text: &[u8]) -> Result<(), Failed>
     Ok(())
 }
 
-/// Puts texts one after another. After a failure a proper prefix of them all was put.
+/// Puts texts one after another. After a failure, a proper prefix of their concatenation was put.
 pub fn put_pieces<K: Sink>(sink: &mut K, pieces: &[&[u8]]) -> Result<(), Failed>
     ensures whole { OnOk result (Appends (K.held sink.old) (K.held sink.new) (concat (map (λ p. p.now) pieces.now))) }
     ensures part { OnErr result (PutsPart (concat (map (λ p. p.now) pieces.now)) (K.held sink.old) (K.held sink.new)) }

@@ -1,4 +1,4 @@
-// Texts read through the calls of a source, or of the file that files opened.
+//! Reads whole texts through the calls of a source, or of an open file.
 ghost use Rattle.std.specs.Prelude.{◌≡◌, ◌<◌, ◌≤◌, ◌^◌, Bool, IfOk, IsErrOf, List, None, OnOk, Option, length, true, ℕ};
 ghost use Rattle.std.specs.Io.{ReadsAtMost};
 ghost use Rattle.std.specs.Io.KnownBytes.{ReadConsumes};
@@ -11,40 +11,40 @@ use crate::{Failed, Files, Source};
 use std::alloc::Global;
 use std::marker::PhantomData;
 
-/// Why a text was not read.
+/// The reason why a text was not read.
 #[derive(Clone, Copy, Debug, PartialEq, Eq)]
 pub enum ReadEnd {
     /// A call of the source failed.
     Fault,
-    /// There was no memory.
+    /// An allocation failed.
     NoMemory,
 }
 
-// The most bytes that one call is asked for.
+// The most bytes requested in one call.
 const CHUNK: usize = 4096;
 
-// A way to take bytes, call by call, up to the first call that fails.
+// A way to take bytes, call by call, until a call fails.
 pub trait Taking {
-    // What they are taken of.
+    // The place that they come from.
     type From;
 
-    // The bytes that are left, where that is told.
+    // The bytes left, if visible.
     ghost left: { Self.From → Option (List ℕ) };
 
-    // The files, where there are any and they are told.
+    // The files, if any and visible.
     ghost files: { Self.From → Option Contents };
 
-    // The names that were asked for, where there are any and that is told.
+    // The names requested, if any and visible.
     ghost asked: { Self.From → Option (List (List ℕ)) };
 
     // Bytes can be taken.
     ghost is_ready: { Self.From → Bool };
 
-    // How many calls have failed.
+    // The number of failed calls.
     ghost faults: { Self.From → ℕ };
 
-    // Moves the first bytes that are left to the front of `into`, and answers how many. That is 0
-    // only at the end.
+    // Moves the next bytes to the front of `into`, and returns their number. It is 0 only at the
+    // end.
     fn take_from(from: &mut Self::From, into: &mut [u8]) -> Result<usize, Failed>
         requires ready { is_ready from.old ≡ true }
         requires room { 0 < length into.old }
@@ -56,7 +56,7 @@ pub trait Taking {
         ensures cause { HasCause (faults from.old) (faults from.new) result };
 }
 
-// Takes bytes of a source.
+// Takes bytes from a source.
 pub struct OfSource<S> {
     _source: PhantomData<S>,
 }
@@ -79,7 +79,7 @@ impl<S: Source> Taking for OfSource<S> {
     }
 }
 
-// Takes bytes of the file that files opened.
+// Takes bytes from the open file.
 pub struct OfOpened<F> {
     _files: PhantomData<F>,
 }
@@ -102,7 +102,7 @@ impl<F: Files> Taking for OfOpened<F> {
     }
 }
 
-// Reads to the end, or to one byte past the limit, where it stops.
+// Reads to the end, or stops one byte past the limit.
 fn read_through<T: Taking>(
     alloc: Global,
     from: &mut T::From,
@@ -135,8 +135,8 @@ fn read_through<T: Taking>(
     Ok(bytes)
 }
 
-/// Reads to the end, or to one byte past the limit, where it stops. `Fault` comes only where the
-/// source failed. However it ends, no more than one byte past the limit is taken.
+/// Reads to the end, or stops one byte past the limit. `Fault` comes only if the source failed.
+/// However it ends, at most one byte past the limit is taken.
 pub fn read_to<S: Source>(alloc: Global, source: &mut S, limit: usize) -> Result<Vec<u8>, ReadEnd>
     requires small { limit < 2 ^ 32 }
     ensures bytes { IfOk result (λ v. ReadsTo limit (S.left source.old) (S.left source.new) v.items) }
@@ -147,8 +147,8 @@ pub fn read_to<S: Source>(alloc: Global, source: &mut S, limit: usize) -> Result
     read_through::<OfSource<S>>(alloc, source, limit)
 }
 
-/// Reads on in the opened file, to its end or to one byte past the limit. `Fault` comes only where
-/// the files failed. However it ends, no more than one byte past the limit is taken.
+/// Reads the open file to its end, or stops one byte past the limit. `Fault` comes only if the
+/// files failed. However it ends, at most one byte past the limit is taken.
 pub fn read_opened<F: Files>(alloc: Global, files: &mut F, limit: usize) -> Result<Vec<u8>, ReadEnd>
     requires small { limit < 2 ^ 32 }
     requires ready { F.is_ready files.old ≡ true }

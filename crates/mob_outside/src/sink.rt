@@ -1,4 +1,4 @@
-// Where bytes go.
+//! The sinks that bytes are written to.
 ghost use Rattle.std.specs.Prelude.{◌≡◌, ◌<◌, ◌≤◌, ◌++◌, List, ℕ, Option, Some, Contains, IsErr, IfOk, OnErr, take, length};
 ghost use Rattle.std.specs.Io.KnownBytes.{WriteAppends};
 ghost use Rattle.mob_outside.specs.Faults.{CountsFaults, HasCause, next_count};
@@ -10,16 +10,15 @@ use std::alloc::Global;
 use std::io::Write;
 use std::marker::Model;
 
-/// Where bytes go.
+/// A sink of bytes.
 pub trait Sink {
-    /// The bytes that it took, where that is told.
+    /// The bytes that it took, if visible.
     ghost held: { Self → Option (List ℕ) };
 
-    /// How many calls have failed. It never falls.
+    /// The number of failed calls. It never falls.
     ghost faults: { Self → ℕ };
 
-    /// Puts some of the bytes, from the front of `from`, and answers how many. Taking none is a
-    /// fault.
+    /// Puts some bytes from the front of `from`, and returns their number. Putting none is a fault.
     fn put(&mut self, from: &[u8]) -> Result<usize, Failed>
         requires some { 0 < length from.now }
         ensures moves { IfOk result (λ n. 0 < n) }
@@ -28,8 +27,7 @@ pub trait Sink {
         ensures cause { HasCause (faults self.old) (faults self.new) result };
 }
 
-/// A sink in memory whose calls fail and are cut short as its maker says. Contracts see it as a
-/// `SinkState`.
+/// A sink in memory, with failing and short calls as set up. Contracts see it as a `SinkState`.
 #[derive(Drop)]
 pub struct MemSink {
     bytes: Vec<u8>,
@@ -54,7 +52,7 @@ impl Model for MemSink {
 }
 
 impl MemSink {
-    /// An empty sink. The calls whose numbers stand in `failing`, counted from 1, fail; each other
+    /// An empty sink. The calls whose numbers are in `failing`, counted from 1, fail. Every other
     /// call takes at most `step` bytes.
     pub fn new(alloc: Global, failing: Vec<u64>, step: usize) -> MemSink
         requires moves { 0 < step }
@@ -82,7 +80,7 @@ impl Sink for MemSink {
 
     ghost faults = { λ s. s.faults };
 
-    /// As every sink; fails at the calls that its maker named, and where there is no memory.
+    /// As for every sink; fails at the calls set up to fail, and for a failed allocation.
     fn put(&mut self, from: &[u8]) -> Result<usize, Failed>
         requires some { 0 < length from.now }
         ensures moves { IfOk result (λ n. 0 < n) }
@@ -107,8 +105,8 @@ impl Sink for MemSink {
     }
 }
 
-/// A writer, as standard output. It tells what it took where the writer does. Contracts see it as a
-/// `Stream`.
+/// A writer, such as standard output. The bytes that it took are visible if the writer shows them.
+/// Contracts see it as a `Stream`.
 #[derive(Drop)]
 pub struct StdSink<W: Write + Drop> {
     writer: W,
@@ -135,7 +133,7 @@ impl<W: Write + Drop> Sink for StdSink<W> {
 
     ghost faults = { λ s. s.faults };
 
-    /// As every sink; counts the calls that failed and no other.
+    /// As for every sink; counts exactly the calls that failed.
     fn put(&mut self, from: &[u8]) -> Result<usize, Failed>
         requires some { 0 < length from.now }
         ensures moves { IfOk result (λ n. 0 < n) }

@@ -1,4 +1,4 @@
-// Where bytes come from.
+//! The sources that bytes are read from.
 ghost use Rattle.std.specs.Prelude.{◌≡◌, ◌↔◌, ◌<◌, ◌≤◌, ◌++◌, List, ℕ, Option, Some, [], Contains, IsErr, IfOk, OnErr, take, drop, length};
 ghost use Rattle.std.specs.Io.{ReadsAtMost};
 ghost use Rattle.std.specs.Io.KnownBytes.{ReadConsumes};
@@ -10,16 +10,16 @@ use crate::Failed;
 use std::io::Read;
 use std::marker::Model;
 
-/// Where bytes come from.
+/// A source of bytes.
 pub trait Source {
-    /// The bytes that are left, where that is told.
+    /// The bytes left, if visible.
     ghost left: { Self → Option (List ℕ) };
 
-    /// How many calls have failed. It never falls.
+    /// The number of failed calls. It never falls.
     ghost faults: { Self → ℕ };
 
-    /// Moves the first bytes that are left to the front of `into`, and answers how many. That is 0
-    /// only at the end.
+    /// Moves the next bytes to the front of `into`, and returns their number. It is 0 only at the
+    /// end. It fails only if the count of faults rose.
     fn take(&mut self, into: &mut [u8]) -> Result<usize, Failed>
         requires room { 0 < length into.old }
         ensures bound { ReadsAtMost result into.new }
@@ -27,8 +27,8 @@ pub trait Source {
         ensures cause { HasCause (faults self.old) (faults self.new) result };
 }
 
-// Copies at most `most` bytes from the front of `rest` to the front of `into`, and answers how
-// many.
+// Copies at most `most` bytes from the front of `rest` to the front of `into`, and returns their
+// number.
 pub(crate) fn give(rest: &[u8], most: usize, into: &mut [u8]) -> usize
     requires some { 0 < most }
     requires room { 0 < length into.old }
@@ -43,8 +43,7 @@ pub(crate) fn give(rest: &[u8], most: usize, into: &mut [u8]) -> usize
     count
 }
 
-/// Bytes in memory whose calls fail and are cut short as its maker says. Contracts see it as a
-/// `SourceState`.
+/// Bytes in memory, with failing and short calls as set up. Contracts see it as a `SourceState`.
 #[derive(Drop)]
 pub struct MemSource {
     bytes: Vec<u8>,
@@ -70,8 +69,8 @@ impl Model for MemSource {
 }
 
 impl MemSource {
-    /// A source of these bytes. The calls whose numbers stand in `failing`, counted from 1, fail;
-    /// each other call gives at most `step` bytes.
+    /// A source of these bytes. The calls whose numbers are in `failing`, counted from 1, fail.
+    /// Every other call returns at most `step` bytes.
     pub fn new(bytes: Vec<u8>, failing: Vec<u64>, step: usize) -> MemSource
         requires moves { 0 < step }
         ensures starts { result ≡ new_source bytes.items failing.items step }
@@ -92,7 +91,7 @@ impl Source for MemSource {
 
     ghost faults = { λ s. s.faults };
 
-    /// As every source; fails exactly at the calls that its maker named.
+    /// As for every source; fails exactly at the calls set up to fail.
     #[tactic(auto, using(crate::proofs::Rest::drop_rest))]
     fn take(&mut self, into: &mut [u8]) -> Result<usize, Failed>
         requires room { 0 < length into.old }
@@ -116,7 +115,7 @@ impl Source for MemSource {
     }
 }
 
-/// Bytes in memory that never fail. Contracts see it as the bytes that are left.
+/// Bytes in memory whose calls never fail. Contracts see it as the bytes left.
 #[derive(Drop)]
 pub struct SteadySource {
     bytes: Vec<u8>,
@@ -153,8 +152,8 @@ impl Source for SteadySource {
     }
 }
 
-/// The bytes of a reader, as standard input. It tells what is left where the reader does. Contracts
-/// see it as a `Stream`.
+/// The bytes of a reader, such as standard input. The bytes left are visible if the reader shows
+/// them. Contracts see it as a `Stream`.
 #[derive(Drop)]
 pub struct StdSource<R: Read + Drop> {
     reader: R,
@@ -181,7 +180,7 @@ impl<R: Read + Drop> Source for StdSource<R> {
 
     ghost faults = { λ s. s.faults };
 
-    /// As every source; counts the calls that failed and no other.
+    /// As for every source; counts exactly the calls that failed.
     fn take(&mut self, into: &mut [u8]) -> Result<usize, Failed>
         requires room { 0 < length into.old }
         ensures bound { ReadsAtMost result into.new }

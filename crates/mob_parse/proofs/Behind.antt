@@ -8,8 +8,9 @@ use Rattle.mob_grammar.specs.Scripts.{tables_of}
 use Rattle.mob_grammar.specs.Reading.{Answer, TokenReader, ◌>>=◌, listed, listed_from, source_at, sources_at}
 use Rattle.mob_grammar.proofs.Tells.{through}
 use Rattle.mob_grammar.proofs.Steps.{listed_stops}
-use Rattle.mob_parse.specs.declared.cursor.Fault.{Fault}
-use Rattle.mob_parse.specs.declared.cursor.Fault.TheVariants.{Syntax, NoMemory}
+use Rattle.mob_list.specs.declared.fault.Fault.{Fault}
+use Rattle.mob_parse.specs.declared.cursor.Syntax.{Syntax}
+use Rattle.mob_list.specs.declared.fault.Fault.TheVariants.{Because, NoMemory}
 use Rattle.mob_parse.specs.Cursors.{StopsReading}
 use Rattle.mob_parse.specs.Orderings.{put_behind}
 use Rattle.mob_parse.proofs.Steps.{ReadSoFar, stops_through}
@@ -22,7 +23,7 @@ pub behind_ok : {A : Type 0} (xs : List A) (s : TokenReader (List A)) (l r : Lis
 unfolding put_behind
 behind_ok xs s l r ys zs h e = through (s l) ys r _ h ∙ ap (λ v. Ok (v, r)) (sym e)
 
-pub behind_stops : {A : Type 0} (xs : List A) (s : TokenReader (List A)) (l r : List PlacedSymbol) (e : Fault) → StopsReading e r (s l) → StopsReading e r (put_behind xs s l)
+pub behind_stops : {A : Type 0} (xs : List A) (s : TokenReader (List A)) (l r : List PlacedSymbol) (e : Fault Syntax) → StopsReading e r (s l) → StopsReading e r (put_behind xs s l)
 unfolding put_behind
 behind_stops xs s l r e h = stops_through e r (s l) (λ ys. Ok (xs ++ ys.0, ys.1)) (put_behind xs s l) refl h
 
@@ -62,17 +63,17 @@ stopped_by : {A : Type 0} (xs : List A) (s : TokenReader (List A)) (l r : List P
 stopped_by xs s l r (Ok z) e h = absurd (cc h)
 stopped_by xs s l r (Err q) e h = e ∙ h
 
-pub behind_stopped : {A : Type 0} (xs : List A) (s : TokenReader (List A)) (l r : List PlacedSymbol) (e : Fault) → StopsReading e r (put_behind xs s l) → StopsReading e r (s l)
+pub behind_stopped : {A : Type 0} (xs : List A) (s : TokenReader (List A)) (l r : List PlacedSymbol) (e : Fault Syntax) → StopsReading e r (put_behind xs s l) → StopsReading e r (s l)
 unfolding put_behind
-behind_stopped xs s l r Syntax h = stopped_by xs s l r (s l) refl h
+behind_stopped xs s l r (Because wrong) h = stopped_by xs s l r (s l) refl h
 behind_stopped xs s l r NoMemory h = tt
 
 -- where the first item is refused
-pub first_refused : {A : Type 0} (m : Mark) (inner : TokenReader A) (l r : List PlacedSymbol) (e : Fault) → StopsReading e r (inner l) → StopsReading e r (listed m inner l)
+pub first_refused : {A : Type 0} (m : Mark) (inner : TokenReader A) (l r : List PlacedSymbol) (e : Fault Syntax) → StopsReading e r (inner l) → StopsReading e r (listed m inner l)
 unfolding listed
 first_refused m inner l r e h = stops_through e r (inner l) (λ x. listed_from m inner (length l) (x.0 ∷ []) x.1) (listed m inner l) refl h
 
-pub sources_stop : (l r : List PlacedSymbol) (e : Fault) → StopsReading e r (listed Comma source_at l) → StopsReading e r (sources_at l)
+pub sources_stop : (l r : List PlacedSymbol) (e : Fault Syntax) → StopsReading e r (listed Comma source_at l) → StopsReading e r (sources_at l)
 unfolding sources_at
 sources_stop l r e h = stops_through e r (listed Comma source_at l) (λ ss. Ok (tables_of ss.0, ss.1)) (sources_at l) refl h
 

@@ -5,8 +5,9 @@ ghost use Rattle.mob_parse.specs.Cursors.{left, FollowsReading};
 ghost use Rattle.mob_parse.specs.Orderings.{put_behind};
 ghost use Rattle.mob_parse.specs.Shrinks.{Shrinks};
 
-use crate::cursor::{Cursor, Fault};
+use crate::cursor::{Cursor, Syntax};
 use mob_grammar::mark::Mark;
+use mob_list::fault::Fault;
 use mob_list::items::Items;
 
 /// What stands in a list.
@@ -23,7 +24,7 @@ pub trait Entry {
     ghost reader: { TokenReader Parts };
 
     /// One, at the front of what is left to read.
-    fn read(cursor: &mut Cursor<'_>) -> Result<Self::Made, Fault>
+    fn read(cursor: &mut Cursor<'_>) -> Result<Self::Made, Fault<Syntax>>
         ensures reads { FollowsReading parts_of result (left cursor.new) (reader (left cursor.old)) };
 
     /// What is left behind one is no longer than what it was read from.
@@ -33,7 +34,7 @@ pub trait Entry {
 impl<'a> Cursor<'a> {
     /// One or more, with that mark between.
     #[tactic(auto, using(crate::proofs::Behind::behind_nothing))]
-    pub fn list<T: Entry>(&mut self, mark: Mark) -> Result<Items<T::Made>, Fault>
+    pub fn list<T: Entry>(&mut self, mark: Mark) -> Result<Items<T::Made>, Fault<Syntax>>
         ensures reads { FollowsReading (map T.parts_of) result (left self.new) (listed mark T.reader (left self.old)) }
     {
         self.list_onto::<T>(mark, Items::new(self.alloc))
@@ -45,7 +46,7 @@ impl<'a> Cursor<'a> {
         &mut self,
         mark: Mark,
         before: Items<T::Made>,
-    ) -> Result<Items<T::Made>, Fault>
+    ) -> Result<Items<T::Made>, Fault<Syntax>>
         ensures reads { FollowsReading (map T.parts_of) result (left self.new) (put_behind (map T.parts_of before) (listed mark T.reader) (left self.old)) }
     {
         let mut found = before;

@@ -7,11 +7,12 @@ ghost use Rattle.mob_parse.specs.Cursors.{left, FollowsReading};
 ghost use Rattle.mob_parse.specs.Orderings.{by_at, ordering_at, put_behind};
 ghost use Rattle.mob_parse.specs.Shrinks.{from_entry_shrinks, joined_entry_shrinks, group_column_shrinks, item_shrinks, key_shrinks, statement_shrinks};
 
-use crate::cursor::{Cursor, Fault};
+use crate::cursor::{Cursor, Syntax};
 use crate::list::Entry;
 use mob_ast::{Expr, FromTable, Item, Key, SelectTree, Statement, Word};
 use mob_grammar::mark::Mark;
 use mob_lexemes::lexeme::begins_count;
+use mob_list::fault::Fault;
 use mob_list::items::Items;
 
 impl<'a> Cursor<'a> {
@@ -26,7 +27,7 @@ impl<'a> Cursor<'a> {
     }
 
     #[tactic(auto, unfolding(mob_grammar::specs::Reading::some_name_at))]
-    fn some_name(&mut self) -> Result<Option<Word>, Fault>
+    fn some_name(&mut self) -> Result<Option<Word>, Fault<Syntax>>
         ensures reads { FollowsReading (λ w. w) result (left self.new) (some_name_at (left self.old)) }
     {
         Ok(Some(self.name()?))
@@ -34,7 +35,7 @@ impl<'a> Cursor<'a> {
 
     // The second name of a table of FROM, with AS or without.
     #[tactic(auto, unfolding(mob_grammar::specs::Reading::second_name_at, mob_grammar::specs::Reading::name_or_none_at, mob_grammar::specs::Reading::if_mark))]
-    fn second_name(&mut self) -> Result<Option<Word>, Fault>
+    fn second_name(&mut self) -> Result<Option<Word>, Fault<Syntax>>
         ensures reads { FollowsReading (λ w. w) result (left self.new) (second_name_at (left self.old)) }
     {
         if self.skip(Mark::As) {
@@ -48,7 +49,7 @@ impl<'a> Cursor<'a> {
 
     // The name behind AS, if AS is there.
     #[tactic(auto, unfolding(mob_grammar::specs::Reading::alias_at, mob_grammar::specs::Reading::if_mark))]
-    fn alias(&mut self) -> Result<Option<Word>, Fault>
+    fn alias(&mut self) -> Result<Option<Word>, Fault<Syntax>>
         ensures reads { FollowsReading (λ w. w) result (left self.new) (alias_at (left self.old)) }
     {
         if self.skip(Mark::As) {
@@ -59,7 +60,7 @@ impl<'a> Cursor<'a> {
     }
 
     // A value and the name behind AS, if AS is there.
-    fn aliased<T: Drop>(&mut self, value: T) -> Result<(T, Option<Word>), Fault>
+    fn aliased<T: Drop>(&mut self, value: T) -> Result<(T, Option<Word>), Fault<Syntax>>
         ensures reads { FollowsReading (λ r. r.1) result (left self.new) (alias_at (left self.old)) }
         ensures same { IfOk result (λ r. r.0 ≡ value) }
     {
@@ -105,7 +106,7 @@ impl<'a> Cursor<'a> {
 
     // What stands behind the first three tokens of `count(*)`.
     #[tactic(auto, unfolding(mob_grammar::specs::Reading::count_tail_at, mob_grammar::specs::Reading::count_alias_at, mob_grammar::specs::Reading::behind_mark))]
-    fn count_tail(&mut self, place: u32) -> Result<Item, Fault>
+    fn count_tail(&mut self, place: u32) -> Result<Item, Fault<Syntax>>
         ensures reads { FollowsReading item_of result (left self.new) (count_tail_at place (left self.old)) }
     {
         self.expect(Mark::Close)?;
@@ -115,7 +116,7 @@ impl<'a> Cursor<'a> {
 
     // An expression and the name behind AS, if AS is there.
     #[tactic(auto, unfolding(mob_grammar::specs::Reading::one_item_at))]
-    fn one_item(&mut self) -> Result<Item, Fault>
+    fn one_item(&mut self) -> Result<Item, Fault<Syntax>>
         ensures reads { FollowsReading item_of result (left self.new) (one_item_at (left self.old)) }
     {
         let value = self.expression()?;
@@ -125,7 +126,7 @@ impl<'a> Cursor<'a> {
 
     // ON and its condition.
     #[tactic(auto, unfolding(mob_grammar::specs::Reading::on_at, mob_grammar::specs::Reading::behind_mark))]
-    fn on_part(&mut self, table: Word, alias: Option<Word>) -> Result<FromTable, Fault>
+    fn on_part(&mut self, table: Word, alias: Option<Word>) -> Result<FromTable, Fault<Syntax>>
         ensures reads { FollowsReading from_of result (left self.new) (on_at table alias (left self.old)) }
     {
         self.expect(Mark::On)?;
@@ -139,7 +140,7 @@ impl<'a> Cursor<'a> {
 
     // The tables that are left-joined behind others, if any are.
     #[tactic(auto, unfolding(mob_grammar::specs::Reading::joins_at, mob_grammar::specs::Reading::if_mark, crate::specs::Orderings::put_behind))]
-    fn joins(&mut self, found: Items<FromTable>) -> Result<Items<FromTable>, Fault>
+    fn joins(&mut self, found: Items<FromTable>) -> Result<Items<FromTable>, Fault<Syntax>>
         ensures reads { FollowsReading (map from_of) result (left self.new) (put_behind (map from_of found) joins_at (left self.old)) }
     {
         if self.skip(Mark::Left) {
@@ -151,7 +152,7 @@ impl<'a> Cursor<'a> {
 
     // A table and those that are left-joined to it, behind others.
     #[tactic(auto, unfolding(mob_grammar::specs::Reading::source_at, crate::specs::Orderings::put_behind))]
-    fn source(&mut self, before: Items<FromTable>) -> Result<Items<FromTable>, Fault>
+    fn source(&mut self, before: Items<FromTable>) -> Result<Items<FromTable>, Fault<Syntax>>
         ensures reads { FollowsReading (map from_of) result (left self.new) (put_behind (map from_of before) source_at (left self.old)) }
     {
         let mut found = before;
@@ -162,7 +163,7 @@ impl<'a> Cursor<'a> {
 
     // The tables of FROM.
     #[tactic(auto, unfolding(mob_grammar::specs::Reading::sources_at))]
-    fn sources(&mut self) -> Result<Items<FromTable>, Fault>
+    fn sources(&mut self) -> Result<Items<FromTable>, Fault<Syntax>>
         ensures reads { FollowsReading (map from_of) result (left self.new) (sources_at (left self.old)) }
     {
         let mut found = self.source(Items::new(self.alloc))?;
@@ -173,7 +174,7 @@ impl<'a> Cursor<'a> {
     }
 
     #[tactic(auto, unfolding(mob_grammar::specs::Reading::from_at, mob_grammar::specs::Reading::if_mark))]
-    fn from_part(&mut self) -> Result<Items<FromTable>, Fault>
+    fn from_part(&mut self) -> Result<Items<FromTable>, Fault<Syntax>>
         ensures reads { FollowsReading (map from_of) result (left self.new) (from_at (left self.old)) }
     {
         if self.skip(Mark::From) {
@@ -184,7 +185,7 @@ impl<'a> Cursor<'a> {
     }
 
     #[tactic(auto, unfolding(mob_grammar::specs::Reading::condition_at, mob_grammar::specs::Reading::some_expression_at, mob_grammar::specs::Reading::if_mark))]
-    fn where_part(&mut self) -> Result<Option<Expr>, Fault>
+    fn where_part(&mut self) -> Result<Option<Expr>, Fault<Syntax>>
         ensures reads { FollowsReading (option_map tree_of) result (left self.new) (condition_at (left self.old)) }
     {
         if self.skip(Mark::Where) {
@@ -196,7 +197,7 @@ impl<'a> Cursor<'a> {
 
     // Entries with commas between, behind this mark and BY, if the mark is there.
     #[tactic(auto, unfolding(mob_grammar::specs::Reading::behind_mark, mob_grammar::specs::Reading::if_mark))]
-    fn by_part<T: Entry>(&mut self, mark: Mark) -> Result<Items<T::Made>, Fault>
+    fn by_part<T: Entry>(&mut self, mark: Mark) -> Result<Items<T::Made>, Fault<Syntax>>
         ensures reads { FollowsReading (map T.parts_of) result (left self.new) (by_at mark T.reader (left self.old)) }
     {
         if self.skip(mark) {
@@ -208,7 +209,7 @@ impl<'a> Cursor<'a> {
     }
 
     #[tactic(auto, unfolding(mob_grammar::specs::Reading::limit_at, mob_grammar::specs::Reading::some_number_at, mob_grammar::specs::Reading::if_mark))]
-    fn limit_part(&mut self) -> Result<Option<Word>, Fault>
+    fn limit_part(&mut self) -> Result<Option<Word>, Fault<Syntax>>
         ensures reads { FollowsReading (λ w. w) result (left self.new) (limit_at (left self.old)) }
     {
         if self.skip(Mark::Limit) {
@@ -223,7 +224,7 @@ impl<'a> Cursor<'a> {
     fn ordered<T: Drop>(
         &mut self,
         front: T,
-    ) -> Result<(T, Items<Expr>, Items<Key>, Option<Word>), Fault>
+    ) -> Result<(T, Items<Expr>, Items<Key>, Option<Word>), Fault<Syntax>>
         ensures reads { FollowsReading (λ r. (map tree_of r.1, map key_of r.2, r.3)) result (left self.new) (ordering_at (left self.old)) }
         ensures same { IfOk result (λ r. r.0 ≡ front) }
     {
@@ -235,7 +236,7 @@ impl<'a> Cursor<'a> {
 
     // What stands behind SELECT.
     #[tactic(auto, unfolding(mob_grammar::specs::Reading::select_at))]
-    fn select(&mut self) -> Result<SelectTree, Fault>
+    fn select(&mut self) -> Result<SelectTree, Fault<Syntax>>
         ensures reads { FollowsReading select_of result (left self.new) (select_at (left self.old)) }
     {
         let distinct = self.distinct();
@@ -256,7 +257,7 @@ impl<'a> Cursor<'a> {
 
     // What stands behind DELETE.
     #[tactic(auto, unfolding(mob_grammar::specs::Reading::delete_at, mob_grammar::specs::Reading::delete_table_at, mob_grammar::specs::Reading::behind_mark))]
-    fn delete(&mut self) -> Result<Statement, Fault>
+    fn delete(&mut self) -> Result<Statement, Fault<Syntax>>
         ensures reads { FollowsReading statement_of result (left self.new) (delete_at (left self.old)) }
     {
         self.expect(Mark::From)?;
@@ -267,7 +268,7 @@ impl<'a> Cursor<'a> {
 
     // What stands behind EXPLAIN.
     #[tactic(auto, unfolding(mob_grammar::specs::Reading::explain_at, mob_grammar::specs::Reading::behind_mark))]
-    fn explain(&mut self) -> Result<Statement, Fault>
+    fn explain(&mut self) -> Result<Statement, Fault<Syntax>>
         ensures reads { FollowsReading statement_of result (left self.new) (explain_at (left self.old)) }
     {
         self.expect(Mark::Select)?;
@@ -276,7 +277,7 @@ impl<'a> Cursor<'a> {
 
     /// The statements of a script, with `;` between them.
     #[tactic(auto, unfolding(mob_grammar::specs::Reading::script_at))]
-    pub fn statements(&mut self) -> Result<Items<Statement>, Fault>
+    pub fn statements(&mut self) -> Result<Items<Statement>, Fault<Syntax>>
         ensures reads { FollowsReading (map statement_of) result (left self.new) (script_at (left self.old)) }
     {
         self.list::<Statement>(Mark::Semicolon)
@@ -294,7 +295,7 @@ impl Entry for FromTable {
     ghost reader = { from_entry_at };
 
     #[tactic(auto, unfolding(mob_grammar::specs::Reading::from_entry_at))]
-    fn read(cursor: &mut Cursor<'_>) -> Result<FromTable, Fault> {
+    fn read(cursor: &mut Cursor<'_>) -> Result<FromTable, Fault<Syntax>> {
         let table = cursor.name()?;
         let alias = cursor.second_name()?;
         Ok(FromTable {
@@ -320,7 +321,7 @@ impl Entry for Joined {
     ghost reader = { joined_entry_at };
 
     #[tactic(auto, unfolding(mob_grammar::specs::Reading::joined_entry_at, mob_grammar::specs::Reading::behind_mark))]
-    fn read(cursor: &mut Cursor<'_>) -> Result<FromTable, Fault> {
+    fn read(cursor: &mut Cursor<'_>) -> Result<FromTable, Fault<Syntax>> {
         cursor.expect(Mark::Join)?;
         let table = cursor.name()?;
         let alias = cursor.second_name()?;
@@ -343,7 +344,7 @@ impl Entry for GroupColumn {
     ghost reader = { group_column_at };
 
     #[tactic(auto, unfolding(mob_grammar::specs::Reading::group_column_at, mob_grammar::specs::Reading::if_mark))]
-    fn read(cursor: &mut Cursor<'_>) -> Result<Expr, Fault> {
+    fn read(cursor: &mut Cursor<'_>) -> Result<Expr, Fault<Syntax>> {
         let name = cursor.name()?;
         if cursor.skip(Mark::Dot) {
             cursor.table_column(name)
@@ -366,7 +367,7 @@ impl Entry for Item {
     ghost reader = { item_at };
 
     #[tactic(auto, unfolding(mob_grammar::specs::Reading::item_at, mob_grammar::specs::Reading::value_item_at, mob_grammar::specs::Reading::every_at, mob_grammar::specs::Reading::mark_at))]
-    fn read(cursor: &mut Cursor<'_>) -> Result<Item, Fault> {
+    fn read(cursor: &mut Cursor<'_>) -> Result<Item, Fault<Syntax>> {
         if let Some(place) = cursor.take(Mark::Times) {
             Ok(Item::All { place })
         } else if let Some(place) = cursor.take_count() {
@@ -390,7 +391,7 @@ impl Entry for Key {
     ghost reader = { key_at };
 
     #[tactic(auto, unfolding(mob_grammar::specs::Reading::key_at))]
-    fn read(cursor: &mut Cursor<'_>) -> Result<Key, Fault> {
+    fn read(cursor: &mut Cursor<'_>) -> Result<Key, Fault<Syntax>> {
         let value = cursor.expression()?;
         let descending = cursor.direction();
         Ok(Key { value, descending })
@@ -410,7 +411,7 @@ impl Entry for Statement {
     ghost reader = { statement_at };
 
     #[tactic(auto, unfolding(mob_grammar::specs::Reading::statement_at, mob_grammar::specs::Reading::select_statement_at, mob_grammar::specs::Reading::if_mark))]
-    fn read(cursor: &mut Cursor<'_>) -> Result<Statement, Fault> {
+    fn read(cursor: &mut Cursor<'_>) -> Result<Statement, Fault<Syntax>> {
         if cursor.skip(Mark::Create) {
             cursor.create()
         } else if cursor.skip(Mark::Insert) {

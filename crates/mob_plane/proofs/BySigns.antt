@@ -1,4 +1,4 @@
--- Membership in a polygon is told by signs.
+-- Signs decide membership in a polygon.
 use Rattle.std.specs.Prelude.{◌≡◌, refl, Bool, true, false, cond, not, ◌&&◌, ◌||◌, ℕ, zero, suc, ◌%◌, ◌<◌, nat_eq, List, [], ◌∷◌, length}
 use Rattle.std.specs.List.{list_any, filter}
 use Rattle.std.proofs.Common.{arith, sym, ap, ◌∙◌}
@@ -19,7 +19,7 @@ use Rattle.mob_plane.proofs.Crossings.{rising_crossing, falling_crossing}
 use Rattle.mob_plane.proofs.DifferenceSigns.{side_below, side_above}
 use Rattle.mob_plane.specs.declared.point.Point.{Point}
 
--- ---- what a sign says
+-- ---- the meaning of a sign
 
 pub lt_cond : (a b : Bool) → is_lt (cond a Less (cond b Greater Equal)) ≡ a
 lt_cond true b = refl
@@ -133,6 +133,6 @@ odd_is (e ∷ es) p =
 pub inside_signs : (rings : List (List Point)) (p : Point) → inside rings p ≡ inside_by (signs_to (all_edges rings) p)
 inside_signs rings p = rw (some_is (all_edges rings) p, odd_is (all_edges rings) p) refl
 
--- points that lie in the same ways to all edges are inside or not together
+-- points with the same positions relative to all edges are both inside, or both outside
 pub inside-same : (rings : List (List Point)) (p q : Point) → signs_to (all_edges rings) p ≡ signs_to (all_edges rings) q → inside rings p ≡ inside rings q
 inside-same rings p q e = inside_signs rings p ∙ ap inside_by e ∙ sym (inside_signs rings q)

@@ -40,7 +40,7 @@ pub counted_both : (t : Tally) (ss rs : List EdgeSigns) → counted t (ss ++ rs)
 counted_both t [] rs = refl
 counted_both t (s ∷ ss) rs = counted_both (with_edge t s) ss rs
 
--- the edges before the rest are counted, and their parts fit
+-- the edges before `rest` are counted, and their parts fit
 pub record IsCounting (p : Point) (all rest : List (Point × Point)) (first now : Tally) : Type 0 where
   pub told : counted now (signs_to rest p) ≡ counted first (signs_to all p)
   pub fit : AllFit (turns_parts p rest) → AllFit (turns_parts p all)
@@ -56,7 +56,7 @@ counting_step p all rest later a b first now next e n f m = rw n (record {
 pub counting_ends : (p : Point) (all rest : List (Point × Point)) (first now : Tally) → rest ≡ [] → IsCounting p all rest first now → (now ≡ counted first (signs_to all p)) × AllFit (turns_parts p all)
 counting_ends p all rest first now e m = (subst (λ r. counted now (signs_to r p) ≡ counted first (signs_to all p)) e m.told, m.fit (subst (λ r. AllFit (turns_parts p r)) (sym e) tt))
 
--- ---- places
+-- ---- indexes
 edges_end_at : (ring : List Point) (j : ℕ) → length ring ≤ suc j → edges (drop j ring) ≡ []
 edges_end_at [] zero h = refl
 edges_end_at [] (suc j) h = refl

@@ -1,5 +1,5 @@
--- Where an edge crosses the height of a point to the right of it, the point turns from the edge as
--- the edge rises.
+-- An edge crosses the height of a point to the right of it exactly if the point lies to the left of
+-- an edge that goes up, or to the right of one that goes down.
 use Rattle.std.specs.Prelude.{◌≡◌, ◌≢◌, refl, Bool, false, true, pos, ◌+ℤ◌, neg_ℤ}
 use Rattle.std.proofs.Common.{arith}
 use Rattle.mob_ratio.specs.Ratio.{Ratio, whole, ◌<ℚ◌, ◌+ℚ◌, ◌-ℚ◌, ◌*ℚ◌}
@@ -14,7 +14,7 @@ use Rattle.mob_plane.specs.Turns.{turn}
 use Rattle.mob_plane.specs.Membership.{crossing_at}
 use Rattle.mob_plane.specs.declared.point.Point.{Point}
 
--- the turn, by its coordinates
+-- the turn, from its coordinates
 abbrev turned : Ratio → Ratio → Ratio → Ratio → Ratio → Ratio → Ratio
 turned ax ay bx by px py = (bx -ℚ ax) *ℚ (py -ℚ ay) -ℚ (by -ℚ ay) *ℚ (px -ℚ ax)
 
@@ -64,7 +64,7 @@ level_by l u true b ea eb n = sub_ne-zero l u (before-lt l u ea)
 level_by l u false true ea eb n = falling_ne l u (before-lt u l eb)
 level_by l u false false ea eb n = absurd (n (before-neither l u ea eb))
 
--- where the edge is not level
+-- if the edge is not horizontal
 pub crossing_on : (a b : Point) (h : Ratio) → a.y ≢ b.y → IsOnLine a.y a.x b.y b.x h (crossing_at (a, b) h)
 crossing_on a b h n = crossing_is a b h (level_by a.y b.y (before a.y b.y) (before b.y a.y) refl refl n)
 

@@ -22,7 +22,7 @@ side_above x y h k = subst (λ b. cond b Greater Equal ≡ sign_of (x -ℚ y)) k
 pub side_same : (x y : Ratio) → before x y ≡ false → before y x ≡ false → Equal ≡ sign_of (x -ℚ y)
 side_same x y h k = subst (λ b. cond b Greater Equal ≡ sign_of (x -ℚ y)) k (side_rest x y h)
 
--- how x compares with 0 is its sign
+-- comparing x with 0 gives its sign
 pub sign_is : (x z : Ratio) (r : Ordering) → z ≡ nil → MatchOrdering r (x <ℚ z) (x ≡ z) (z <ℚ x) → r ≡ sign_of x
 sign_is x z Less e h = sym (sign_below x (lt-before x nil (subst (λ z. x <ℚ z) e h)))
 sign_is x z Equal e h = sym (ap sign_of (h ∙ e) ∙ sign_nil)

@@ -11,7 +11,7 @@ use Rattle.mob_plane.specs.Rings.{has_short, has_open}
 use Rattle.mob_plane.specs.Membership.{inside, crossing_at}
 use Rattle.mob_plane.specs.declared.point.Point.{Point}
 
--- POINT(1/2 3) and POINT(2/4 3) are one point
+-- POINT(1/2 3) and POINT(2/4 3) are equal
 one_point : same_point (record { x = over (pos 1) 2; y = whole (pos 3) }) (record { x = over (pos 2) 4; y = whole (pos 3) }) ≡ true
 unfolding over gcd gcd_steps in_lowest_terms whole before same
 one_point = refl
@@ -27,7 +27,7 @@ above = refl
 
 -- ---- polygons
 
--- a point with whole coordinates, not below 0
+-- a point with integer coordinates, not below 0
 abbrev at : ℕ → ℕ → Point
 at x y = record { x = whole (pos x); y = whole (pos y) }
 
@@ -43,12 +43,12 @@ eight = (at 0 0 ∷ at 4 4 ∷ at 4 0 ∷ at 0 4 ∷ at 0 0 ∷ []) ∷ []
 abbrev corner : List (List Point)
 corner = (at 2 0 ∷ at 3 1 ∷ at 2 2 ∷ at 1 1 ∷ at 2 0 ∷ []) ∷ []
 
--- (0 1) lies to the left of the way from (0 0) to (2 0): the turn is 2
+-- (0 1) lies to the left of the direction from (0 0) to (2 0): the turn is 2
 left_turn : turn (at 0 0) (at 2 0) (at 0 1) ≡ whole (pos 2)
 unfolding over gcd gcd_steps in_lowest_terms whole before same ◌+ℚ◌ neg_ℚ ◌*ℚ◌ turned inverse line_value
 left_turn = refl
 
--- the edge from (2 0) to (3 1) has the height 1/2 at 5/2
+-- the edge from (2 0) to (3 1) is at x = 5/2 at the height 1/2
 crossing : crossing_at (at 2 0, at 3 1) (over (pos 1) 2) ≡ over (pos 5) 2
 unfolding over gcd gcd_steps in_lowest_terms whole before same ◌+ℚ◌ neg_ℚ ◌*ℚ◌ turned inverse line_value
 crossing = refl
@@ -83,12 +83,12 @@ beside : inside holed (at 11 4) ≡ false
 unfolding over gcd gcd_steps in_lowest_terms whole before same ◌+ℚ◌ neg_ℚ ◌*ℚ◌ turned inverse line_value
 beside = refl
 
--- left of the hole, level with its lower corners and with its upper ones
+-- to the left of the hole, level with its lower corners
 level_with_hole : inside holed (at 1 4) ≡ true
 unfolding over gcd gcd_steps in_lowest_terms whole before same ◌+ℚ◌ neg_ℚ ◌*ℚ◌ turned inverse line_value
 level_with_hole = refl
 
--- level with the upper edge, left of it
+-- level with the upper edge, to the right of it
 level_with_top : inside holed (at 11 10) ≡ false
 unfolding over gcd gcd_steps in_lowest_terms whole before same ◌+ℚ◌ neg_ℚ ◌*ℚ◌ turned inverse line_value
 level_with_top = refl
@@ -108,17 +108,17 @@ between_halves : inside eight (at 2 3) ≡ false
 unfolding over gcd gcd_steps in_lowest_terms whole before same ◌+ℚ◌ neg_ℚ ◌*ℚ◌ turned inverse line_value
 between_halves = refl
 
--- where the ring crosses itself
+-- the point at which the ring crosses itself
 at_crossing : inside eight (at 2 2) ≡ true
 unfolding over gcd gcd_steps in_lowest_terms whole before same ◌+ℚ◌ neg_ℚ ◌*ℚ◌ turned inverse line_value
 at_crossing = refl
 
--- level with a corner that the ray only passes through
+-- level with a corner at which the ray passes through the ring
 past_corner : inside corner (at 2 1) ≡ true
 unfolding over gcd gcd_steps in_lowest_terms whole before same ◌+ℚ◌ neg_ℚ ◌*ℚ◌ turned inverse line_value
 past_corner = refl
 
--- level with the corners at both sides, left of both
+-- level with the corners at both sides, to the left of both
 left_of_corner : inside corner (at 0 1) ≡ false
 unfolding over gcd gcd_steps in_lowest_terms whole before same ◌+ℚ◌ neg_ℚ ◌*ℚ◌ turned inverse line_value
 left_of_corner = refl
@@ -143,7 +143,7 @@ three_points : has_short ((at 0 0 ∷ at 1 0 ∷ at 0 1 ∷ []) ∷ []) ≡ true
 unfolding over gcd gcd_steps in_lowest_terms whole before same ◌+ℚ◌ neg_ℚ ◌*ℚ◌ turned inverse line_value
 three_points = refl
 
--- four points of which the last is not the first
+-- four points, the last of which is not the first
 open_ring : has_open ((at 0 0 ∷ at 1 0 ∷ at 0 1 ∷ at 1 1 ∷ []) ∷ []) ≡ true
 unfolding over gcd gcd_steps in_lowest_terms whole before same ◌+ℚ◌ neg_ℚ ◌*ℚ◌ turned inverse line_value
 open_ring = refl

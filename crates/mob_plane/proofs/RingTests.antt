@@ -1,4 +1,4 @@
--- Tests of all rings.
+-- Tests over all rings.
 use Rattle.std.specs.Prelude.{◌≡◌, refl, Bool, true, false, ◌||◌, nat_eq, List, [], ◌∷◌, length}
 use Rattle.std.specs.Prelude.{Vec}
 use Rattle.std.specs.List.{list_any}

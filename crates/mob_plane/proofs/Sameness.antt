@@ -1,4 +1,4 @@
--- A test of two points, made of the tests of their coordinates, is exact.
+-- A test of two points by the tests of their coordinates is exact.
 use Rattle.std.specs.Prelude.{◌≡◌, ◌↔◌, Bool, true, false, IsTrue, refl}
 use Rattle.std.proofs.Common.{sym, ◌∙◌}
 use Rattle.mob_ratio.specs.Order.{same}

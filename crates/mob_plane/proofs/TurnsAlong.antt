@@ -1,4 +1,4 @@
--- The turn of a point that moves evenly changes evenly.
+-- The turn of a point that moves linearly changes linearly.
 use Rattle.std.specs.Prelude.{◌≡◌}
 use Rattle.std.proofs.Common.{sym, ap, ◌∙◌}
 use Rattle.mob_ratio.specs.Ratio.{Ratio, ◌-ℚ◌, ◌*ℚ◌}
@@ -16,14 +16,14 @@ line_at-times k x0 x1 l u t =
     ∙ ap (λ z. line_at z (x1 *ℚ k) l u t) (mul_comm x0 k)
     ∙ ap (λ z. line_at (k *ℚ x0) z l u t) (mul_comm x1 k)
 
--- the difference to a fixed number
+-- the difference to a constant
 pub line_at-from : (x0 x1 a l u t : Ratio) → line_at x0 x1 l u t -ℚ a ≡ line_at (x0 -ℚ a) (x1 -ℚ a) l u t
 line_at-from x0 x1 a l u t = ap (λ z. line_at x0 x1 l u t -ℚ z) (sym (line_at-level a l u t)) ∙ line_at-diff x0 x1 a a l u t
 
 half : (k x0 x1 a l u t : Ratio) → k *ℚ (line_at x0 x1 l u t -ℚ a) ≡ line_at (k *ℚ (x0 -ℚ a)) (k *ℚ (x1 -ℚ a)) l u t
 half k x0 x1 a l u t = ap (λ z. k *ℚ z) (line_at-from x0 x1 a l u t) ∙ line_at-times k (x0 -ℚ a) (x1 -ℚ a) l u t
 
--- the point at t on the even way from p at l to q at u
+-- the point at t of the linear motion from p at l to q at u
 abbrev pub on_way : Point → Point → Ratio → Ratio → Ratio → Point
 on_way p q l u t = record { x = line_at p.x q.x l u t; y = line_at p.y q.y l u t }
 

@@ -1,4 +1,4 @@
--- The corners of rings that are widened point by point are those of all points.
+-- The corners of rings, widened point by point, are those of all points.
 use Rattle.std.specs.Prelude.{◌≡◌, refl, Bool, true, false, cond, ◌⊎◌, zero, suc, List, [], ◌∷◌, Any, All, Contains, fold}
 use Rattle.std.proofs.Common.{arith, sym, ◌∙◌, subst, inl, inr}
 use Rattle.mob_ratio.specs.Ratio.{Ratio}
@@ -18,7 +18,7 @@ all_more : (P : Point → Type 0) (p : Point) (ps : List Point) → P p → All 
 all_more P p ps h k zero d lt = h
 all_more P p ps h k (suc i) d lt = k i d (omega arith)
 
--- the coordinate that is kept of two comes before both, and is one of them
+-- the coordinate kept of two comes before both, and is one of them
 module _ (comes : Ratio → Ratio → Bool) (kept : Ratio → Ratio → Ratio) (first : (x y : Ratio) → comes (kept x y) x ≡ true) (second : (x y : Ratio) → comes (kept x y) y ≡ true) (one : (x y : Ratio) → (kept x y ≡ x) ⊎ (kept x y ≡ y)) (self : (x : Ratio) → comes x x ≡ true) (next : (x y z : Ratio) → comes x y ≡ true → comes y z ≡ true → comes x z ≡ true) (coordinate : Point → Ratio) where
   abbrev pub best : Ratio → List Point → Ratio
   best x ps = fold (λ x p. kept x (coordinate p)) x ps

@@ -1,4 +1,4 @@
--- The least and the greatest coordinates of points.
+-- The smallest and the greatest coordinates of points.
 use Rattle.std.specs.Prelude.{◌≡◌, true, cond, List, Any, All}
 use Rattle.std.specs.List.{flat_map}
 use Rattle.mob_ratio.specs.Ratio.{Ratio}
@@ -10,17 +10,17 @@ use Rattle.mob_plane.specs.declared.rectangle.Corners.{Corners}
 abbrev pub all_points : List (List Point) → List Point
 all_points rings = flat_map (λ r. r) rings
 
--- the least of the coordinates is x: some point has it, and none has a lesser one
+-- x is the smallest of the coordinates: some point has it, and none has a smaller one
 pub record IsLeastAmong (coordinate : Point → Ratio) (points : List Point) (x : Ratio) : Type 0 where
   pub some : Any (λ p. coordinate p ≡ x) points
   pub none_less : All (λ p. up_to x (coordinate p) ≡ true) points
 
--- the greatest of the coordinates is x
+-- x is the greatest of the coordinates
 pub record IsGreatestAmong (coordinate : Point → Ratio) (points : List Point) (x : Ratio) : Type 0 where
   pub some : Any (λ p. coordinate p ≡ x) points
   pub none_greater : All (λ p. up_to (coordinate p) x ≡ true) points
 
--- the corners of the least rectangle that has all points
+-- the corners of the bounding box of the points
 pub record AreCorners (points : List Point) (least greatest : Point) : Type 0 where
   pub least_x : IsLeastAmong (λ p. p.x) points least.x
   pub least_y : IsLeastAmong (λ p. p.y) points least.y
@@ -34,7 +34,7 @@ smaller x y = cond (before y x) y x
 abbrev pub greater : Ratio → Ratio → Ratio
 greater x y = cond (before x y) y x
 
--- the corners of the least rectangle that has another one and a point
+-- the corners of the smallest rectangle that contains another one and a point
 abbrev pub widened : Corners → Point → Corners
 widened c p = record {
   least = record { x = smaller c.least.x p.x; y = smaller c.least.y p.y };

@@ -1,4 +1,4 @@
--- When two points of the plane are one: by coordinate.
+-- When two points of the plane are equal: by coordinate.
 use Rattle.std.specs.Prelude.{◌≡◌, ◌↔◌, Bool, IsTrue, ◌&&◌, refl}
 use Rattle.std.proofs.Common.{arith, ap, sym}
 use Rattle.std.specs.Cmp.{IsEquivalence}
@@ -10,7 +10,7 @@ use Rattle.mob_plane.specs.declared.point.Point.{Point}
 abbrev pub same_point : Point → Point → Bool
 same_point a b = same a.x b.x && same a.y b.y
 
--- two points with the same coordinates are one
+-- two points with the same coordinates are equal
 pub point_by_coordinates : (a b : Point) → a.x ≡ b.x → a.y ≡ b.y → a ≡ b
 point_by_coordinates a b p q = λ i. record { x = p i; y = q i }
 
@@ -21,7 +21,7 @@ same_point_exact a b = (
   λ e. rw ((same_exact a.x b.x).1 (ap (λ (p : Point). p.x) e), (same_exact a.y b.y).1 (ap (λ (p : Point). p.y) e)) refl,
 )
 
--- being one point is an equivalence
+-- equality of points is an equivalence relation
 pub same_point_equivalence : IsEquivalence same_point
 same_point_equivalence = record {
   refl = λ a. (same_point_exact a a).1 refl;

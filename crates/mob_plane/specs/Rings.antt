@@ -1,4 +1,4 @@
--- Rings of points: their edges, and which of them bound a polygon.
+-- Rings of points: their edges, and when they bound a polygon.
 use Rattle.std.specs.Prelude.{Bool, false, not, ◌&&◌, ◌||◌, ◌-◌, List, [], ◌∷◌, ◌++◌, map, length, slice_get, nat_eq, nat_lt, Option, Some}
 use Rattle.std.specs.Prelude.{Vec}
 use Rattle.std.specs.List.{list_any}
@@ -25,7 +25,7 @@ all_edges (ring ∷ rings) = edges ring ++ all_edges rings
 abbrev pub is_short_ring : List Point → Bool
 is_short_ring ring = nat_lt (length ring) 4
 
--- there is no ring, or one of them is short
+-- the list of rings is empty, or one of them is short
 abbrev pub has_short : List (List Point) → Bool
 has_short rings = nat_eq (length rings) 0 || list_any is_short_ring rings
 
@@ -41,7 +41,6 @@ is_open_ring ring = not (are_one (slice_get ring 0) (slice_get ring (length ring
 abbrev pub has_open : List (List Point) → Bool
 has_open rings = list_any is_open_ring rings
 
--- rings that bound a polygon: there is one or more, each has four points or more, and ends where it
--- begins
+-- rings that bound a polygon: at least one, each with at least four points, and closed
 abbrev pub are_sound : List (List Point) → Bool
 are_sound rings = not (has_short rings) && not (has_open rings)

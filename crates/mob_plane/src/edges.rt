@@ -1,4 +1,4 @@
-//! How a point lies to edges, by signs.
+//! The position of a point relative to edges, by signs.
 ghost use Rattle.std.specs.Prelude.{◌≡◌, ◌||◌};
 ghost use Rattle.mob_ratio.specs.Ratio.{◌-ℚ◌};
 ghost use Rattle.mob_ratio.specs.Sign.{sign_of};
@@ -11,10 +11,10 @@ use crate::Point;
 use mob_frac::{Frac, Overflow};
 use std::cmp::Ordering;
 
-/// How a point lies to an edge, by signs.
+/// The position of a point relative to an edge, by signs.
 #[derive(Clone, Copy, Debug, Drop)]
 pub struct EdgeSigns {
-    /// `Greater` to the left of the way along the edge, `Less` to the right of it.
+    /// `Greater` to the left of the edge's direction, `Less` to the right of it.
     pub turn: Ordering,
     /// `Greater` to the right of the edge's first end, in x.
     pub x_a: Ordering,
@@ -26,19 +26,19 @@ pub struct EdgeSigns {
     pub y_b: Ordering,
 }
 
-/// What is known of a point after some edges.
+/// The tally of a point after some edges.
 #[derive(Clone, Copy, Debug, Drop)]
 pub struct Tally {
     /// Whether it lies on one of them.
     pub on: bool,
-    /// Whether the number of those that pass its height to the right of it is odd.
+    /// Whether the number of edges that cross its height to the right of it is odd.
     pub odd: bool,
 }
 
-/// How `p` lies to the way from `a` to `b`: above 0 to the left of it, below 0 to the right, and 0
-/// on the line through both. This is the cross product of the way and of the way to the point,
-/// formula F4. It is `Overflow` exactly where a part of the formula does not fit. It takes no
-/// memory.
+/// The position of `p` relative to the direction from `a` to `b`: above 0 to the left of it, below
+/// 0 to the right, and 0 on the line through both. This is the cross product of the vector from `a`
+/// to `b` and the one from `a` to `p`, formula F4. It is `Overflow` exactly if a part of the
+/// formula does not fit. It does not allocate.
 pub fn turn(a: &Point, b: &Point, p: &Point) -> Result<Frac, Overflow>
     ensures value { IsFormula (turn_parts a.now b.now p.now) (turn a.now b.now p.now) result }
 {
@@ -51,7 +51,7 @@ pub fn turn(a: &Point, b: &Point, p: &Point) -> Result<Frac, Overflow>
     left.sub(&right)
 }
 
-/// The sign of `x - y`, which needs no difference.
+/// The sign of `x - y`, without computing the difference.
 fn side(x: &Frac, y: &Frac) -> Ordering
     ensures sign { result ≡ sign_of (x.now -ℚ y.now) }
 {
@@ -70,7 +70,8 @@ fn sign(x: &Frac) -> Ordering
     x.compare(&Frac::zero())
 }
 
-/// How the point `p` lies to the edge from `a` to `b`.
+/// The position of the point `p` relative to the edge from `a` to `b`. It is `Overflow` exactly if
+/// a part of the turn does not fit.
 fn signs(a: &Point, b: &Point, p: &Point) -> Result<EdgeSigns, Overflow>
     ensures signs { IsFormula (turn_parts a.now b.now p.now) (signs_at p.now a.now b.now) result }
 {
@@ -90,16 +91,16 @@ fn is_between(o: Ordering, q: Ordering) -> bool
     !(o.is_lt() && q.is_lt()) && !(o.is_gt() && q.is_gt())
 }
 
-// Whether the point lies on the edge: it turns neither way from it, and lies between its ends.
+// Whether the point lies on the edge: on its line, and between its ends.
 fn is_on(signs: &EdgeSigns) -> bool
     ensures value { result ≡ is_on signs.now }
 {
     signs.turn.is_eq() && (is_between(signs.x_a, signs.x_b) && is_between(signs.y_a, signs.y_b))
 }
 
-// Whether the edge passes the height of the point to the right of it: one end is above the point
-// and the other is not, and where the edge goes down the point lies to the right of its way, where
-// it goes up to the left.
+// Whether the edge crosses the height of the point to the right of it: one end is above the point
+// and the other is not, and the point lies to the right of an edge that goes down, or to the left
+// of one that goes up.
 fn crosses(signs: &EdgeSigns) -> bool
     ensures value { result ≡ crosses signs.now }
 {
@@ -107,7 +108,7 @@ fn crosses(signs: &EdgeSigns) -> bool
         || (signs.y_b.is_lt() && (!signs.y_a.is_lt() && signs.turn.is_gt()))
 }
 
-/// What is known after one edge more.
+/// The tally after one more edge.
 pub fn with_edge(tally: Tally, signs: &EdgeSigns) -> Tally
     ensures value { result ≡ with_edge tally signs.now }
 {
@@ -128,7 +129,8 @@ pub fn is_in(tally: &Tally) -> bool
     tally.on || tally.odd
 }
 
-/// What is known after the edges of a ring.
+/// The tally after the edges of a ring. It is `Overflow` exactly if a part of the turn of the point
+/// from some edge does not fit.
 pub fn count_ring(ring: &[Point], p: &Point, first: Tally) -> Result<Tally, Overflow>
     ensures counted { IsFormula (turns_parts p.now (edges ring.now)) (counted first (signs_to (edges ring.now) p.now)) result }
 {

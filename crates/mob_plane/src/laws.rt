@@ -1,4 +1,4 @@
-//! What holds of every point and every polygon. No code runs here.
+//! Laws of points and polygons. No code runs here.
 ghost use Rattle.std.specs.Prelude.{◌≡◌, ◌≢◌, true, List};
 ghost use Rattle.mob_ratio.specs.Ratio.{Ratio, ◌-ℚ◌};
 ghost use Rattle.mob_ratio.specs.Order.{before};
@@ -16,12 +16,12 @@ use std::marker::{Send, Sync};
 // Values of the type may be sent to another thread, and several threads may read one.
 fn crosses_threads<T: Send + Sync>() {}
 
-/// Points cross threads.
+/// Points may cross threads.
 pub fn points_cross_threads() {
     crosses_threads::<Point>();
 }
 
-/// So do polygons, what refuses one, and what is known of a point after some edges.
+/// Polygons, their errors, and tallies may cross threads.
 pub fn polygons_cross_threads() {
     crosses_threads::<Polygon>();
     crosses_threads::<RingFault>();
@@ -29,18 +29,19 @@ pub fn polygons_cross_threads() {
     crosses_threads::<Tally>();
 }
 
-/// Where an edge is not level, its crossing with a height is the point of the straight line through
-/// its ends that has this height. Where one end is above a point and the other is not, it crosses
-/// the height of the point to the right of it exactly where the point turns from the edge as the
-/// edge rises: to the left where it goes up, to the right where it goes down.
+/// If an edge is not horizontal, its crossing with a height is the point of the straight line
+/// through its ends at that height. If one end is above a point and the other is not, the edge
+/// crosses the height of the point to the right of it exactly if the point lies to the left of an
+/// edge that goes up, or to the right of one that goes down.
 pub fn crossings_by_turns()
     ensures on_line { (a b : PointOf) (h : Ratio) → a.y ≢ b.y → IsOnLine a.y a.x b.y b.x h (crossing_at (a, b) h) }
     ensures right { (a b p : PointOf) → passes_height p (a, b) ≡ true → before p.x (crossing_at (a, b) p.y) ≡ same_order (sign_of (b.y -ℚ a.y)) (sign_of (turn a b p)) }
 {}
 
-/// Whether a point lies on an edge, passes it and is in a polygon is told by signs alone: those of
-/// its turns with the edges, and of its differences to their ends. So two points that lie in the
-/// same ways to all edges are in the polygon or not together.
+/// Signs alone decide whether a point lies on an edge, whether the edge crosses its height, and
+/// whether it is in a polygon: those of its turns from the edges, and of its differences to their
+/// ends. So two points with the same positions relative to all edges are both in the polygon, or
+/// both outside.
 pub fn membership_by_signs()
     ensures on { (a b p : PointOf) → lies_on p (a, b) ≡ is_on (signs_at p a b) }
     ensures right { (a b p : PointOf) → passes_right p (a, b) ≡ crosses (signs_at p a b) }

@@ -1,4 +1,4 @@
-//! Points of the plane, exactly, and polygons: their coordinates are fractions.
+//! Exact points of the plane, and polygons. Their coordinates are fractions.
 #![tactic(auto)]
 
 mod edges;

@@ -1,3 +1,4 @@
+//! Points of the plane.
 ghost use Rattle.std.specs.Prelude.{◌≡◌, ◌↔◌, IsTrue};
 ghost use Rattle.std.specs.Cmp.{partial_equiv_from_equiv};
 ghost use Rattle.mob_plane.specs.Points.{same_point, same_point_equivalence};
@@ -5,17 +6,17 @@ ghost use Rattle.mob_plane.specs.Points.{same_point, same_point_equivalence};
 use mob_frac::Frac;
 
 /// A point of the plane. Contracts see it as its two coordinates, rational numbers, so two points
-/// are one exactly where both coordinates are.
+/// are equal exactly if both coordinates are.
 #[derive(Clone, Copy, Debug, Drop)]
 pub struct Point {
-    /// How far it lies to the east.
+    /// The coordinate to the east.
     pub x: Frac,
-    /// How far it lies to the north.
+    /// The coordinate to the north.
     pub y: Frac,
 }
 
 impl Point {
-    /// Whether both are one point: their coordinates are the same numbers.
+    /// Whether both points are equal: their coordinates are the same numbers.
     pub fn is_same(&self, other: &Point) -> bool
         ensures exact { IsTrue result ↔ (self.now ≡ other.now) }
         ensures test { result ≡ same_point self.now other.now }

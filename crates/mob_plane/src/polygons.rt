@@ -1,4 +1,4 @@
-//! Polygons of one closed ring or more.
+//! Polygons of one or more closed rings.
 ghost use Rattle.std.specs.Prelude.{◌≡◌, ◌↔◌, true, false, Ok, Err, is_ok, IfOk, Contains};
 ghost use Rattle.std.specs.List.{list_any};
 ghost use Rattle.mob_frac.specs.Formula.{IsFormula};
@@ -15,10 +15,10 @@ use mob_frac::Overflow;
 use std::alloc::{AllocError, Global};
 use std::marker::Model;
 
-/// Why rings bound no polygon.
+/// The reason why rings bound no polygon.
 #[derive(Clone, Copy, Debug, PartialEq, Eq)]
 pub enum RingFault {
-    /// There is no ring, or one of them has fewer than four points.
+    /// The list of rings is empty, or one of them has fewer than four points.
     Short = 1,
     /// The first and the last point of a ring differ.
     Open = 2,
@@ -27,9 +27,9 @@ pub enum RingFault {
 /// A closed set of the plane, bounded by rings. Contracts see it as its rings, each as the list of
 /// its points.
 ///
-/// A ring begins and ends at one point, so a triangle has four. Rings may cross themselves and one
-/// another: a point is in the polygon where it lies on an edge, or the number of edges to the right
-/// of it is odd, those of all rings together.
+/// A ring ends at the point at which it begins, so a triangle has four points. Rings may cross
+/// themselves and one another. A point is in the polygon if it lies on an edge, or if the number of
+/// edges to the right of it, over all rings, is odd.
 #[derive(Drop)]
 pub struct Polygon {
     rings: Vec<Vec<Point>>,
@@ -71,7 +71,7 @@ fn some_short(rings: &[Vec<Point>]) -> bool
     rings.iter().any(|ring| is_short(ring.as_slice()))
 }
 
-/// Whether there is no ring, or one that is short.
+/// Whether the list of rings is empty, or one of them is short.
 fn has_short(rings: &[Vec<Point>]) -> bool
     ensures value { result ≡ has_short (rings_of rings.now) }
 {
@@ -93,7 +93,8 @@ fn start(rings: &[Vec<Point>]) -> Point
     rings[0][0]
 }
 
-/// What is known after the edges of all rings.
+/// The tally after the edges of all rings. It is `Overflow` exactly if a part of the turn of the
+/// point from some edge does not fit.
 fn count_rings(rings: &[Vec<Point>], p: &Point) -> Result<Tally, Overflow>
     ensures counted { IsFormula (turns_parts p.now (all_edges (rings_of rings.now))) (counted none_yet (signs_to (all_edges (rings_of rings.now)) p.now)) result }
 {
@@ -111,9 +112,9 @@ fn count_rings(rings: &[Vec<Point>], p: &Point) -> Result<Tally, Overflow>
 }
 
 impl Polygon {
-    /// The polygon of these rings. It is `Short` exactly where there is no ring or one of them has
-    /// fewer than four points, and `Open` exactly where none is short and the first and last points
-    /// of one differ. It takes no memory.
+    /// The polygon of these rings. It is `Short` exactly if the list is empty or one of the rings
+    /// has fewer than four points, and `Open` exactly if none is short and the first and last
+    /// points of one differ. It does not allocate.
     pub fn new(rings: Vec<Vec<Point>>) -> Result<Polygon, RingFault>
         ensures made { IfOk result (λ p. p ≡ rings_of rings.items) }
         ensures short { (result ≡ Err RingFault.Short) ↔ (has_short (rings_of rings.items) ≡ true) }
@@ -129,7 +130,7 @@ impl Polygon {
         Ok(Polygon { rings })
     }
 
-    /// The rings, each with the point at which it begins once more at its end.
+    /// The rings, each ending with the point at which it begins.
     pub fn rings(&self) -> &[Vec<Point>]
         ensures same { rings_of result.now ≡ self.now }
         ensures sound { are_sound self.now ≡ true }
@@ -137,8 +138,8 @@ impl Polygon {
         self.rings.as_slice()
     }
 
-    /// The corners of the least rectangle that has the polygon: the least coordinates of its
-    /// points, and the greatest. It takes no memory.
+    /// The corners of the polygon's bounding box: the smallest and the greatest coordinates of its
+    /// points. It does not allocate.
     pub fn corners(&self) -> (Point, Point)
         ensures corners { AreCorners (all_points self.now) result.0 result.1 }
     {
@@ -147,10 +148,10 @@ impl Polygon {
         (corners.least, corners.greatest)
     }
 
-    /// Whether the point is in the polygon: it lies on an edge, or the number of edges with one end
-    /// above it and the other at its height or below, which pass that height to the right of it, is
-    /// odd. It is `Overflow` exactly where a part of the turn of the point with some edge does not
-    /// fit. It takes no memory.
+    /// Whether the point is in the polygon: it lies on an edge, or the number of edges that cross
+    /// its height to the right of it is odd, where one end is above the point and the other is not.
+    /// It is `Overflow` exactly if a part of the turn of the point from some edge does not fit. It
+    /// does not allocate.
     pub fn has(&self, p: &Point) -> Result<bool, Overflow>
         ensures value { IsFormula (turns_parts p.now (all_edges self.now)) (inside self.now p.now) result }
     {
@@ -158,7 +159,7 @@ impl Polygon {
         Ok(is_in(&tally))
     }
 
-    /// A second polygon, the same, in memory of its own.
+    /// Copies the polygon. The only error is a failed allocation.
     pub fn copy(&self, alloc: Global) -> Result<Polygon, AllocError>
         ensures same { IfOk result (λ copy. copy ≡ self.now) }
     {

@@ -1,4 +1,4 @@
-//! The least rectangle that has some points.
+//! The bounding box of points.
 ghost use Rattle.std.specs.Prelude.{◌≡◌, fold};
 ghost use Rattle.mob_plane.specs.Corners.{all_points, widened, smaller, greater};
 ghost use Rattle.mob_plane.specs.Rings.{rings_of};
@@ -9,20 +9,20 @@ use mob_frac::Frac;
 /// A rectangle by two opposite corners.
 #[derive(Clone, Copy, Debug, Drop)]
 pub struct Corners {
-    /// Its least coordinates.
+    /// Its smallest coordinates.
     pub least: Point,
     /// Its greatest coordinates.
     pub greatest: Point,
 }
 
-/// The smaller one of two numbers.
+/// The smaller of two numbers.
 pub fn smaller(x: &Frac, y: &Frac) -> Frac
     ensures value { result ≡ smaller x.now y.now }
 {
     if y.is_before(x) { *y } else { *x }
 }
 
-/// The greater one of two numbers.
+/// The greater of two numbers.
 pub fn greater(x: &Frac, y: &Frac) -> Frac
     ensures value { result ≡ greater x.now y.now }
 {
@@ -39,7 +39,7 @@ pub fn at_point(p: &Point) -> Corners
     }
 }
 
-/// The least rectangle that has this one and a point.
+/// The smallest rectangle that contains this one and a point.
 fn widened(corners: &Corners, p: &Point) -> Corners
     ensures value { result ≡ widened corners.now p.now }
 {
@@ -55,7 +55,7 @@ fn widened(corners: &Corners, p: &Point) -> Corners
     }
 }
 
-/// The least rectangle that has this one and the points of a ring.
+/// The smallest rectangle that contains this one and the points of a ring.
 fn over_ring(first: &Corners, ring: &[Point]) -> Corners
     ensures value { result ≡ fold widened first.now ring.now }
 {
@@ -66,7 +66,7 @@ fn over_ring(first: &Corners, ring: &[Point]) -> Corners
     corners
 }
 
-/// The least rectangle that has this one and the points of all rings.
+/// The smallest rectangle that contains this one and the points of all rings.
 pub fn over_rings(first: &Corners, rings: &[Vec<Point>]) -> Corners
     ensures value { result ≡ fold widened first.now (all_points (rings_of rings.now)) }
 {

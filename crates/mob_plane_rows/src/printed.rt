@@ -2,9 +2,10 @@
 // formula where a part of it does not fit.
 
 use mob_frac::Frac;
+use mob_list::fault::Fault;
 use mob_literal::write_field;
 use mob_scalar::Epoch;
-use mob_slice::{Formula, Moving, OpFault, Passed, PlaneLine};
+use mob_slice::{Formula, Moving, PlaneLine};
 use mob_value::Value;
 use std::alloc::Global;
 
@@ -26,16 +27,16 @@ fn is_printed(alloc: Global, value: &Value, wanted: &str) -> bool {
 }
 
 // Whether the fault names that formula.
-fn is_fault(fault: &OpFault, wanted: &str) -> bool {
+fn is_fault(fault: &Fault<Formula>, wanted: &str) -> bool {
     match fault {
-        OpFault::Passed { formula } => wanted == name(*formula),
-        OpFault::NoMemory => false,
+        Fault::Because(formula) => wanted == name(*formula),
+        Fault::NoMemory => false,
     }
 }
 
 pub fn is_left(
     alloc: Global,
-    answer: Result<Option<Moving<PlaneLine>>, OpFault>,
+    answer: Result<Option<Moving<PlaneLine>>, Fault<Formula>>,
     wanted: &str,
 ) -> bool {
     match answer {
@@ -45,7 +46,7 @@ pub fn is_left(
     }
 }
 
-pub fn is_settled(answer: Result<bool, OpFault>, wanted: &str) -> bool {
+pub fn is_settled(answer: Result<bool, Fault<Formula>>, wanted: &str) -> bool {
     match answer {
         Ok(true) => wanted == "t",
         Ok(false) => wanted == "f",
@@ -53,19 +54,19 @@ pub fn is_settled(answer: Result<bool, OpFault>, wanted: &str) -> bool {
     }
 }
 
-pub fn is_decision(answer: Result<Option<bool>, Passed>, wanted: &str) -> bool {
+pub fn is_decision(answer: Result<Option<bool>, Formula>, wanted: &str) -> bool {
     match answer {
         Ok(Some(true)) => wanted == "t",
         Ok(Some(false)) => wanted == "f",
         Ok(None) => wanted == "NULL",
-        Err(passed) => wanted == name(passed.formula),
+        Err(passed) => wanted == name(passed),
     }
 }
 
-pub fn is_answer(alloc: Global, answer: Result<Option<Frac>, Passed>, wanted: &str) -> bool {
+pub fn is_answer(alloc: Global, answer: Result<Option<Frac>, Formula>, wanted: &str) -> bool {
     match answer {
         Ok(Some(number)) => is_printed(alloc, &Value::Number(number), wanted),
         Ok(None) => wanted == "NULL",
-        Err(passed) => wanted == name(passed.formula),
+        Err(passed) => wanted == name(passed),
     }
 }

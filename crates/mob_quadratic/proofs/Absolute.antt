@@ -1,4 +1,4 @@
--- Sizes of rationals, and the test by quotients.
+-- Absolute values of rationals, and the test by quotients.
 use Rattle.std.proofs.Common.{◌≡◌, Bool, true, false, cond, ◌||◌, ◌⊎◌, inl, inr, pos, [], ◌∷◌, arith, refl, sym, ap, ◌∙◌, subst, true≢false}
 use Rattle.mob_ratio.specs.Ratio.{Ratio, neg_ℚ, ◌*ℚ◌, ◌/ℚ◌, ◌<ℚ◌, ◌≤ℚ◌}
 use Rattle.mob_ratio.specs.Order.{before, up_to, same}
@@ -70,13 +70,13 @@ size_above_by a ne false false ep eq = absurd (ne (before-neither a nil ep eq))
 pub size_above : (a : Ratio) → (a ≡ nil → ⊥) → nil <ℚ absolute a
 size_above a ne = size_above_by a ne _ _ refl refl
 
--- the order is kept by a product with what is above 0
+-- multiplying by a number above 0 keeps the order
 up_to_mul : (p q n : Ratio) → nil <ℚ n → up_to p q ≡ up_to (p *ℚ n) (q *ℚ n)
 up_to_mul p q n h = same_truth _ _
     (λ e. rw (le-up_to _ _ (le_mul_pos p q n (le_of_lt _ _ h) (not-up_to-le p q e))) refl)
     (λ e. rw (le-up_to _ _ (le_of_mul_pos p q n h (not-up_to-le _ _ e))) refl)
 
--- the sizes of the quotients compare as k k and a d
+-- the absolute values of the quotients compare as k·k and a·d
 pub by_sizes : (a k d : Ratio) → nil <ℚ a → (k ≡ nil → ⊥) → nil ≤ℚ d → up_to (absolute (k /ℚ a)) (absolute (d /ℚ k)) ≡ up_to (k *ℚ k) (a *ℚ d)
 by_sizes a k d ha nk hd =
     let Q = at 0 in let A = at 1 in let K = at 2 in let D = at 3 in

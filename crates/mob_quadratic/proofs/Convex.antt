@@ -56,7 +56,7 @@ square_le a = elim (cases_lt a nil) [
 ]
 
 -- ---- the quadratic
--- a times the value is least plus a square
+-- a times the value is a times the least value, plus a square
 pub complete : (a b c s : Ratio) → (a *ℚ c -ℚ b *ℚ b) +ℚ (a *ℚ s +ℚ b) *ℚ (a *ℚ s +ℚ b) ≡ a *ℚ quadratic a b c s +ℚ nil
 complete a b c s =
     let A = at 0 in let B = at 1 in let C = at 2 in let S = at 3 in
@@ -72,11 +72,11 @@ at_least a b c s e =
     let q = a *ℚ quadratic a b c s in
     ring_ℚ (k ∷ q ∷ []) Q (Q ⊕ lit (pos 0)) refl ∙ sym e ∙ ring_ℚ (k ∷ q ∷ []) (K ⊕ lit (pos 0) ⊗ lit (pos 0)) K refl
 
--- and just that where a s is -b
+-- if a·s is -b, the value is the least value
 pub taken : (a b c s : Ratio) → a *ℚ s +ℚ b ≡ nil → a *ℚ quadratic a b c s ≡ a *ℚ c -ℚ b *ℚ b
 taken a b c s e = at_least a b c s (ap (λ z. (a *ℚ c -ℚ b *ℚ b) +ℚ z *ℚ z) (sym e) ∙ complete a b c s)
 
--- from a slope that is not below 0 on, it does not fall
+-- from a slope of at least 0 on, it does not fall
 pub rises : (a b c s : Ratio) → nil ≤ℚ a → nil ≤ℚ b → nil ≤ℚ s → c ≤ℚ quadratic a b c s
 rises a b c s ha hb hs =
     let A = at 0 in let B = at 1 in let C = at 2 in let S = at 3 in
@@ -84,7 +84,7 @@ rises a b c s ha hb hs =
     (add_le _ _ (mul_le s (b +ℚ b) hs (add_le b b hb hb)) (mul_le (s *ℚ s) a (square_le s) ha))
     (ring_ℚ (a ∷ b ∷ c ∷ s ∷ []) (C ⊕ (S ⊗ (B ⊕ B) ⊕ (S ⊗ S) ⊗ A)) (((C ⊕ S ⊗ (B ⊕ B)) ⊕ (S ⊗ S) ⊗ A) ⊕ lit (pos 0)) refl)
 
--- and rises, if it does at all
+-- from a slope of at least 0 on, it rises at once if it rises at all
 pub rises_above : (a b c s : Ratio) → nil ≤ℚ b → nil <ℚ s → s ≤ℚ one → c <ℚ at_one a b c → c <ℚ quadratic a b c s
 rises_above a b c s hb hs ht h =
     let A = at 0 in let B = at 1 in let C = at 2 in let S = at 3 in
@@ -92,7 +92,7 @@ rises_above a b c s hb hs ht h =
     (add_lt_le _ _ (mul_lt (s *ℚ s) (at_one a b c -ℚ c) (mul_lt s s hs hs) (sub_lt _ _ h)) (mul_le (s *ℚ (b +ℚ b)) (one -ℚ s) (mul_le s (b +ℚ b) (le_of_lt _ _ hs) (add_le b b hb hb)) (sub_le s one ht)))
     (ring_ℚ (a ∷ b ∷ c ∷ s ∷ []) (C ⊕ ((S ⊗ S) ⊗ (((C ⊕ (B ⊕ B)) ⊕ A) ⊖ C) ⊕ (S ⊗ (B ⊕ B)) ⊗ (lit (pos 1) ⊖ S))) (((C ⊕ S ⊗ (B ⊕ B)) ⊕ (S ⊗ S) ⊗ A) ⊕ lit (pos 0)) refl)
 
--- the same from the other end
+-- the same, from the other end
 abbrev pub back : Ratio → Ratio → Ratio
 back a b = neg_ℚ (a +ℚ b)
 
@@ -153,7 +153,7 @@ below_by a b c m s ha hc hl h e hn =
           (ring_ℚ (s ∷ n ∷ d ∷ at_one a b c ∷ c ∷ []) ((C ⊕ S ⊗ (L ⊖ C)) ⊕ (S ⊕ (S ⊗ D ⊕ S ⊗ C))) (C ⊕ S ⊗ ((D ⊕ L) ⊕ lit (pos 1))) refl ∙ ap (λ z. c +ℚ z) e ∙ ring_ℚ (s ∷ n ∷ d ∷ at_one a b c ∷ c ∷ m ∷ []) (C ⊕ (M ⊖ C)) (M ⊕ lit (pos 0)) refl));
     }
 
--- below each infimum above the first value there is a value, strictly in_unit
+-- for each bound above the first value, there is a value below it strictly inside
 pub below_first : (a b c m : Ratio) → nil ≤ℚ a → nil ≤ℚ c → nil ≤ℚ at_one a b c → c <ℚ m → (s : Ratio) × IsBelowInside a b c m s
 below_first a b c m ha hc hl h =
     let d = m -ℚ c in
@@ -161,7 +161,7 @@ below_first a b c m ha hc hl h =
     let hn : nil <ℚ n = lt_trans nil (d +ℚ at_one a b c) n (add_lt_le d (at_one a b c) (sub_lt c m h) hl) (above_one _) in
     (d /ℚ n, below_by a b c m (d /ℚ n) ha hc hl h (div-mul d n (above_ne n hn)) hn)
 
--- and so at the other end
+-- the same at the other end
 pub below_last : (a b c m : Ratio) → nil ≤ℚ a → nil ≤ℚ c → nil ≤ℚ at_one a b c → at_one a b c <ℚ m → (s : Ratio) × IsBelowInside a b c m s
 below_last a b c m ha hc hl h =
     let f = below_first a (back a b) (at_one a b c) m ha hl (rw (mirror_last a b c) hc) h in

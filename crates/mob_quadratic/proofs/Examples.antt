@@ -19,7 +19,7 @@ least_one : infimum (whole (pos 4)) (whole (negsuc 1)) (whole (pos 2)) ≡ whole
 unfolding over gcd gcd_steps in_lowest_terms whole ◌+ℚ◌ neg_ℚ ◌*ℚ◌ inverse turned before
 least_one = refl
 
--- it is at most 1, with neither end, and nowhere at most 1/2
+-- it is at most 1 with both ends excluded, and never at most 1/2
 reaches_one : reaches (whole (pos 4)) (whole (negsuc 1)) (whole (pos 2)) (whole (pos 1)) false false ≡ true
 unfolding over gcd gcd_steps in_lowest_terms whole ◌+ℚ◌ neg_ℚ ◌*ℚ◌ before
 reaches_one = refl
@@ -28,8 +28,8 @@ misses_half : reaches (whole (pos 4)) (whole (negsuc 1)) (whole (pos 2)) (over (
 unfolding over gcd gcd_steps in_lowest_terms whole ◌+ℚ◌ neg_ℚ ◌*ℚ◌ before
 misses_half = refl
 
--- s·s is 0 at 0 alone: where 0 does not count it is nowhere at most 0, and 0 is its greatest lower
--- bound all the same
+-- s·s is 0 at 0 alone: with 0 excluded it is never at most 0, and 0 is still its greatest lower
+-- bound
 end_counts : reaches (whole (pos 1)) (whole (pos 0)) (whole (pos 0)) (whole (pos 0)) true false ≡ true
 unfolding over gcd gcd_steps in_lowest_terms whole ◌+ℚ◌ neg_ℚ ◌*ℚ◌ before
 end_counts = refl
@@ -42,7 +42,7 @@ approached_end : infimum (whole (pos 1)) (whole (pos 0)) (whole (pos 0)) ≡ who
 unfolding over gcd gcd_steps in_lowest_terms whole ◌+ℚ◌ neg_ℚ ◌*ℚ◌ inverse turned before
 approached_end = refl
 
--- a level function at exactly the bound counts everywhere between
+-- a constant function equal to the bound reaches it everywhere inside
 level : reaches (whole (pos 0)) (whole (pos 0)) (whole (pos 9)) (whole (pos 9)) false false ≡ true
 unfolding over gcd gcd_steps in_lowest_terms whole ◌+ℚ◌ neg_ℚ ◌*ℚ◌ before
 level = refl

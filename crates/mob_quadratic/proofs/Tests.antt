@@ -1,4 +1,4 @@
--- The decision by signs is exact.
+-- The test by signs is exact.
 use Rattle.std.proofs.Common.{◌≡◌, Bool, true, false, cond, ◌&&◌, ◌||◌, ◌⊎◌, ◌↔◌, inl, inr, pos, [], ◌∷◌, arith, refl, sym, ap, ◌∙◌, subst, true≢false}
 use Rattle.mob_ratio.specs.Ratio.{Ratio, over, ◌+ℚ◌, ◌-ℚ◌, neg_ℚ, ◌*ℚ◌, ◌/ℚ◌, ◌<ℚ◌, ◌≤ℚ◌}
 use Rattle.mob_ratio.specs.Order.{before, up_to}
@@ -16,7 +16,7 @@ use Rattle.mob_quadratic.proofs.Convex.{above_ne, mul_le, add_le, sub_le, sub_lt
 le-up_to' : (s t : Ratio) → s ≤ℚ t → up_to s t ≡ true
 le-up_to' s t h = rw (le-up_to s t h) refl
 
--- ---- in the piece
+-- ---- inside the interval
 strictly_within : (li ui : Bool) (s : Ratio) → nil <ℚ s → s <ℚ one → in_unit li ui s ≡ true
 strictly_within li ui s h k = rw (lt-before nil s h, lt-before s one k) refl
 
@@ -32,7 +32,7 @@ within_lower li ui s h = up_to-le nil s (grind (arith, h, before-back nil s))
 within_upper : (li ui : Bool) (s : Ratio) → in_unit li ui s ≡ true → s ≤ℚ one
 within_upper li ui s h = up_to-le s one (grind (arith, h, before-back s one))
 
--- ---- what the tests say gives an instant
+-- ---- a true test gives an instant
 from_below : (a b c d : Ratio) (li ui : Bool) → (s : Ratio) × IsBelowInside a b c d s → (s : Ratio) × IsAtMost a b c d li ui s
 from_below a b c d li ui (s, f) = (s, record { inside = strictly_within li ui s f.after f.until; near = le-up_to' _ _ (le_of_lt _ _ f.below) })
 
@@ -62,7 +62,7 @@ at_both a b c d li ui ha h k =
       },
     )
 
--- where the least value lies
+-- the place of the least value
 pub record IsInner (a b c s : Ratio) : Type 0 where
   pub positive : nil <ℚ a
   pub after : nil <ℚ s
@@ -109,7 +109,7 @@ at_inner a b c d li ui h k =
       },
     )
 
--- one of six
+-- one of six cases holds
 pub some : (a b c d : Ratio) (li ui : Bool) → nil ≤ℚ a → nil ≤ℚ c → nil ≤ℚ at_one a b c → (p q : Bool) → before c d ≡ p → before (at_one a b c) d ≡ q → (r s t v : Bool) → (li && up_to c d) ≡ r → (ui && up_to (at_one a b c) d) ≡ s → (up_to c d && up_to (at_one a b c) d) ≡ t → (dips a b && up_to (scaled_least a b c) (a *ℚ d)) ≡ v → (p || q || r || s || t || v) ≡ true → (s : Ratio) × IsAtMost a b c d li ui s
 some a b c d li ui ha hc hl true q ep eq r s t v er es et ev h = from_below a b c d li ui (below_first a b c d ha hc hl (before-lt c d ep))
 some a b c d li ui ha hc hl false true ep eq r s t v er es et ev h = from_below a b c d li ui (below_last a b c d ha hc hl (before-lt _ d eq))
@@ -121,8 +121,8 @@ some a b c d li ui ha hc hl false false ep eq false false true v er es et ev h =
 some a b c d li ui ha hc hl false false ep eq false false false true er es et ev h = at_inner a b c d li ui (grind (arith, ev)) (grind (arith, ev))
 some a b c d li ui ha hc hl false false ep eq false false false false er es et ev h = absurd (true≢false (sym h))
 
--- ---- and an instant gives one of the tests
--- from a slope that is not below 0 on
+-- ---- an instant makes one of the tests true
+-- from a slope of at least 0 on
 pub record IsLeft (c e d : Ratio) (li : Bool) : Type 0 where
   pub at_most : c ≤ℚ d
   pub how : ((c <ℚ d) ⊎ (li ≡ true)) ⊎ (e ≤ℚ d)
@@ -198,7 +198,7 @@ decided a b c d li ui ha hc hl = (
   (λ f. each_by a b c d li ui f.0 ha f.1 _ _ refl refl),
 )
 
--- ---- the greatest lower infimum
+-- ---- the greatest lower bound
 under : (a b c n : Ratio) (li ui : Bool) → (s : Ratio) × IsBelowInside a b c n s → (s : Ratio) × IsUnderAt a b c n li ui s
 under a b c n li ui (s, f) = (s, record { inside = strictly_within li ui s f.after f.until; under = lt-before _ _ f.below })
 

@@ -1,4 +1,4 @@
--- The values of a line between two of its points, and how they come near its limits.
+-- The values of a line between two of its points, and how closely they approach its limits.
 use Rattle.std.proofs.Common.{◌≡◌, Bool, true, false, ℤ, pos, negsuc, ◌+ℤ◌, neg_ℤ, ◌*ℤ◌, ◌<ℤ◌, ◌≤ℤ◌, refl, arith}
 use Rattle.mob_ratio.specs.Ratio.{Ratio, ◌<ℚ◌, ◌≤ℚ◌}
 use Rattle.mob_ratio.specs.Order.{before, up_to}
@@ -61,11 +61,12 @@ falling_inside = clear6 _ (λ D l x0 u x1 t x p k a b c.
     let n = simp products at (lt_mul x1 x0 (u +ℤ neg_ℤ t) (omega (arith, linear)) c') in
     (simp fractions (lt_of_mul x1 x (u +ℤ neg_ℤ l) d (simp products (omega (arith, linear)))), simp fractions (lt_of_mul x x0 (u +ℤ neg_ℤ l) d (simp products (omega (arith, linear))))))
 
--- the instant at which a line has a number is on the line with numbers and instants exchanged
+-- the line with values and instants exchanged: it maps a value to the instant at which the line has
+-- it
 turned : (l x0 u x1 t x : Ratio) → IsOnLine x0 l x1 u x t → IsOnLine l x0 u x1 t x
 turned = clear6 _ (λ D l x0 u x1 t x p k. let k' = simp cleared at k.is in record { is = simp cleared (omega (arith, linear)) })
 
--- a line goes both ways
+-- a line read from its other end is the same line
 flipped : (l x0 u x1 t x : Ratio) → IsOnLine u x1 l x0 t x → IsOnLine l x0 u x1 t x
 flipped = clear6 _ (λ D l x0 u x1 t x p k. let k' = simp cleared at k.is in record { is = simp cleared (omega (arith, linear)) })
 
@@ -92,7 +93,7 @@ pub record HasInside (x0 x1 l u y : Ratio) : Type 0 where
   pub until : before at u ≡ true
   pub is : line_at x0 x1 l u at ≡ y
 
--- a line has each number strictly between its limits strictly between its ends
+-- a line takes each value strictly between its limits, at an instant strictly between its ends
 pub rises_through : (x0 x1 l u y : Ratio) → before l u ≡ true → before x0 y ≡ true → before y x1 ≡ true → HasInside x0 x1 l u y
 rises_through x0 x1 l u y h a b =
     let t = line_at l u x0 x1 y in
@@ -143,7 +144,7 @@ middle_above x0 x1 l u c h a b = let m = between l u h in record { at = m.0; aft
     by_test t w true e = above c x1 (line_at x0 x1 l u t) b (w.falling (until_test x1 x0 e)).0
     by_test t w false e = above c x0 (line_at x0 x1 l u t) a (w.rising (grind (arith, e))).0
 
--- A line whose limit is below c is below c at some instant strictly between its ends.
+-- A line that starts below c is below c at some instant strictly between its ends.
 pub start_below : (x0 x1 l u c : Ratio) → before l u ≡ true → before x0 c ≡ true → HasBelow x0 x1 l u c
 start_below x0 x1 l u c h a = by_test (before x1 c) refl
   where
@@ -164,7 +165,7 @@ end_below x0 x1 l u c h a = by_test (before x0 c) refl
         let i = falls_through x0 x1 l u y.0 h y.1 (above y.0 c x0 y.2 (grind (arith, e))) in
         record { at = i.at; after = i.after; until = i.until; is = rw i.is y.2 }
 
--- And one whose limit is above c is above it at some instant there.
+-- A line that starts above c is above it at some instant there.
 pub start_above : (x0 x1 l u c : Ratio) → before l u ≡ true → before c x0 ≡ true → HasAbove x0 x1 l u c
 start_above x0 x1 l u c h a = by_test (before c x1) refl
   where

@@ -11,7 +11,7 @@ use Rattle.mob_value.specs.Null.{value_or_null}
 use Rattle.mob_value.specs.Types.{read_as}
 use Rattle.mob_meaning.specs.Scene.{scene, rows_of_place, row_of_number, leaf_value}
 use Rattle.mob_meaning.specs.Operators.{GivesOfOne, OperatorGives}
-use Rattle.mob_meaning.specs.Evaluation.{Fault, stop_of, TreeEvaluatesTo, OperandsEvaluateTo}
+use Rattle.mob_meaning.specs.Evaluation.{PlacedFormula, stop_of, TreeEvaluatesTo, OperandsEvaluateTo}
 use Rattle.mob_remembered.specs.Depends.{reads, names, any_names, AgreeFor, OutcomesDepend, RowsDecide}
 
 either_left : (a b : Bool) → a ≡ true → (a || b) ≡ true
@@ -45,13 +45,13 @@ module _ (store : Store) (from : List ℕ) (day : ℤ) (p q : List ℕ) where
   gives_same o ty ts (a ∷ c ∷ d ∷ e ∷ rest) v b h = h
 
   mutual
-    pub outcome_same : (e : TypedTree) (r : Result Value Fault) → AgreeFor e p q → TreeEvaluatesTo (scene store from p day) e r → TreeEvaluatesTo (scene store from q day) e r
+    pub outcome_same : (e : TypedTree) (r : Result Value PlacedFormula) → AgreeFor e p q → TreeEvaluatesTo (scene store from p day) e r → TreeEvaluatesTo (scene store from q day) e r
     outcome_same (typed o ty at args) (Ok v) b h =
         (h.0, operands_same (stop_of o) args (Ok (h.0)) (λ i n. b i (either_right (reads i o) (any_names i args) n)) h.1, h.2, gives_same o ty (arg_types args) h.0 v (λ i n. b i (either_left (reads i o) (any_names i args) n)) h.3)
     outcome_same (typed o ty at args) (Err f) b (inl h) = inl (operands_same (stop_of o) args (Err f) (λ i n. b i (either_right (reads i o) (any_names i args) n)) h)
     outcome_same (typed o ty at args) (Err f) b (inr h) = inr (h.0, operands_same (stop_of o) args (Ok (h.0)) (λ i n. b i (either_right (reads i o) (any_names i args) n)) h.1, h.2, h.3)
 
-    operands_same : (stop : Option Bool) (args : TypedTrees) (r : Result (List Value) Fault) → ((i : ℕ) → any_names i args ≡ true → slice_get p i ≡ slice_get q i) → OperandsEvaluateTo (scene store from p day) stop args r → OperandsEvaluateTo (scene store from q day) stop args r
+    operands_same : (stop : Option Bool) (args : TypedTrees) (r : Result (List Value) PlacedFormula) → ((i : ℕ) → any_names i args ≡ true → slice_get p i ≡ slice_get q i) → OperandsEvaluateTo (scene store from p day) stop args r → OperandsEvaluateTo (scene store from q day) stop args r
     operands_same stop none (Ok vs) b h = h
     operands_same stop none (Err f) b h = h
     operands_same stop (more e rest) (Ok []) b h = h

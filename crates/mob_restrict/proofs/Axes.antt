@@ -31,7 +31,7 @@ coordinate_head : (axis : Axis) (s : Slice PlaneLine) (v : List (Slice PlaneLine
 coordinate_head axis s [] h = tt
 coordinate_head axis s (r ∷ v) h = h
 
--- the lines of a coordinate stand on the same spans
+-- the lines of a coordinate have the same spans
 pub coordinate_ordered : (axis : Axis) (v : List (Slice PlaneLine)) → IsOrdered plane_start plane_end v → IsOrdered line_start line_end (map (coordinate_line axis) v)
 coordinate_ordered axis [] h = tt
 coordinate_ordered axis (s ∷ v) h = (record { some = h.0.some; level = λ n. ap (coordinate_of axis) (h.0.level n) }, coordinate_head axis s v h.1, coordinate_ordered axis v h.2)
@@ -56,7 +56,7 @@ pub not_empty : (axis : Axis) (v : List (Slice PlaneLine)) → v ≢ [] → map 
 not_empty axis [] h = λ e. h refl
 not_empty axis (s ∷ v) h = λ e. cc
 
--- at the end of the walk all are made
+-- at the end of the walk, all lines are made
 pub all_lines : (axis : Axis) (v w : List (Slice PlaneLine)) (o : List (Slice Line)) (i : ℕ) → v ≡ w → length v ≤ i → o ++ map (coordinate_line axis) (drop i v) ≡ map (coordinate_line axis) v → o ≡ map (coordinate_line axis) w
 all_lines axis v w o i e h k =
     let none : drop i v ≡ [] = drop_all i v h in

@@ -1,4 +1,4 @@
--- What is cut out of a temporal value.
+-- The parts cut out of a temporal value.
 use Rattle.std.specs.Prelude.{◌≡◌, Bool, true, List, [], ◌∷◌, map, Option, Some, None, option_map, Result, Ok, Err, MatchResult, IfOk, refl}
 use Rattle.std.specs.List.{flat_map, AllByRecursion}
 use Rattle.std.specs.Iterator.{Yields, Drains, YieldsFirstBy}
@@ -18,13 +18,12 @@ use Rattle.mob_slice.specs.Operands.{map_both}
 use Rattle.mob_slice.specs.Look.{IsLookFault}
 use Rattle.mob_slice.specs.Cut.{slice_value, slice_parts}
 use Rattle.mob_slice.specs.Sides.{at_ends, HasValues}
-use Rattle.mob_slice.specs.Entries.{IsFirst, IsJudged, OnFormula, operator_fault}
+use Rattle.mob_list.specs.Faults.{OnCause}
+use Rattle.mob_slice.specs.Entries.{IsFirst, IsJudged}
 use Rattle.mob_slice.specs.declared.slice.Slice.{Slice}
 use Rattle.mob_slice.specs.declared.formula.Formula.{Formula}
-use Rattle.mob_slice.specs.declared.formula.OpFault.{OpFault}
-use Rattle.mob_slice.specs.declared.formula.OpFault.TheVariants.{Passed as OpPassed, NoMemory as OpNoMemory}
-use Rattle.mob_slice.specs.declared.formula.LookFault.{LookFault}
-use Rattle.mob_slice.specs.declared.formula.LookFault.TheVariants.{Passed, NoMemory}
+use Rattle.mob_list.specs.declared.fault.Fault.{Fault}
+use Rattle.mob_list.specs.declared.fault.Fault.TheVariants.{Because, NoMemory}
 use Rattle.mob_slice.proofs.LookUps.{value_by}
 use Rattle.mob_slice.proofs.Orders.{all_sound}
 use Rattle.mob_slice.proofs.Yielded.{drained}
@@ -37,13 +36,13 @@ use Rattle.mob_lift.proofs.Judged.{judged}
 use Rattle.mob_cells.specs.Restricted.{where_wanted, AreRestricted}
 use Rattle.mob_restrict.specs.Cuts.{entry_of_cut}
 
--- one cut, or why it was not given
+-- one cut, or the reason why it failed
 module _ {C : Type 0} (lines : C → Ratio → Ratio → Ratio → List Ratio) (p : PieceOf (Slice C) SpanOf) where
-  pub cut_fails : (copies : Bool) (f : LookFault) → IsLookFault copies (at_ends (slice_parts lines p.left) p.span) f → OnFormula (λ f. IsFirst (entry_of_cut lines p) (Some f)) (operator_fault f)
-  cut_fails copies (Passed f) h = inr (h.1, ap Some h.0)
+  pub cut_fails : (copies : Bool) (f : Fault Formula) → IsLookFault copies (at_ends (slice_parts lines p.left) p.span) f → OnCause (λ f. IsFirst (entry_of_cut lines p) (Some f)) f
+  cut_fails copies (Because f) h = inr (h.1, ap Some h.0)
   cut_fails copies NoMemory h = tt
 
-  pub cut_given : {B V : Type 0} (value : C → Ratio → Ratio → Ratio → B) (start end : C → B) (items : V → List (Slice C)) (s : Slice C) (r : Result V OpFault) → HasValues value start end (slice_value value p.left) p.span s → AllFit (at_ends (slice_parts lines p.left) p.span) → MatchResult r (λ v. items v ≡ s ∷ []) (λ e. e ≡ OpNoMemory) → IsGiven value start end items (slice_value value p.left) p.span (entry_of_cut lines p) r
+  pub cut_given : {B V : Type 0} (value : C → Ratio → Ratio → Ratio → B) (start end : C → B) (items : V → List (Slice C)) (s : Slice C) (r : Result V (Fault Formula)) → HasValues value start end (slice_value value p.left) p.span s → AllFit (at_ends (slice_parts lines p.left) p.span) → MatchResult r (λ v. items v ≡ s ∷ []) (λ e. e ≡ NoMemory) → IsGiven value start end items (slice_value value p.left) p.span (entry_of_cut lines p) r
   cut_given value start end items s (Ok v) h k m = (one_on value start end (slice_value value p.left) p.span s (items v) m h, inl (k, refl))
   cut_given value start end items s (Err g) h k m = rw m tt
 
@@ -51,7 +50,7 @@ all_units : (rs : List SpanOf) → AllByRecursion (λ r. Unit {0}) rs
 all_units [] = tt
 all_units (r ∷ rs) = (tt, all_units rs)
 
--- the slices of the pieces hold them
+-- the slices of the pieces contain them
 pub met_hold : {C B : Type 0} (start end : C → B) (v : List (Slice C)) (spans : List SpanOf) → IsOrdered start end v → AllByRecursion (HoldsMet start end) (shared_pieces (λ s. s.span) (λ r. r) v spans)
 met_hold {C} start end v spans h = firsts (shared_pieces (λ s. s.span) (λ r. r) v spans) (meets_hold (λ s. s.span) (λ r. r) (IsSound start end) (λ r. Unit {0}) v spans (all_sound start end v h) (all_units spans))
   where
@@ -92,10 +91,10 @@ module _ {C B P V I W : Type 0} (value : C → Ratio → Ratio → Ratio → B) 
         ∙ wanted_there (value_at value v t) (piece_at (λ r. r) spans t) (in_some spans t) (there (λ r. r) spans t);
   }
 
-  -- what the cuts of all pieces say of the whole
-  pub whole_within : (r : Result W OpFault)
+  -- the result for the whole, from the cuts of all pieces
+  pub whole_within : (r : Result W (Fault Formula))
       → IfOk r (λ all. (ps : List P) × Drains (YieldsFirstBy view rest) walk ps × IsPiecewise value start end span items gives ps (list all))
-      → ((f : Formula) → r ≡ Err (OpPassed f) → (ps : List P) × (t : I) × Yields (YieldsFirstBy view rest) walk ps t × IsFirstFailure gives (fails f) ps)
+      → ((f : Formula) → r ≡ Err (Because f) → (ps : List P) × (t : I) × Yields (YieldsFirstBy view rest) walk ps t × IsFirstFailure gives (fails f) ps)
       → IfOk r (λ all. AreRestricted value start end true (λ t x. in_some spans t) v (list all)) × IsJudged (flat_map (entry_of_cut lines) (shared_pieces (λ s. s.span) (λ r. r) v spans)) r
   whole_within r h k = (
     IfOk-weaker r _ _ (λ all n. within_values n.0 (list all) (drained view rest walk n.0 n.1) n.2) h,

@@ -1,5 +1,4 @@
--- A temporal value at the instants that a set has not, by the remainders that the set leaves of its
--- time.
+-- A temporal value at the instants that are not in a set, by the remainders of its time.
 use Rattle.std.specs.Prelude.{◌≡◌, ◌⊎◌, Bool, true, false, cond, ◌&&◌, not, List, [], ◌∷◌, ◌++◌, map, Option, Some, None, Result, Ok, Err, refl, suc, ◌^◌, nat_abs}
 use Rattle.std.specs.List.{flat_map, filter, AllByRecursion}
 use Rattle.std.proofs.Common.{ap, sym, ◌∙◌, subst, inl, inr, ⊎_elim, true≢false, arith}
@@ -25,14 +24,14 @@ use Rattle.mob_slice.specs.Entries.{IsFirst, IsJudged}
 use Rattle.mob_slice.specs.declared.slice.Slice.{Slice}
 use Rattle.mob_slice.specs.declared.formula.Formula.{Formula}
 use Rattle.mob_slice.specs.declared.formula.Formula.TheVariants.{F1}
-use Rattle.mob_slice.specs.declared.formula.OpFault.{OpFault}
-use Rattle.mob_slice.specs.declared.formula.OpFault.TheVariants.{Passed, NoMemory}
+use Rattle.mob_list.specs.declared.fault.Fault.{Fault}
+use Rattle.mob_list.specs.declared.fault.Fault.TheVariants.{Because, NoMemory}
 use Rattle.mob_slice.proofs.Cuts.{all_both, all_first, all_second}
 use Rattle.mob_lifted.proofs.Options.{none_some}
 use Rattle.mob_cells.specs.Restricted.{where_wanted, AreRestricted}
 use Rattle.mob_restrict.specs.Cuts.{entry_of_cut}
 
--- a value is defined in its time alone
+-- a value is defined only within its time
 gone : {C B : Type 0} (value : C → Ratio → Ratio → Ratio → B) (h : SpanOf) (v : List (Slice C)) (t : Ratio) → AllByRecursion (λ s. is_inside h s.span ≡ true) v → has h t ≡ false → value_at value v t ≡ None
 gone value h [] t a n = refl
 gone value h (s ∷ v) t a n = rw (inside_has h s.span t a.0 n) (gone value h v t a.1 n)
@@ -42,8 +41,7 @@ by_hull o false w f = rw (f refl) refl
 by_hull None true w f = refl
 by_hull (Some x) true w f = refl
 
--- what it has at the remainders that the set leaves of its time is what it has at the instants that
--- the set has not
+-- its values in the remainders of its time are its values at the instants outside the set
 pub outside_values : {C B : Type 0} (value : C → Ratio → Ratio → Ratio → B) (start end : C → B) (v slices : List (Slice C)) (h : SpanOf) (spans remainders : List SpanOf) → AllByRecursion (λ s. is_inside h s.span ≡ true) v → AreRemainders h spans remainders → AreRestricted value start end true (λ t x. in_some remainders t) v slices → AreRestricted value start end false (λ t x. in_some spans t) v slices
 outside_values value start end v slices h spans remainders a g r = record {
   ordered = r.ordered;
@@ -79,13 +77,13 @@ module _ {C : Type 0} (parts : C → Ratio → Ratio → Ratio → List Ratio) w
   first_fails [] n = absurd (n tt)
   first_fails (p ∷ ps) n = ⊎_elim (λ m. inl (m, first_fails ps (λ k. n (m, k)))) (λ m. inr (m, refl)) (parts_or (at_ends (slice_parts parts p.left) p.span))
 
-  -- cuts that fit together are judged alike
-  judged_alike : {V : Type 0} (ps qs : List (PieceOf (Slice C) SpanOf)) (r : Result V OpFault) → (CutsFit ps → CutsFit qs) → (CutsFit qs → CutsFit ps) → IsJudged (flat_map (entry_of_cut parts) ps) r → IsJudged (flat_map (entry_of_cut parts) qs) r
+  -- if two lists of cuts fit or fail together, they give the same error
+  judged_alike : {V : Type 0} (ps qs : List (PieceOf (Slice C) SpanOf)) (r : Result V (Fault Formula)) → (CutsFit ps → CutsFit qs) → (CutsFit qs → CutsFit ps) → IsJudged (flat_map (entry_of_cut parts) ps) r → IsJudged (flat_map (entry_of_cut parts) qs) r
   judged_alike ps qs (Ok v) f g h = none_first qs (f (cuts_fit ps h))
-  judged_alike ps qs (Err (Passed e)) f g h = let m = one_fails ps e h in subst (λ o. IsFirst (flat_map (entry_of_cut parts) qs) o) (sym m.0) (first_fails qs (λ k. m.1 (g k)))
+  judged_alike ps qs (Err (Because e)) f g h = let m = one_fails ps e h in subst (λ o. IsFirst (flat_map (entry_of_cut parts) qs) o) (sym m.0) (first_fails qs (λ k. m.1 (g k)))
   judged_alike ps qs (Err NoMemory) f g h = tt
 
-  -- the cuts of one slice, at the ends of what it shares with each span
+  -- the cuts of one slice, at the ends of its intersection with each span
   abbrev SliceFits : Slice C → List SpanOf → Type 0
   SliceFits s rs = AllByRecursion (λ r. has_instant (meet_of s.span r) ≡ true → AllFit (slice_parts parts s (meet_of s.span r).lower) × AllFit (slice_parts parts s (meet_of s.span r).upper)) rs
 
@@ -113,7 +111,7 @@ module _ {C : Type 0} (parts : C → Ratio → Ratio → Ratio → List Ratio) w
   fit_front [] qs h = (tt, h)
   fit_front (p ∷ ps) qs h = let m = fit_front ps qs h.1 in ((h.0, m.0), m.1)
 
-  -- where each slice is cut alike by two lists of spans, so is the whole
+  -- if two lists of spans cut each slice at the same instants, they cut the whole so
   cut_alike : (v : List (Slice C)) (rs ws : List SpanOf) (h : SpanOf) → AllByRecursion (λ s. is_inside h s.span ≡ true) v → ((s : Slice C) → is_inside h s.span ≡ true → SliceFits s rs → SliceFits s ws) → CutsFit (shared_pieces (λ s. s.span) (λ r. r) v rs) → CutsFit (shared_pieces (λ s. s.span) (λ r. r) v ws)
   cut_alike [] rs ws h a f k = tt
   cut_alike (s ∷ v) rs ws h a f k =
@@ -127,9 +125,8 @@ module _ {C B : Type 0} {steady copies : Bool} {value : C → Ratio → Ratio �
   own_high : (s : Slice C) → AllFit (slice_parts parts s s.span.upper)
   own_high s = subst AllFit (sym (laws.upper_parts s.course s.span.lower s.span.upper)) tt
 
-  -- The remainders that a set leaves of the time of a value cut it where the set does. So what is
-  -- judged by the ones is judged by the other.
-  pub judged_by_set : {V : Type 0} (v : List (Slice C)) (spans remainders : List SpanOf) (h : SpanOf) (r : Result V OpFault) → AllByRecursion (λ s. is_inside h s.span ≡ true) v → has_instant h ≡ true → IsSpanSet spans → remainders ≡ remainders_of h spans
+  -- The remainders of the time of a value cut it where the set does. So both give the same error.
+  pub judged_by_set : {V : Type 0} (v : List (Slice C)) (spans remainders : List SpanOf) (h : SpanOf) (r : Result V (Fault Formula)) → AllByRecursion (λ s. is_inside h s.span ≡ true) v → has_instant h ≡ true → IsSpanSet spans → remainders ≡ remainders_of h spans
       → IsJudged (flat_map (entry_of_cut parts) (shared_pieces (λ s. s.span) (λ r. r) v remainders)) r → IsJudged (flat_map (entry_of_cut parts) (shared_pieces (λ s. s.span) (λ r. r) v spans)) r
   judged_by_set v spans remainders h r a i o e j =
       judged_alike parts (shared_pieces (λ s. s.span) (λ r. r) v (remainders_of h spans)) (shared_pieces (λ s. s.span) (λ r. r) v spans) r

@@ -12,7 +12,7 @@ use Rattle.mob_slice.specs.declared.slice.Slice.{Slice}
 abbrev pub spans_of : {C : Type 0} → List (Slice C) → List SpanOf
 spans_of v = map (λ s. s.span) v
 
--- they have exactly the instants at which there is a value
+-- they have exactly the instants at which the value is defined
 pub spans_at : {C B : Type 0} (value : C → Ratio → Ratio → Ratio → B) (v : List (Slice C)) (t : Ratio) → in_some (spans_of v) t ≡ is_some (value_at value v t)
 spans_at value [] t = refl
 spans_at value (s ∷ v) t = ap (λ b. has s.span t || b) (spans_at value v t) ∙ by (has s.span t)
@@ -21,7 +21,7 @@ spans_at value (s ∷ v) t = ap (λ b. has s.span t || b) (spans_at value v t) �
     by true = refl
     by false = refl
 
--- at the end of the walk all are taken
+-- at the end of the walk, all spans are taken
 pub all_taken : {C : Type 0} (v w : List (Slice C)) (o : List SpanOf) (i : ℕ) → v ≡ w → length v ≤ i → o ++ spans_of (drop i v) ≡ spans_of v → o ≡ spans_of w
 all_taken v w o i e h k =
     let none : drop i v ≡ [] = drop_all i v h in

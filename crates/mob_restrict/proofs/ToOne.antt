@@ -12,16 +12,15 @@ use Rattle.mob_slice.specs.Comparison.{IsComparison, gap_parts}
 use Rattle.mob_slice.specs.Look.{IsLookFault}
 use Rattle.mob_slice.specs.Cut.{slice_value, slice_parts}
 use Rattle.mob_slice.specs.Sides.{at_ends, HasValues}
-use Rattle.mob_slice.specs.Entries.{IsFirst, OnFormula, operator_fault, IsPartFault}
+use Rattle.mob_list.specs.Faults.{OnCause}
+use Rattle.mob_slice.specs.Entries.{IsFirst, IsPartFault}
 use Rattle.mob_slice.specs.declared.slice.Slice.{Slice}
 use Rattle.mob_slice.specs.declared.comparison.Rel.{Rel}
 use Rattle.mob_slice.specs.declared.comparison.Rel.TheVariants.{Eq}
 use Rattle.mob_slice.specs.declared.comparison.Gaps.{Gaps}
 use Rattle.mob_slice.specs.declared.comparison.Gaps.TheVariants.{Constant}
-use Rattle.mob_slice.specs.declared.formula.OpFault.{OpFault}
-use Rattle.mob_slice.specs.declared.formula.OpFault.TheVariants.{Passed, NoMemory}
-use Rattle.mob_slice.specs.declared.formula.LookFault.{LookFault}
-use Rattle.mob_slice.specs.declared.formula.LookFault.TheVariants.{Passed as LookPassed, NoMemory as LookNoMemory}
+use Rattle.mob_list.specs.declared.fault.Fault.{Fault}
+use Rattle.mob_list.specs.declared.fault.Fault.TheVariants.{Because, NoMemory}
 use Rattle.mob_cells.specs.declared.linear.Ends.{Ends}
 use Rattle.mob_cells.specs.Roots.{IsLevel}
 use Rattle.mob_cells.specs.Cells.{signs_of}
@@ -33,6 +32,7 @@ use Rattle.mob_cells.proofs.GapSigns.{by_gaps, no_gaps, gaps_level}
 use Rattle.mob_lifted.proofs.OnOnePiece.{kept_behind, one_kept}
 use Rattle.mob_cells.proofs.OwnEnds.{own_fit, start_value, end_value}
 use Rattle.mob_restrict.specs.Values.{entries_of_value, slice_gaps}
+use Rattle.mob_slice.specs.declared.formula.Formula.{Formula}
 
 module _ {C B : Type 0} {steady copies : Bool} {value : C → Ratio → Ratio → Ratio → B} {start end : C → B} {can_make : B → B → Type 0} {make : B → B → C} {continues : C → C → Ratio → Ratio → Ratio → Bool} {parts : C → Ratio → Ratio → Ratio → List Ratio} (laws : IsCourse steady copies value start end can_make make continues parts)
     {relation : Rel → B → B → Bool} {gaps : B → B → Gaps} {ordered : Bool} (comparison : IsComparison steady ordered value start end relation gaps) (s : Slice C) (sound : IsSound start end s) (x : B) where
@@ -48,8 +48,8 @@ module _ {C B : Type 0} {steady copies : Bool} {value : C → Ratio → Ratio �
   same_ends : gap_ends (gaps (start s.course) x) (gaps (end s.course) x) ≡ gap_ends (slice_gaps value gaps x s s.span.lower) (slice_gaps value gaps x s s.span.upper)
   same_ends = ap (λ g. gap_ends g (gaps (end s.course) x)) low ∙ ap (λ g. gap_ends (slice_gaps value gaps x s s.span.lower) g) high
 
-  pub gaps_fail : (f : OpFault) → IsPartFault F2 (gap_parts (gaps (start s.course) x) ++ gap_parts (gaps (end s.course) x)) f → OnFormula (λ g. IsFirst (entries_of_value value parts gaps x s) (Some g)) f
-  gaps_fail (Passed f) h = inr (subst (λ z. ¬ AllFit z) same_parts h.1, ap Some h.0)
+  pub gaps_fail : (f : Fault Formula) → IsPartFault F2 (gap_parts (gaps (start s.course) x) ++ gap_parts (gaps (end s.course) x)) f → OnCause (λ g. IsFirst (entries_of_value value parts gaps x s) (Some g)) f
+  gaps_fail (Because f) h = inr (subst (λ z. ¬ AllFit z) same_parts h.1, ap Some h.0)
   gaps_fail NoMemory h = tt
 
   pub level_gaps : (fs : List Ends) → fs ≡ gap_ends (gaps (start s.course) x) (gaps (end s.course) x) → AllByRecursion (IsLevel s.span) fs
@@ -64,7 +64,7 @@ module _ {C B : Type 0} {steady copies : Bool} {value : C → Ratio → Ratio �
         ∙ sym (by_gaps comparison moves Eq tt s.course d s.span t)
         ∙ ap (λ y. relation Eq (slice_value value s t) y) (laws.level x s.span.lower s.span.upper t)
 
-    pub lines_kept : {V : Type 0} (items : V → List (Slice C)) (q : Result V OpFault) → IsKeptBy value start end items (λ t. kept_value want (related_by Eq (signs_of s.span fs t)) (slice_value value s t)) s.span (entries_of_cuts parts s s.span fs) q → IsKeptBy value start end items (λ t. kept_value want (relation Eq (slice_value value s t) x) (slice_value value s t)) s.span (entries_of_value value parts gaps x s) q
+    pub lines_kept : {V : Type 0} (items : V → List (Slice C)) (q : Result V (Fault Formula)) → IsKeptBy value start end items (λ t. kept_value want (related_by Eq (signs_of s.span fs t)) (slice_value value s t)) s.span (entries_of_cuts parts s s.span fs) q → IsKeptBy value start end items (λ t. kept_value want (relation Eq (slice_value value s t) x) (slice_value value s t)) s.span (entries_of_value value parts gaps x s) q
     lines_kept items q m = kept_behind value start end items (λ t. kept_value want (related_by Eq (signs_of s.span fs t)) (slice_value value s t)) (λ t. kept_value want (relation Eq (slice_value value s t) x) (slice_value value s t)) s.span (entries_of_value value parts gaps x s) (entries_of_cuts parts s s.span fs) q
         (λ t i. ap (λ b. kept_value want b (slice_value value s t)) (related t))
         (λ o h. inl (subst AllFit same_parts fits, subst (λ z. IsFirst (entries_of_cuts parts s s.span z) o) (e ∙ same_ends) h)) m
@@ -88,11 +88,11 @@ module _ {C B : Type 0} {steady copies : Bool} {value : C → Ratio → Ratio �
     pub steady_nothing : (want k : Bool) (v : List (Slice C)) → k ≡ same_bool want (relation Eq (start s.course) x) → k ≡ false → v ≡ [] → AreKeptOn value start end (λ t. kept_value want (relation Eq (slice_value value s t) x) (slice_value value s t)) s.span v
     steady_nothing want k v e n m = rw m (record { ordered = tt; inside = tt; values = λ t i. ap (λ b. cond b (Some (slice_value value s t)) None) (sym n) ∙ wanted want k t e })
 
-    pub steady_fails : (f : LookFault) → IsLookFault copies (at_ends (slice_parts parts s) s.span) f → OnFormula (λ g. IsFirst (entries_of_value value parts gaps x s) (Some g)) (operator_fault f)
-    steady_fails (LookPassed f) h = absurd (h.1 (own_fit laws s))
-    steady_fails LookNoMemory h = tt
+    pub steady_fails : (f : Fault Formula) → IsLookFault copies (at_ends (slice_parts parts s) s.span) f → OnCause (λ g. IsFirst (entries_of_value value parts gaps x s) (Some g)) f
+    steady_fails (Because f) h = absurd (h.1 (own_fit laws s))
+    steady_fails NoMemory h = tt
 
-    pub steady_all : {V : Type 0} (items : V → List (Slice C)) (q : Result V OpFault) (want k : Bool) (p : Slice C) → k ≡ same_bool want (relation Eq (start s.course) x) → k ≡ true → HasValues value start end (slice_value value s) s.span p → MatchResult q (λ v. items v ≡ p ∷ []) (λ e. e ≡ NoMemory) → IsKeptBy value start end items (λ t. kept_value want (relation Eq (slice_value value s t) x) (slice_value value s t)) s.span (entries_of_value value parts gaps x s) q
+    pub steady_all : {V : Type 0} (items : V → List (Slice C)) (q : Result V (Fault Formula)) (want k : Bool) (p : Slice C) → k ≡ same_bool want (relation Eq (start s.course) x) → k ≡ true → HasValues value start end (slice_value value s) s.span p → MatchResult q (λ v. items v ≡ p ∷ []) (λ e. e ≡ NoMemory) → IsKeptBy value start end items (λ t. kept_value want (relation Eq (slice_value value s t) x) (slice_value value s t)) s.span (entries_of_value value parts gaps x s) q
     steady_all items (Ok v) want k p e n h m =
         (rw m (one_kept value start end (λ t. kept_value want (relation Eq (slice_value value s t) x) (slice_value value s t)) (slice_value value s) s.span p h (λ t i. ap (λ b. cond b (Some (slice_value value s t)) None) (sym n) ∙ wanted want k t e)), steady_first)
     steady_all items (Err f) want k p e n h m = rw m tt

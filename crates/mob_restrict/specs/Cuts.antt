@@ -9,6 +9,6 @@ use Rattle.mob_slice.specs.Entries.{Entry}
 use Rattle.mob_slice.specs.declared.slice.Slice.{Slice}
 use Rattle.mob_slice.specs.declared.formula.Formula.TheVariants.{F1}
 
--- the one entry of a slice on a span with which it shares an instant: F1 at the two cuts
+-- the single entry of a slice and a span that share an instant: F1 at the two cuts
 abbrev pub entry_of_cut : {C : Type 0} → (C → Ratio → Ratio → Ratio → List Ratio) → PieceOf (Slice C) SpanOf → List Entry
 entry_of_cut parts p = record { formula = F1; parts = at_ends (slice_parts parts p.left) p.span } ∷ []

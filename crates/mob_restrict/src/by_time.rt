@@ -1,3 +1,4 @@
+//! Restriction to the instants of a set, or to all others.
 ghost use Rattle.std.specs.Prelude.{true, false, IfOk};
 ghost use Rattle.std.specs.List.{flat_map};
 ghost use Rattle.mob_span.specs.Meets.{shared_pieces};
@@ -12,8 +13,9 @@ ghost use Rattle.mob_cells.specs.Restricted.{IsRestricted, AreRestricted};
 ghost use Rattle.mob_restrict.specs.Cuts.{entry_of_cut};
 
 use mob_lift::{lift, listed};
+use mob_list::fault::Fault;
 use mob_normal::normal;
-use mob_slice::{Course, Moving, OpFault, Slice, cut, operator_fault};
+use mob_slice::{Course, Formula, Moving, Slice, cut};
 use mob_span::{Met, SharedPieces, Span, SpanSet, remainders, whole};
 use std::alloc::Global;
 
@@ -21,7 +23,7 @@ use std::alloc::Global;
 fn on_met<C: Course + Drop>(
     alloc: Global,
     met: &Met<'_, Slice<C>, Span>,
-) -> Result<Vec<Slice<C>>, OpFault>
+) -> Result<Vec<Slice<C>>, Fault<Formula>>
 where
     C::Base: Drop,
     requires holds { HoldsMet C.start_of C.end_of (met_of met.now) }
@@ -29,7 +31,7 @@ where
 {
     match cut(alloc, met.left, &met.span) {
         Ok(slice) => listed(alloc, slice),
-        Err(fault) => Err(operator_fault(fault)),
+        Err(fault) => Err(fault),
     }
 }
 
@@ -38,7 +40,7 @@ fn within<C: Course + Drop>(
     alloc: Global,
     a: &Moving<C>,
     spans: &[Span],
-) -> Result<Vec<Slice<C>>, OpFault>
+) -> Result<Vec<Slice<C>>, Fault<Formula>>
 where
     C::Base: Drop,
     requires order { PiecesAreClear (λ r. r) spans.now }
@@ -48,7 +50,7 @@ where
     lift(
         alloc,
         SharedPieces::new(a.slices(), spans),
-        |met: &Met<'_, Slice<C>, Span>| -> Result<Vec<Slice<C>>, OpFault>
+        |met: &Met<'_, Slice<C>, Span>| -> Result<Vec<Slice<C>>, Fault<Formula>>
             requires holds { HoldsMet C.start_of C.end_of (met_of met.now) }
             ensures given { IsGiven C.value_of C.start_of C.end_of (λ v. v.items) (slice_value C.value_of met.now.left.now) met.now.span (entry_of_cut C.parts_of (met_of met.now)) result }
         { on_met::<C>(alloc, met) },
@@ -60,7 +62,7 @@ fn inside<C: Course + Drop>(
     alloc: Global,
     a: &Moving<C>,
     when: &SpanSet,
-) -> Result<Vec<Slice<C>>, OpFault>
+) -> Result<Vec<Slice<C>>, Fault<Formula>>
 where
     C::Base: Drop,
     ensures slices { IfOk result (λ all. AreRestricted C.value_of C.start_of C.end_of true (λ t x. in_some when.now t) a.now all.items) }
@@ -69,12 +71,12 @@ where
     within(alloc, a, when.spans())
 }
 
-// Its slices at the instants that the set has not: those that the set leaves of its time.
+// Its slices at the instants that are not in the set: those in the remainders of its time.
 fn outside<C: Course + Drop>(
     alloc: Global,
     a: &Moving<C>,
     when: &SpanSet,
-) -> Result<Vec<Slice<C>>, OpFault>
+) -> Result<Vec<Slice<C>>, Fault<Formula>>
 where
     C::Base: Drop,
     ensures slices { IfOk result (λ all. AreRestricted C.value_of C.start_of C.end_of false (λ t x. in_some when.now t) a.now all.items) }
@@ -85,54 +87,48 @@ where
     let Some(time) = whole(slices) else {
         return Ok(Vec::new(alloc));
     };
-    // A call of a method tells the proof what holds of every span.
+    // A method call gives the proof the invariant of a span.
     let _ = time.lower();
     match remainders(alloc, &time, spans) {
         Ok(left) => within(alloc, a, left.as_slice()),
-        Err(_) => Err(OpFault::NoMemory),
+        Err(_) => Err(Fault::NoMemory),
     }
 }
 
-/// The temporal value at the instants of the set (MobilityDB's `atTime`). None exactly where no
+/// The temporal value at the instants of the set (MobilityDB's `atTime`). `None` exactly if no
 /// instant is left.
 ///
-/// `Passed` names F1, exactly where a part of it does not fit at an end of what a slice and a span
-/// of the set share.
+/// The fault is F1, exactly if a part of it does not fit at an end of the intersection of a slice
+/// and a span of the set, or out of memory.
 pub fn at_time<C: Course + Drop>(
     alloc: Global,
     a: &Moving<C>,
     when: &SpanSet,
-) -> Result<Option<Moving<C>>, OpFault>
+) -> Result<Option<Moving<C>>, Fault<Formula>>
 where
     C::Base: Drop,
     ensures value { IfOk result (λ r. IsRestricted C.value_of true (λ t x. in_some when.now t) a.now r) }
     ensures first { IsJudged (flat_map (entry_of_cut C.parts_of) (shared_pieces (λ s. s.span) (λ r. r) a.now when.now)) result }
 {
     let slices = inside(alloc, a, when)?;
-    match normal(alloc, slices) {
-        Ok(value) => Ok(value),
-        Err(_) => Err(OpFault::NoMemory),
-    }
+    Ok(normal(alloc, slices)?)
 }
 
-/// The temporal value at the instants that are not of the set (MobilityDB's `minusTime`). None
-/// exactly where no instant is left.
+/// The temporal value at the instants that are not in the set (MobilityDB's `minusTime`). `None`
+/// exactly if no instant is left.
 ///
-/// `Passed` names F1, exactly where `at_time` passes it: the cuts of the one are those of the
-/// other.
+/// The fault is F1, exactly if it is for `at_time`, since both cut at the same instants, or out of
+/// memory.
 pub fn minus_time<C: Course + Drop>(
     alloc: Global,
     a: &Moving<C>,
     when: &SpanSet,
-) -> Result<Option<Moving<C>>, OpFault>
+) -> Result<Option<Moving<C>>, Fault<Formula>>
 where
     C::Base: Drop,
     ensures value { IfOk result (λ r. IsRestricted C.value_of false (λ t x. in_some when.now t) a.now r) }
     ensures first { IsJudged (flat_map (entry_of_cut C.parts_of) (shared_pieces (λ s. s.span) (λ r. r) a.now when.now)) result }
 {
     let slices = outside(alloc, a, when)?;
-    match normal(alloc, slices) {
-        Ok(value) => Ok(value),
-        Err(_) => Err(OpFault::NoMemory),
-    }
+    Ok(normal(alloc, slices)?)
 }

@@ -1,3 +1,4 @@
+//! Restriction to the instants at which a value is taken, or to all others.
 ghost use Rattle.std.specs.Prelude.{◌≡◌, true, false, IfOk};
 ghost use Rattle.std.specs.List.{flat_map};
 ghost use Rattle.mob_slice.specs.Slices.{IsSound};
@@ -9,18 +10,19 @@ ghost use Rattle.mob_restrict.specs.Values.{entries_of_value};
 
 use mob_cells::{ByGaps, Restriction, gap_functions, kept, restricted};
 use mob_lift::listed;
+use mob_list::fault::Fault;
 use mob_normal::normal;
-use mob_slice::{Compared, Course, Moving, OpFault, Rel, Slice, cut, operator_fault};
+use mob_slice::{Compared, Course, Formula, Moving, Rel, Slice, cut};
 use mob_span::same_bool;
 use std::alloc::Global;
 
-// What is left of a slice of a course that is not steady.
+// The part of a slice that is kept, for a course that is not steady.
 fn on_lines<C: Compared + Drop>(
     alloc: Global,
     slice: &Slice<C>,
     value: &C::Base,
     want: bool,
-) -> Result<Vec<Slice<C>>, OpFault>
+) -> Result<Vec<Slice<C>>, Fault<Formula>>
 where
     C::Base: Drop,
     requires moves { C.STEADY ≡ false }
@@ -47,13 +49,13 @@ where
     )
 }
 
-// What is left of a slice of a steady course: all of it, or nothing.
+// The part of a slice of a steady course that is kept: all of it, or nothing.
 fn on_steps<C: Compared + Drop>(
     alloc: Global,
     slice: &Slice<C>,
     value: &C::Base,
     want: bool,
-) -> Result<Vec<Slice<C>>, OpFault>
+) -> Result<Vec<Slice<C>>, Fault<Formula>>
 where
     C::Base: Drop,
     requires steady { C.STEADY ≡ true }
@@ -66,11 +68,11 @@ where
     }
     match cut(alloc, slice, &slice.span) {
         Ok(part) => listed(alloc, part),
-        Err(fault) => Err(operator_fault(fault)),
+        Err(fault) => Err(fault),
     }
 }
 
-// The condition that a value is a given one.
+// The condition that a value equals a given one.
 #[derive(Drop)]
 struct ToValue<'a, C: Course> {
     value: &'a C::Base,
@@ -89,7 +91,7 @@ where
         alloc: Global,
         slice: &Slice<C>,
         want: bool,
-    ) -> Result<Vec<Slice<C>>, OpFault> {
+    ) -> Result<Vec<Slice<C>>, Fault<Formula>> {
         if C::STEADY {
             return on_steps::<C>(alloc, slice, self.value, want);
         }
@@ -97,36 +99,33 @@ where
     }
 }
 
-// The restriction to the instants at which equality with the value has the wanted truth value.
+// The restriction to the instants at which equality with the value has the wanted result.
 fn to_value<C: Compared + Drop>(
     alloc: Global,
     a: &Moving<C>,
     value: &C::Base,
     want: bool,
-) -> Result<Option<Moving<C>>, OpFault>
+) -> Result<Option<Moving<C>>, Fault<Formula>>
 where
     C::Base: Drop,
     ensures value { IfOk result (λ r. IsRestricted C.value_of want (λ t x. C.relation Eq x value.now) a.now r) }
     ensures first { IsJudged (flat_map (entries_of_value C.value_of C.parts_of C.gaps_of value.now) a.now) result }
 {
     let slices = restricted::<C, ToValue<'_, C>>(alloc, a.slices(), &ToValue { value }, want)?;
-    match normal(alloc, slices) {
-        Ok(value) => Ok(value),
-        Err(_) => Err(OpFault::NoMemory),
-    }
+    Ok(normal(alloc, slices)?)
 }
 
-/// The temporal value at the instants at which it is that value (MobilityDB's `atValues`). None
-/// exactly where there is no such instant.
+/// The temporal value at the instants at which it equals the given value (MobilityDB's `atValues`).
+/// `None` exactly if no such instant exists.
 ///
-/// `Passed` names the formula of the first entry that has a part that does not fit: on each slice
+/// The fault names the formula of the first entry that has a part that does not fit: on each slice
 /// F2, the gaps to that value at its ends, then F3, their roots, then F1 at these roots. Steady
 /// courses have no formula.
 pub fn at_value<C: Compared + Drop>(
     alloc: Global,
     a: &Moving<C>,
     value: &C::Base,
-) -> Result<Option<Moving<C>>, OpFault>
+) -> Result<Option<Moving<C>>, Fault<Formula>>
 where
     C::Base: Drop,
     ensures value { IfOk result (λ r. IsRestricted C.value_of true (λ t x. C.relation Eq x value.now) a.now r) }
@@ -135,15 +134,15 @@ where
     to_value::<C>(alloc, a, value, true)
 }
 
-/// The temporal value at the instants at which it is not that value (MobilityDB's `minusValues`).
-/// None exactly where there is no such instant.
+/// The temporal value at the instants at which it differs from the given value (MobilityDB's
+/// `minusValues`). `None` exactly if no such instant exists.
 ///
-/// `Passed` is that of `at_value`: the formulas are the same, whatever is left.
+/// The fault is that of `at_value`: the formulas are the same, whatever is kept.
 pub fn minus_value<C: Compared + Drop>(
     alloc: Global,
     a: &Moving<C>,
     value: &C::Base,
-) -> Result<Option<Moving<C>>, OpFault>
+) -> Result<Option<Moving<C>>, Fault<Formula>>
 where
     C::Base: Drop,
     ensures value { IfOk result (λ r. IsRestricted C.value_of false (λ t x. C.relation Eq x value.now) a.now r) }

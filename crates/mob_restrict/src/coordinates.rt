@@ -1,3 +1,4 @@
+//! The coordinates of a moving point.
 ghost use Rattle.std.specs.Prelude.{◌≡◌, IfOk, option_map};
 ghost use Rattle.mob_ratio.specs.Ratio.{Ratio};
 ghost use Rattle.mob_slice.specs.Lines.{line_value_of, plane_value_of};
@@ -17,15 +18,15 @@ enum Axis {
     Y,
 }
 
-/// How far to the east a moving point is, at each instant at which it is defined (MobilityDB's
-/// `getX`). No number is computed, so memory is the one refusal.
+/// The coordinate to the east of a moving point, at each instant at which it is defined
+/// (MobilityDB's `getX`). No number is computed, so the only error is a failed allocation.
 pub fn get_x(alloc: Global, a: &Moving<PlaneLine>) -> Result<Moving<Line>, AllocError>
     ensures value { IfOk result (λ r. (t : Ratio) → value_at line_value_of r t ≡ option_map (λ p. p.x) (value_at plane_value_of a.now t)) }
 {
     coordinate(alloc, a, Axis::X)
 }
 
-/// How far to the north it is (MobilityDB's `getY`).
+/// The coordinate to the north (MobilityDB's `getY`). The only error is a failed allocation.
 pub fn get_y(alloc: Global, a: &Moving<PlaneLine>) -> Result<Moving<Line>, AllocError>
     ensures value { IfOk result (λ r. (t : Ratio) → value_at line_value_of r t ≡ option_map (λ p. p.y) (value_at plane_value_of a.now t)) }
 {

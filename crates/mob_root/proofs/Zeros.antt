@@ -14,7 +14,7 @@ use Rattle.mob_frac.proofs.PartsOfLines.{last_part}
 pub opposite_differ : (f0 f1 : Ratio) → opposite f0 f1 ≡ true → f0 -ℚ f1 ≡ nil → ⊥
 opposite_differ f0 f1 h e = elim (opposite_cases f0 f1 h) [ inl k ↦ ne_by f0 f1 (before-trans f0 nil f1 k.0 k.1) e | inr k ↦ ne_by' f0 f1 (before-trans f1 nil f0 k.1 k.0) e ]
 
--- the tests for a sign, as they are looked up
+-- the tests for a sign, in the form that the search uses
 pub below_by : (x : Ratio) → x <ℚ nil → true ≡ before x nil
 below_by x h = sym (lt-before x nil h)
 
@@ -27,7 +27,7 @@ above_by x h = sym (lt-before nil x h)
 pub not_above_by : (x : Ratio) → (nil <ℚ x → ⊥) → false ≡ before nil x
 not_above_by x h = sym (false_unless (before nil x) (λ e. h (before-lt nil x e)))
 
--- the sign, as it is looked up
+-- the sign, in that form
 pub less_by : (x : Ratio) → x <ℚ whole (pos 0) → Less ≡ sign_of x
 less_by x h = sym (sign_below x (lt-before x nil h))
 
@@ -41,7 +41,7 @@ greater_by x h k = sym (sign_above x (above (before nil x) refl))
     above true e = e
     above false e = absurd (k (before-neither x nil (false_unless (before x nil) (λ m. h (before-lt x nil m))) e))
 
--- the parts of the root, once they are named
+-- the root, from its named steps
 pub root_last : {E : Type 0} (r : Result Ratio E) (f0 f1 l u d q w s : Ratio) → (d ≡ f0 -ℚ f1) × Fits (f0 -ℚ f1) → (q ≡ f0 /ℚ d) × Fits (f0 /ℚ d) → (w ≡ u -ℚ l) × Fits (u -ℚ l) → (s ≡ w *ℚ q) × Fits (w *ℚ q) → IsExact (l +ℚ s) r → IsFormula (inner_root_parts f0 f1 l u) (root_at f0 f1 l u) r
 unfolding root_at
 root_last r f0 f1 l u d q w s hd hq hw hs h =

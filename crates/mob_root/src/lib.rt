@@ -1,5 +1,4 @@
-//! Where a linear function is 0 between two ends at which it has opposite signs, and the sign of a
-//! number.
+//! The root of a linear function whose end values have opposite signs, and the sign of a number.
 #![tactic(auto)]
 
 mod zero;

@@ -50,8 +50,8 @@ pub fn are_opposite(x: &Frac, y: &Frac) -> bool
     (is_below(x) && is_above(y)) || (is_above(x) && is_below(y))
 }
 
-/// Where the linear function from `f0` at `l` to `f1` at `u` is 0, which have opposite signs.
-/// `Overflow` exactly where a part of the formula does not fit.
+/// The instant at which the linear function from `f0` at `l` to `f1` at `u` is 0. `f0` and `f1`
+/// have opposite signs. It is `Overflow` exactly if a part of the formula does not fit.
 pub fn root_within(f0: &Frac, f1: &Frac, l: &Frac, u: &Frac) -> Result<Frac, Overflow>
     requires opposite { opposite f0.now f1.now ≡ true }
     ensures value { IsFormula (inner_root_parts f0.now f1.now l.now u.now) (root_at f0.now f1.now l.now u.now) result }

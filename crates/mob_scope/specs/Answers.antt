@@ -1,13 +1,9 @@
 -- What typing answers: a value, or what is wrong first.
 use Rattle.std.specs.Prelude.{◌≡◌, ℕ, Bool, Option, Some, None, Result, Ok, Err, if◌then◌else◌}
 use Rattle.mob_ast.specs.declared.refusal.Kind.{Kind}
-use Rattle.mob_scope.specs.declared.fault.Fault.{Fault}
-use Rattle.mob_scope.specs.declared.fault.Fault.TheVariants.{Wrong as Refused, NoMemory}
-
--- what is wrong, and where
-pub record Mistake : Type 0 where
-  pub kind : Kind
-  pub place : ℕ
+use Rattle.mob_list.specs.declared.fault.Fault.{Fault}
+use Rattle.mob_list.specs.declared.fault.Fault.TheVariants.{Because, NoMemory}
+pub use Rattle.mob_scope.specs.declared.fault.Mistake.{Mistake}
 
 abbrev pub refuse : {A : Type 0} → Kind → ℕ → Result A Mistake
 refuse kind place = Err (record { kind = kind; place = place })
@@ -28,11 +24,11 @@ found kind place None = refuse kind place
 found kind place (Some x) = Ok x
 
 -- what the program answers where the definition reads so; a failed allocation is free
-abbrev pub StopsTyping : {Y : Type 0} → Fault → Result Y Mistake → Type 0
-StopsTyping (Refused kind place) read = read ≡ Err (record { kind = kind; place = place })
+abbrev pub StopsTyping : {Y : Type 0} → Fault Mistake → Result Y Mistake → Type 0
+StopsTyping (Because wrong) read = read ≡ Err wrong
 StopsTyping NoMemory read = Unit {0}
 
 -- the program answers as the definition reads
-abbrev pub AnswersAs : {X Y : Type 0} → (X → Y) → Result X Fault → Result Y Mistake → Type 0
+abbrev pub AnswersAs : {X Y : Type 0} → (X → Y) → Result X (Fault Mistake) → Result Y Mistake → Type 0
 AnswersAs view (Ok x) read = read ≡ Ok (view x)
 AnswersAs view (Err e) read = StopsTyping e read

@@ -5,12 +5,13 @@ ghost use Rattle.mob_scope.specs.Names.{entry_from};
 ghost use Rattle.mob_scope.specs.Scopes.{source_of, sources_of, scope_of};
 ghost use Rattle.mob_scope.specs.Columns.{the_one, matches, column_among, in_from, column_named};
 
-use crate::fault::Fault;
+use crate::fault::Mistake;
 use crate::scope::{Found, Scope, ScopeTable, number};
 use mob_ast::{Kind, SqlType, Word};
+use mob_list::fault::Fault;
 
 // A column by the numbers of its table and of itself, from 0.
-fn found_at(from: usize, column: usize, ty: SqlType) -> Result<Found, Fault>
+fn found_at(from: usize, column: usize, ty: SqlType) -> Result<Found, Fault<Mistake>>
     ensures numbered { AnswersAs (λ f. f) result (Ok (record { from = from; column = column; ty = ty })) }
 {
     let from = number(from)?;
@@ -19,25 +20,25 @@ fn found_at(from: usize, column: usize, ty: SqlType) -> Result<Found, Fault>
 }
 
 // The one column of this name in all tables of FROM.
-fn bare_column(from: &[ScopeTable<'_>], name: &Word) -> Result<Found, Fault>
+fn bare_column(from: &[ScopeTable<'_>], name: &Word) -> Result<Found, Fault<Mistake>>
     ensures only_one { AnswersAs (λ f. f) result (the_one name.now.place (matches 0 (sources_of from.now) name.now.text)) }
 {
     let mut one: Option<Found> = None;
     for (index, source) in from.iter().enumerate() {
         if let Some((column, ty)) = source.columns.find(name.text.as_str()) {
             if one.is_some() {
-                return Err(Fault::Wrong {
+                return Err(Fault::Because(Mistake {
                     kind: Kind::Duplicate,
                     place: name.place,
-                });
+                }));
             }
             one = Some(found_at(index, column, ty)?);
         }
     }
-    one.ok_or(Fault::Wrong {
+    one.ok_or(Fault::Because(Mistake {
         kind: Kind::UnknownName,
         place: name.place,
-    })
+    }))
 }
 
 /// The number, from 0, and the content of the first table of FROM that goes by this name. None
@@ -61,29 +62,29 @@ fn column_among(
     from: &[ScopeTable<'_>],
     table: &Option<Word>,
     column: &Word,
-) -> Result<Found, Fault>
+) -> Result<Found, Fault<Mistake>>
     ensures named { AnswersAs (λ f. f) result (column_among (sources_of from.now) table.now column.now) }
 {
     let Some(table) = table else {
         return bare_column(from, column);
     };
     let Some((from, source)) = source_named(from, table.text.as_str()) else {
-        return Err(Fault::Wrong {
+        return Err(Fault::Because(Mistake {
             kind: Kind::UnknownName,
             place: table.place,
-        });
+        }));
     };
     let Some((index, ty)) = source.columns.find(column.text.as_str()) else {
-        return Err(Fault::Wrong {
+        return Err(Fault::Because(Mistake {
             kind: Kind::UnknownName,
             place: column.place,
-        });
+        }));
     };
     found_at(from, index, ty)
 }
 
 // A column by the number of its table in FROM. A sum past 32 bits is answered as out of memory.
-fn in_from(first: u32, found: Found) -> Result<Found, Fault>
+fn in_from(first: u32, found: Found) -> Result<Found, Fault<Mistake>>
     ensures counted { AnswersAs (λ f. f) result (Ok (in_from first found)) }
 {
     let Some(from) = first.checked_add(found.from) else {
@@ -97,7 +98,11 @@ fn in_from(first: u32, found: Found) -> Result<Found, Fault>
 }
 
 /// The column that a name stands for, with its table before a point or without.
-pub fn column_named(scope: &Scope<'_>, table: &Option<Word>, column: &Word) -> Result<Found, Fault>
+pub fn column_named(
+    scope: &Scope<'_>,
+    table: &Option<Word>,
+    column: &Word,
+) -> Result<Found, Fault<Mistake>>
     ensures named { AnswersAs (λ f. f) result (column_named (scope_of scope.now) table.now column.now) }
 {
     in_from(scope.first, column_among(scope.from, table, column)?)

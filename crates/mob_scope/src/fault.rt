@@ -2,50 +2,23 @@
 ghost use Rattle.mob_scope.specs.Answers.{AnswersAs, unless};
 
 use mob_ast::Kind;
-use std::alloc::{AllocError, AllocFailed};
+use mob_list::fault::Fault;
 
-/// Why typing stops.
+/// What is wrong with a script.
 #[derive(Clone, Copy)]
-pub enum Fault {
-    /// Something is wrong at this place of the script.
-    Wrong {
-        /// What is wrong.
-        kind: Kind,
-        /// The place, in bytes from 0.
-        place: u32,
-    },
-    /// There was no memory.
-    NoMemory,
-}
-
-impl From<AllocError> for Fault {
-    ghost use Rattle.std.specs.Prelude.{◌≡◌};
-    ghost use Rattle.mob_scope.specs.declared.fault.Fault.TheVariants.{NoMemory};
-
-    ghost from_gives = { λ _ e. e ≡ NoMemory };
-
-    fn from(_: AllocError) -> Fault {
-        Fault::NoMemory
-    }
-}
-
-impl<T: Drop> From<AllocFailed<T>> for Fault {
-    ghost use Rattle.std.specs.Prelude.{◌≡◌};
-    ghost use Rattle.mob_scope.specs.declared.fault.Fault.TheVariants.{NoMemory};
-
-    ghost from_gives = { λ _ e. e ≡ NoMemory };
-
-    fn from(_: AllocFailed<T>) -> Fault {
-        Fault::NoMemory
-    }
+pub struct Mistake {
+    /// What is wrong.
+    pub kind: Kind,
+    /// The place, in bytes from 0.
+    pub place: u32,
 }
 
 /// Refuses with this kind at this place where the test holds.
-pub fn unless(test: bool, kind: Kind, place: u32) -> Result<(), Fault>
+pub fn unless(test: bool, kind: Kind, place: u32) -> Result<(), Fault<Mistake>>
     ensures refused { AnswersAs (λ u. u) result (unless test kind place) }
 {
     if test {
-        return Err(Fault::Wrong { kind, place });
+        return Err(Fault::Because(Mistake { kind, place }));
     }
     Ok(())
 }

@@ -3,8 +3,9 @@ ghost use Rattle.std.specs.Prelude.{Ok};
 ghost use Rattle.mob_scope.specs.Answers.{AnswersAs};
 
 use crate::column_list::Columns;
-use crate::fault::Fault;
+use crate::fault::Mistake;
 use mob_ast::SqlType;
+use mob_list::fault::Fault;
 
 /// A table of FROM under the name that it goes by there.
 #[derive(Clone, Copy)]
@@ -42,7 +43,7 @@ pub struct Found {
 
 /// A number of 32 bits. What is past it cannot be held in memory, so that it counts as a
 /// failed allocation.
-pub fn number(index: usize) -> Result<u32, Fault>
+pub fn number(index: usize) -> Result<u32, Fault<Mistake>>
     ensures same { AnswersAs (λ n. n) result (Ok index) }
 {
     u32::try_from(index).map_err(|_| Fault::NoMemory)

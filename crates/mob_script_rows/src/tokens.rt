@@ -3,7 +3,8 @@
 use mob_chars::laws::{faults_are_stuck, tokens_are_in_order, tokens_are_laid};
 use mob_chars::lexer::tokens;
 use mob_chars::token::TokenKind::{End, Number, Sign, Str, Word};
-use mob_chars::token::{LexFault, Token, TokenKind};
+use mob_chars::token::{Token, TokenKind};
+use mob_list::fault::Fault;
 use std::alloc::{AllocError, Global};
 
 // Texts, each with its tokens: what each is, and its two places.
@@ -109,7 +110,7 @@ fn fault_of(alloc: Global, text: &str) -> Option<u32> {
         return None;
     }
     match tokens(alloc, text) {
-        Err(LexFault::Lexical { place }) => Some(place),
+        Err(Fault::Because(place)) => Some(place),
         _ => None,
     }
 }

@@ -1,5 +1,5 @@
--- Where the pieces of the walk end: at an end of what they are of, or where the next shared piece
--- begins.
+-- The ends of the pieces of the walk: each is an end of an item, or the start of the next shared
+-- piece.
 use Rattle.std.specs.Prelude.{◌≡◌, ◌⊎◌, Bool, true, false, cond, refl, ◌||◌, ◌&&◌, not, List, [], ◌∷◌, ◌++◌, Option, Some, None}
 use Rattle.std.specs.List.{AllByRecursion}
 use Rattle.std.proofs.Common.{ap, sym, ◌∙◌, subst, arith, true≢false, inl, inr}
@@ -17,7 +17,8 @@ use Rattle.mob_shares.specs.Cuts.{CutOf, entry_at, row_pieces, shared_cuts}
 use Rattle.mob_shares.specs.Sharing.{ShareOf, next_share}
 use Rattle.mob_shares.proofs.Spans.{front_whole}
 
--- s starts before r and is not all before it: they share an instant, the first where r starts
+-- s starts before r but is not all before it: they share an instant, the first one at the start of
+-- r
 starts_front : (s r : SpanOf) → is_clear s r ≡ false → has_instant (front_of s r) ≡ true → starts_before s r ≡ true
 starts_front s r n h = by (is_clear s r) n h
   where
@@ -93,7 +94,7 @@ module _ {X Y : Type 0} where
   both_right : {R : Type 0} (r s : SpanOf) (x : X) (y z : Y) → the_both r x y ≡ the_right s z → R
   both_right r s x y z e = some_none x (ap (λ q. q.left) (one_share _ _ e))
 
-  -- what two lists share begins at the instant u, with x, or with y
+  -- the pieces that two lists share begin at the instant u, with x, or with y
   abbrev pub BeginsLeft : X → Ratio → List (PieceOf X Y) → Type 0
   BeginsLeft x u ps = (m : SpanOf) × (y : Y) × (rest : List (PieceOf X Y)) × (ps ≡ record { span = m; left = x; right = y } ∷ rest) × (m.lower ≡ u)
 
@@ -125,8 +126,8 @@ module _ {X Y : Type 0} where
         same_x : the_left r z ≡ the_left s x → z ≡ x
         same_x e = some_same z x (ap (λ q. q.left) (one_share _ _ e))
 
-  -- a piece of the first list alone begins where something of it does and ends where that ends or
-  -- the next shared piece begins
+  -- a piece of the first list alone begins at the start of an item of it, and ends at the end of
+  -- the item or at the start of the next shared piece
   pub left_ends : (P : X → Ratio → Type 0) (v : List (CutOf X)) (w : List (CutOf Y)) → PiecesAreClear (λ d. d.span) w → AllByRecursion (λ c. P c.of c.span.lower × P c.of c.span.upper) v → (s : SpanOf) (x : X) → next_share v w ≡ Some (record { span = s; left = Some x; right = None }) → P x s.lower × (P x s.upper ⊎ BeginsLeft x s.upper (shared_cuts v w))
   left_ends P [] [] k h s x e = no_left s x e
   left_ends P (c ∷ cs) [] k h s x e = of_left P c.span s c.of x (shared_cuts {Y = Y} (c ∷ cs) []) e (h.0.0, inl h.0.1)
@@ -207,7 +208,7 @@ module _ {X Y : Type 0} where
   none_right_by [] w t h = refl
   none_right_by (c ∷ cs) w t h = part_both (row_pieces c w) (shared_cuts cs w) t (none_row' c w t h) (none_right_by cs w t h)
 
-  -- where one of two lists has nothing, they share no piece
+  -- at an instant at which one of two lists has no item, no shared piece exists
   pub none_left : (v : List (CutOf X)) (w : List (CutOf Y)) (t : Ratio) → entry_at v t ≡ None → piece_at (λ q. q.span) (shared_cuts v w) t ≡ None
   none_left v w t e = none_left_by v w t (all_none v t e)
 

@@ -1,4 +1,4 @@
--- What a piece has of a list is of the first cut of that list.
+-- The item of a list in a piece is that of the list's first cut.
 use Rattle.std.specs.Prelude.{◌≡◌, Bool, true, false, cond, refl, ◌&&◌, List, [], ◌∷◌, ◌++◌, Option, Some, None}
 use Rattle.std.specs.List.{AllByRecursion}
 use Rattle.std.proofs.Common.{ap, sym, ◌∙◌, subst}
@@ -16,7 +16,7 @@ use Rattle.mob_shares.specs.Sharing.{ShareOf, next_share, both_of}
 use Rattle.mob_shares.proofs.Spans.{inside_by}
 use Rattle.mob_shares.proofs.Sides.{IsOf, side_of}
 
--- x is of the first cut, which holds the span
+-- x is the item of the first cut, which contains the span
 pub record IsHead {X : Type 0} (v : List (CutOf X)) (p : SpanOf) (x : X) : Type 0 where
   pub first : CutOf X
   pub others : List (CutOf X)
@@ -58,7 +58,7 @@ module _ {X Y : Type 0} where
       by false true i j z = same_heads (c ∷ cs) (d ∷ ds) p (record { span = front_of d.span c.span; left = None; right = Some d.of }) z (tt, record { first = d; others = ds; list = refl; same = refl; inside = inside_by d.span (front_of d.span c.span) j (λ t k. left (has d.span t) (precedes t c.span) (sym (front_has d.span c.span t) ∙ k)) })
       by false false i j z = same_heads (c ∷ cs) (d ∷ ds) p (record { span = meet_of c.span d.span; left = Some c.of; right = Some d.of }) z (record { first = c; others = cs; list = refl; same = refl; inside = meet_left c.span d.span }, record { first = d; others = ds; list = refl; same = refl; inside = meet_right c.span d.span })
 
-  -- what follows a piece that has not the instant
+  -- the pieces after one that does not have the instant
   pub both_not : (p : ShareOf X Y) (qs : List (PieceOf X Y)) (t : Ratio) → has p.span t ≡ false → piece_at (λ q. q.span) (both_of p ++ qs) t ≡ piece_at (λ q. q.span) qs t
   both_not p qs t h = by p.left p.right
     where
@@ -68,7 +68,7 @@ module _ {X Y : Type 0} where
       by (Some x) (Some y) = ap (λ b. cond b (Some (record { span = p.span; left = x; right = y })) (piece_at (λ q. q.span) qs t)) h
 
 module _ {X : Type 0} (P : X → Ratio → Type 0) where
-  -- something holds of each at both ends of its cut
+  -- P holds for each item at both ends of its cut
   abbrev pub AtCuts : List (CutOf X) → Type 0
   AtCuts v = AllByRecursion (λ c. P c.of c.span.lower × P c.of c.span.upper) v
 

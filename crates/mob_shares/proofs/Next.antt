@@ -1,4 +1,4 @@
--- What a call of the walk gives.
+-- The result of a call of the walk.
 use Rattle.std.specs.Prelude.{◌≡◌, Bool, true, false, cond, List, [], ◌∷◌, Option, Some, None, ◌<◌, refl}
 use Rattle.std.specs.Iterator.{MakesProgress}
 use Rattle.std.proofs.Common.{ap, sym, ◌∙◌, subst}
@@ -14,7 +14,7 @@ use Rattle.mob_shares.specs.declared.shares.Shares.{Shares}
 use Rattle.mob_shares.specs.Shares.{rest_of, share_of, CanShare, IsShared, shares_left}
 
 module _ {X : Type 0} where
-  -- a list by its first
+  -- a list by its first entry
   pub is_empty : (v : List X) → None ≡ head_of v → v ≡ []
   is_empty [] e = refl
   is_empty (x ∷ v) e = cc
@@ -39,15 +39,15 @@ module _ {X : Type 0} where
   pub none_left : (v w : List (CutOf X)) → None ≡ head_of v → None ≡ head_of w → None ≡ next_share v w
   none_left v w e f = sym (ap (λ z. next_share z w) (is_empty v e) ∙ ap (λ z. next_share [] z) (is_empty w f))
 
-  -- the piece with which two lists begin is that of their first ones
+  -- the piece with which two lists begin is that of their first cuts
   pub of_heads : (v w : List (CutOf X)) (c d : CutOf X) → Some c ≡ head_of v → Some d ≡ head_of w → next_share v w ≡ next_share (c ∷ []) (d ∷ [])
   of_heads v w c d e f = ap (λ z. next_share z w) (has_head v c e).1 ∙ ap (λ z. next_share (c ∷ (has_head v c e).0) z) (has_head w d f).1
 
-  -- the first of a list in order of time has an instant
+  -- the first cut of a list in order of time has an instant
   pub some_head : (v : List (CutOf X)) (c : CutOf X) → Some c ≡ head_of v → PiecesAreClear (λ c. c.span) v → has_instant c.span ≡ true
   some_head v c e h = (subst (PiecesAreClear (λ c. c.span)) (has_head v c e).1 h).0
 
-  -- where no piece comes, nothing is left
+  -- if no piece comes, nothing is left
   pub nothing_left : (v w : List (CutOf X)) → None ≡ next_share v w → (v ≡ []) × (w ≡ [])
   nothing_left [] [] e = (refl, refl)
   nothing_left (c ∷ cs) [] e = cc
@@ -85,7 +85,7 @@ module _ {X : Type 0} where
           ∙ ap (chosen false) m
           ∙ ap (λ z. Some (record { span = z; left = Some c.of; right = Some d.of })) (sym i)
 
--- a call that gave the next piece goes on, and fewer pieces are left
+-- after a call that returned the next piece the walk can continue, and fewer pieces are left
 pub goes_on : {C : Type 0} (s t : Shares C) (p : Share C) → CanShare s → IsShared s p t → MakesProgress CanShare shares_left s (Some p) t
 goes_on s t p can h =
     let step = next_step (rest_of s.lefts) (rest_of s.rights) can.0 can.1 (share_of p) h.next in

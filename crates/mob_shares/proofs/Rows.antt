@@ -1,4 +1,4 @@
--- What two lists of cuts share, and what of it stays where the first of one is cut.
+-- The pieces that two lists of cuts share, and those left when the first cut of one is shortened.
 use Rattle.std.specs.Prelude.{◌≡◌, Bool, true, false, cond, refl, ◌&&◌, List, [], ◌∷◌, ◌++◌, map}
 use Rattle.std.specs.List.{filter}
 use Rattle.std.proofs.Common.{ap, sym, ◌∙◌}
@@ -72,15 +72,15 @@ module _ {X Y : Type 0} where
       ap (λ l. l ++ shared_cuts cs (record { span = s; of = y } ∷ ds)) (put_same (meet_of c.span s) (meet_of c.span (back_of s p)) c.of y (row_pieces c ds) (row_pieces c ds) (meets_same' s (back_of s p) c.span (same_behind' s p c.span h.0)) refl)
       ∙ ap (λ l. row_pieces c (record { span = back_of s p; of = y } ∷ ds) ++ l) (col_behind y s p cs ds h.1)
 
-  -- The first of one list is cut by what comes before all of the other list: nothing that is shared
-  -- changes.
+  -- If the first cut of one list loses the part before all of the other list, the shared pieces do
+  -- not change.
   pub shared_left : (c : CutOf X) (cs : List (CutOf X)) (w : List (CutOf Y)) (p : SpanOf) → AreAllClear (λ d. d.span) p w → shared_cuts (c ∷ cs) w ≡ shared_cuts (left_after p (c ∷ cs)) w
   shared_left c cs w p h = ap (λ l. l ++ shared_cuts cs w) (row_behind c.of c.span p w h) ∙ sym (kept_row (record { span = back_of c.span p; of = c.of }) cs w)
 
   pub shared_right : (v : List (CutOf X)) (d : CutOf Y) (ds : List (CutOf Y)) (p : SpanOf) → AreAllClear (λ c. c.span) p v → shared_cuts v (d ∷ ds) ≡ shared_cuts v (left_after p (d ∷ ds))
   shared_right v d ds p h = col_behind d.of d.span p v ds h ∙ sym (kept_col v (record { span = back_of d.span p; of = d.of }) ds)
 
-  -- Both first ones are cut by what they share: it is the first of what is shared.
+  -- If both first cuts lose the part that they share, it is the first shared piece.
   pub shared_both : (c : CutOf X) (cs : List (CutOf X)) (d : CutOf Y) (ds : List (CutOf Y)) → has_instant (meet_of c.span d.span) ≡ true → AreAllClear (λ c. c.span) (meet_of c.span d.span) cs → AreAllClear (λ d. d.span) (meet_of c.span d.span) ds
       → shared_cuts (c ∷ cs) (d ∷ ds) ≡ record { span = meet_of c.span d.span; left = c.of; right = d.of } ∷ shared_cuts (left_after (meet_of c.span d.span) (c ∷ cs)) (left_after (meet_of c.span d.span) (d ∷ ds))
   shared_both c cs d ds h k l =
@@ -105,7 +105,7 @@ module _ {X Y : Type 0} (span : X → SpanOf) (span' : Y → SpanOf) where
       by true e = ap (λ l. record { span = meet_of (span x) (span' y); left = x; right = y } ∷ l) e
       by false e = e
 
-  -- what whole things share is what the lists share
+  -- whole items share the pieces that the lists share
   pub shared_whole : (v : List X) (w : List Y) → shared_cuts (wholes span v) (wholes span' w) ≡ shared_pieces span span' v w
   shared_whole [] w = refl
   shared_whole (x ∷ v) w = ap (λ l. l ++ shared_cuts (wholes span v) (wholes span' w)) (row_whole x w) ∙ ap (λ l. row span span' x w ++ l) (shared_whole v w)

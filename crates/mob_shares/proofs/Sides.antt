@@ -1,4 +1,4 @@
--- One of two lists of cuts behind a piece.
+-- One of two lists of cuts, after a piece.
 use Rattle.std.specs.Prelude.{◌≡◌, Bool, true, false, cond, refl, ◌&&◌, not, List, [], ◌∷◌, Some, None}
 use Rattle.std.specs.List.{AllByRecursion}
 use Rattle.std.proofs.Common.{ap, sym, ◌∙◌, true≢false}
@@ -26,7 +26,7 @@ module _ {X : Type 0} where
       by true h = refl
       by false h = sym (ap (λ b. cond b (Some c.of) (entry_at cs t)) (no_instant c.span t h))
 
-  -- at an instant that is not of the piece there is what was there
+  -- at an instant outside the piece, the item is unchanged
   pub side_gone : (c : CutOf X) (cs : List (CutOf X)) (p : SpanOf) (t : Ratio) → (has c.span t ≡ true → precedes t p ≡ false) → has p t ≡ false → entry_at (left_after p (c ∷ cs)) t ≡ entry_at (c ∷ cs) t
   side_gone c cs p t begins h =
       entry_kept (record { span = back_of c.span p; of = c.of }) cs t
@@ -38,7 +38,7 @@ module _ {X : Type 0} where
       by true false false k e = absurd (true≢false e)
       by false f p k e = refl
 
-  -- at an instant of the piece there is the first one, or none where all comes after
+  -- at an instant of the piece, it is the first item, or none if all items come after
   pub side_here : (c : CutOf X) (cs : List (CutOf X)) (t : Ratio) → has c.span t ≡ true → entry_at (c ∷ cs) t ≡ Some c.of
   side_here c cs t h = ap (λ b. cond b (Some c.of) (entry_at cs t)) h
 
@@ -50,7 +50,7 @@ module _ {X : Type 0} where
   head_left c [] p h = tt
   head_left c (d ∷ cs) p h = h
 
-  -- what is left is in order
+  -- the rest is in order
   pub side_clear : (c : CutOf X) (cs : List (CutOf X)) (p : SpanOf) → PiecesAreClear cut_span (c ∷ cs) → PiecesAreClear cut_span (left_after p (c ∷ cs))
   side_clear c cs p h = by (has_instant (back_of c.span p)) refl
     where
@@ -66,7 +66,7 @@ module _ {X : Type 0} where
       by true l = (clear_behind c.span p, l)
       by false l = l
 
-  -- and after what all came after
+  -- and after everything that the whole came after
   pub side_after : (q : SpanOf) (c : CutOf X) (cs : List (CutOf X)) (p : SpanOf) → AreAllClear cut_span q (c ∷ cs) → AreAllClear cut_span q (left_after p (c ∷ cs))
   side_after q c cs p h = by (has_instant (back_of c.span p))
     where
@@ -74,13 +74,13 @@ module _ {X : Type 0} where
       by true = (clear_back q c.span p h.0, h.1)
       by false = h.1
 
-  -- it is no longer a list, and shorter where nothing is left of the first
+  -- the list is no longer than before, and shorter if nothing is left of the first cut
   pub side_length : (c : CutOf X) (cs : List (CutOf X)) (p : SpanOf) → has_instant (back_of c.span p) ≡ false → left_after p (c ∷ cs) ≡ cs
   side_length c cs p h = ap (λ b. cond b (record { span = back_of c.span p; of = c.of } ∷ cs) cs) h
 
-  -- Cuts that lie in what they are of: so does what is left of them.
+  -- Cuts that lie in their items: so do the rests of them.
   module _ (span : X → SpanOf) (P : X → Type 0) where
-    -- a cut lies in its thing and goes on to its end, and P holds of the thing
+    -- a cut lies in its item and has the same end, and P holds for the item
     pub record IsOf (c : CutOf X) : Type 0 where
       pub holds : P c.of
       pub inside : is_inside (span c.of) c.span ≡ true

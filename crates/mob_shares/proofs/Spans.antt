@@ -1,4 +1,4 @@
--- Facts on spans: one set of instants is one span, and what is left behind a span.
+-- Facts on spans: a set of instants is one span, and the part after a span.
 use Rattle.std.specs.Prelude.{◌≡◌, Bool, true, false, cond, refl, ◌||◌, ◌&&◌, not, [], ◌∷◌}
 use Rattle.std.proofs.Common.{arith, ap, sym, subst, ◌∙◌, true≢false}
 use Rattle.mob_ratio.specs.Ratio.{Ratio}
@@ -20,7 +20,7 @@ some_by m n f false false h k = h ∙ sym k
 some_by m n f true false h k = let i = some_instant m h in absurd (true≢false (sym i.1 ∙ f i.0 ∙ no_instant n i.0 k))
 some_by m n f false true h k = let i = some_instant n k in absurd (true≢false (sym i.1 ∙ sym (f i.0) ∙ no_instant m i.0 h))
 
--- two spans that have the same instants are one, where they have any
+-- two spans that have the same instants are equal, if they have any
 pub some_same : (m n : SpanOf) → ((t : Ratio) → has m t ≡ has n t) → has_instant m ≡ has_instant n
 some_same m n f = some_by m n f (has_instant m) (has_instant n) refl refl
 
@@ -39,7 +39,7 @@ inside_of s r h i t k = (has_exact s t).1 ((inside_exact s r h).0 i t ((has_exac
 follows_by : (u l t : Ratio) (i j : Bool) → (before u l || (up_to u l && not (i && j))) ≡ true → (before l t || (j && up_to l t)) ≡ true → (before u t || (not i && up_to u t)) ≡ true
 follows_by u l t i j h k = grind (arith, before-trans u l t, before-neither u l, before-neither l t, before-back u l, before-back l t, before-back u t)
 
--- what is after a span follows it
+-- an instant of a later span follows the span
 follows_clear : (p q : SpanOf) (t : Ratio) → is_clear p q ≡ true → has q t ≡ true → follows t p ≡ true
 follows_clear p q t h k = follows_by p.upper q.lower t p.upper_inc q.lower_inc h (grind (arith, k))
 
@@ -58,7 +58,7 @@ not_follows s t h = by (precedes t s) (follows t s) (sym h ∙ neither_has s t)
     by false true e = absurd (true≢false e)
     by false false e = refl
 
--- what is left of s behind p shares with what comes after p what s did
+-- the part of s after p shares with whatever comes after p the same instants as s
 pub same_behind : (s p q : SpanOf) → is_clear p q ≡ true → (t : Ratio) → (has s t && has q t) ≡ (has (back_of s p) t && has q t)
 same_behind s p q h t = by (has s t) (follows t p) (has q t) (follows_clear p q t h) ∙ ap (λ b. b && has q t) (sym (back_has s p t))
   where
@@ -82,7 +82,7 @@ meets_same s s' q f t = meet_has s q t ∙ f t ∙ sym (meet_has s' q t)
 pub meets_same' : (s s' q : SpanOf) → ((t : Ratio) → (has q t && has s t) ≡ (has q t && has s' t)) → (t : Ratio) → has (meet_of q s) t ≡ has (meet_of q s') t
 meets_same' s s' q f t = meet_has q s t ∙ f t ∙ sym (meet_has q s' t)
 
--- behind what two share, they share nothing
+-- after their intersection, two spans share nothing
 pub none_behind : (s r : SpanOf) → has_instant (meet_of (back_of s (meet_of s r)) (back_of r (meet_of s r))) ≡ false
 none_behind s r = (meet_none (back_of s (meet_of s r)) (back_of r (meet_of s r))).1 (λ t. ap (λ b. b && has (back_of r (meet_of s r)) t) (back_has s (meet_of s r) t) ∙ ap (λ b. (has s t && follows t (meet_of s r)) && b) (back_has r (meet_of s r) t) ∙ by (has s t) (has r t) (follows t (meet_of s r)) (precedes t (meet_of s r)) (sym (meet_has s r t) ∙ neither_has (meet_of s r) t))
   where
@@ -94,7 +94,7 @@ none_behind s r = (meet_none (back_of s (meet_of s r)) (back_of r (meet_of s r))
     by true false false p e = refl
     by false r f p e = refl
 
--- what comes before a span is before it
+-- the part before a span is clear of it
 pub front_clear : (s r : SpanOf) → is_clear (front_of s r) r ≡ true
 front_clear s r = by s.upper r.lower s.upper_inc r.lower_inc (is_clear s r) refl
   where
@@ -102,7 +102,7 @@ front_clear s r = by s.upper r.lower s.upper_inc r.lower_inc (is_clear s r) refl
     by u l i j true h = h
     by u l i j false h = grind (arith, before-self l)
 
--- and a span is before what is left of another behind it
+-- and a span is clear of the part of another after it
 pub clear_behind : (s p : SpanOf) → is_clear p (back_of s p) ≡ true
 clear_behind s p = by s.lower p.upper s.lower_inc p.upper_inc (is_clear p s) refl
   where
@@ -121,14 +121,14 @@ precedes_by t l m i j false e f = f
 follows_has : (r : SpanOf) (t u : Ratio) → follows t r ≡ true → has r u ≡ true → before u t ≡ true
 follows_has r t u h k = grind (arith, h, k, before-trans u r.upper t, before-neither u r.upper, before-neither r.upper t, before-back u t)
 
--- where nothing of s comes before r, nothing of s comes before what they share
+-- if s has no part before r, it has none before their intersection
 pub begins_left : (s r : SpanOf) → has_instant (front_of s r) ≡ false → (t : Ratio) → has s t ≡ true → precedes t (meet_of s r) ≡ false
 begins_left s r n t h = precedes_by t r.lower s.lower r.lower_inc s.lower_inc (starts_before s r) (and_false (has s t) (precedes t r) h (sym (front_has s r t) ∙ no_instant (front_of s r) t n)) (not_precedes s t h)
 
 pub begins_right : (s r : SpanOf) → has_instant (front_of r s) ≡ false → (t : Ratio) → has r t ≡ true → precedes t (meet_of s r) ≡ false
 begins_right s r n t h = precedes_by t r.lower s.lower r.lower_inc s.lower_inc (starts_before s r) (not_precedes r t h) (and_false (has r t) (precedes t s) h (sym (front_has r s t) ∙ no_instant (front_of r s) t n))
 
--- where neither begins before the other, they share an instant
+-- if neither begins before the other, they share an instant
 pub share_some : (s r : SpanOf) → has_instant s ≡ true → has_instant r ≡ true → has_instant (front_of s r) ≡ false → has_instant (front_of r s) ≡ false → has_instant (meet_of s r) ≡ true
 share_some s r h k m n = by (has_instant (meet_of s r)) refl
   where
@@ -165,7 +165,7 @@ share_some s r h k m n = by (has_instant (meet_of s r)) refl
     by true e = e
     by false e = absurd (true≢false (sym (follows_has r i.0 j.0 (first e) j.1) ∙ before-back i.0 j.0 (follows_has s j.0 i.0 (second e) i.1)))
 
--- the start of what is left of s behind what of it comes before r
+-- the start of the rest of s after its part before r
 pub back_start : (s r : SpanOf) → is_clear s r ≡ false → has_instant (front_of s r) ≡ true → ((back_of s (front_of s r)).lower ≡ r.lower) × ((back_of s (front_of s r)).lower_inc ≡ not (not r.lower_inc))
 back_start s r n h =
     let f : front_of s r ≡ record { lower = s.lower; upper = r.lower; lower_inc = s.lower_inc; upper_inc = not r.lower_inc } = ap (λ b. record { lower = s.lower; upper = cond b s.upper r.lower; lower_inc = s.lower_inc; upper_inc = cond b s.upper_inc (not r.lower_inc) }) n in
@@ -185,7 +185,7 @@ back_start s r n h =
     not_clear false e = e
     not_clear true e = absurd (true≢false (sym (left (has s i.0) (precedes i.0 r) (sym (front_has s r i.0) ∙ i.1)) ∙ clear_has (front_of s r) s i.0 e i.1))
 
--- behind itself a span has nothing, and neither has one that is all before another behind that part
+-- a span has no part after itself, nor after its part before a span that it is clear of
 pub none_self : (s : SpanOf) → has_instant (back_of s s) ≡ false
 none_self s = none_has (back_of s s) (λ t. back_has s s t ∙ by (has s t) (follows t s) (not_follows s t))
   where

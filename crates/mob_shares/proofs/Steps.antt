@@ -23,19 +23,19 @@ both_have true true e = (refl, refl)
 both_have true false e = absurd (true≢false (sym e))
 both_have false b e = absurd (true≢false (sym e))
 
--- what of the first comes before the first of the other comes before all of the other
+-- the part of the first before the other list's first is before all of the other list
 front_all : (s : SpanOf) {Z : Type 0} (d : CutOf Z) (ds : List (CutOf Z)) → PiecesAreClear cut_span (d ∷ ds) → AreAllClear cut_span (front_of s d.span) (d ∷ ds)
 front_all s d ds k = (front_clear s d.span, later cut_span d.span (front_of s d.span) ds (λ q l. clear_trans (front_of s d.span) d.span q k.0 (front_clear s d.span) l) (all_after cut_span d ds k))
 
--- A piece is taken off the front of two lists.
+-- One step removes a piece from the front of two lists.
 pub record IsStep {X Y : Type 0} (v : List (CutOf X)) (w : List (CutOf Y)) (p : ShareOf X Y) (v' : List (CutOf X)) (w' : List (CutOf Y)) : Type 0 where
   pub some : has_instant p.span ≡ true
-  -- at its instants it has what the lists have, and at all others they have what they had
+  -- at its instants it has the items of the lists, and at all others they keep theirs
   pub here : (t : Ratio) → has p.span t ≡ true → (entry_at v t ≡ p.left) × (entry_at w t ≡ p.right)
   pub gone : (t : Ratio) → has p.span t ≡ false → (entry_at v' t ≡ entry_at v t) × (entry_at w' t ≡ entry_at w t)
-  -- what they share is what both have in it, and what is left of them shares
+  -- the shared pieces are this one, if both have an item in it, and then those of the rests
   pub shared : shared_cuts v w ≡ both_of p ++ shared_cuts v' w'
-  -- what is left is in order and comes after it
+  -- the rests are in order and come after it
   pub clear : PiecesAreClear cut_span v' × PiecesAreClear cut_span w'
   pub next : AreAllClear cut_span p.span v' × AreAllClear cut_span p.span w'
   pub after : (q : SpanOf) → AreAllClear cut_span q v → AreAllClear cut_span q w → (is_clear q p.span ≡ true) × AreAllClear cut_span q v' × AreAllClear cut_span q w'
@@ -94,7 +94,7 @@ module _ {X Y : Type 0} where
   no_share : {R : Type 0} (p : ShareOf X Y) → None ≡ Some p → R
   no_share p e = cc
 
-  -- The piece that comes next is taken off the front.
+  -- The next piece is removed from the front.
   pub next_step : (v : List (CutOf X)) (w : List (CutOf Y)) → PiecesAreClear cut_span v → PiecesAreClear cut_span w → (p : ShareOf X Y) → next_share v w ≡ Some p → IsStep v w p (behind p.span p.left v) (behind p.span p.right w)
   next_step [] [] h k p e = no_share p e
   next_step (c ∷ cs) [] h k p e = same_step (c ∷ cs) [] p (record { span = c.span; left = Some c.of; right = None }) e (left_step c cs [] c.span h k h.0 (λ t z. z) tt (not_precedes c.span))
@@ -114,7 +114,7 @@ module _ {X Y : Type 0} where
       by false true i j z = same_step (c ∷ cs) (d ∷ ds) p (record { span = right; left = None; right = Some d.of }) z (right_step (c ∷ cs) d ds right h k j (λ t y. (both_have (has d.span t) (precedes t c.span) (sym (front_has d.span c.span t) ∙ y)).0) (front_all d.span c cs h) (λ t y. not_precedes d.span t y))
       by false false i j z = same_step (c ∷ cs) (d ∷ ds) p (record { span = meet_of c.span d.span; left = Some c.of; right = Some d.of }) z (both_step c cs d ds h k i j)
 
-  -- where no piece comes next, nothing is left
+  -- if no piece comes next, nothing is left
   pub none_next : (v : List (CutOf X)) (w : List (CutOf Y)) → next_share v w ≡ None → (v ≡ []) × (w ≡ [])
   none_next [] [] e = (refl, refl)
   none_next (c ∷ cs) [] e = no_share (record { span = c.span; left = Some c.of; right = None }) (sym e)
@@ -126,7 +126,7 @@ module _ {X Y : Type 0} where
       by false true z = no_share (record { span = front_of d.span c.span; left = None; right = Some d.of }) (sym z)
       by false false z = no_share (record { span = meet_of c.span d.span; left = Some c.of; right = Some d.of }) (sym z)
 
--- how many pieces may still come
+-- the number of pieces that may still come
 half_front : (s r : SpanOf) → has_instant (front_of s r) ≡ true → has_instant (back_of s (front_of s r)) ≡ true → (has_instant (front_of (back_of s (front_of s r)) r) ≡ false) × (has_instant (front_of r (back_of s (front_of s r))) ≡ false)
 half_front s r i j = (none_has (front_of (back_of s (front_of s r)) r) first, none_has (front_of r (back_of s (front_of s r))) second)
   where
@@ -159,7 +159,7 @@ half_front s r i j = (none_has (front_of (back_of s (front_of s r)) r) first, no
         by true x y false h = h refl
         by false x y i h = refl
 
--- behind what two share one of them has nothing
+-- after their intersection, one of the two has nothing left
 one_ends : (s r : SpanOf) → (has_instant (back_of s (meet_of s r)) ≡ false) ⊎ (has_instant (back_of r (meet_of s r)) ≡ false)
 one_ends s r = by (ends_before s r) refl
   where

@@ -1,4 +1,4 @@
--- What calls give on the pieces of the walk, taken together.
+-- The results of calls on the pieces of the walk, taken together.
 use Rattle.std.specs.Prelude.{◌≡◌, ◌⊎◌, Bool, true, false, cond, refl, List, [], ◌∷◌, ◌++◌, Option, Some, None, option_map, MatchOption, Result, Ok, Err}
 use Rattle.std.specs.List.{AllByRecursion}
 use Rattle.std.specs.Iterator.{Yields, Drains}
@@ -19,8 +19,8 @@ use Rattle.mob_slice.specs.declared.part.One.{One}
 use Rattle.mob_slice.specs.declared.part.Pair.{Pair}
 use Rattle.mob_slice.specs.declared.formula.Formula.{Formula}
 use Rattle.mob_slice.specs.declared.formula.Formula.TheVariants.{F1}
-use Rattle.mob_slice.specs.declared.formula.OpFault.{OpFault}
-use Rattle.mob_slice.specs.declared.formula.OpFault.TheVariants.{Passed}
+use Rattle.mob_list.specs.declared.fault.Fault.{Fault}
+use Rattle.mob_list.specs.declared.fault.Fault.TheVariants.{Because}
 use Rattle.mob_slice.proofs.Cuts.{all_both, all_first, all_second}
 use Rattle.mob_slice.proofs.LookUps.{value_by}
 use Rattle.mob_lifted.specs.Piecewise.{AreGivenInOrder, IsPiecewise, IsFirstFailure}
@@ -43,7 +43,7 @@ use Rattle.mob_shares.proofs.Walked.{Walk, step_of}
 pub pair_fit : {C B : Type 0} (start end : C → B) (p : Pair C C) → HoldsShare start end (share_of (Both p)) → IsPairFit start end start end p
 pair_fit start end p h = record { in_left = h.0.1; in_right = h.1.1; left = h.0.0; right = h.1.0 }
 
-module _ {C B V : Type 0} (value : C → Ratio → Ratio → Ratio → B) (start end : C → B) (parts : C → Ratio → Ratio → Ratio → List Ratio) (items : V → List (Slice C)) (returns : Pair C C → Result V OpFault → Type 0) (gives : Share C → V → Type 0)
+module _ {C B V : Type 0} (value : C → Ratio → Ratio → Ratio → B) (start end : C → B) (parts : C → Ratio → Ratio → Ratio → List Ratio) (items : V → List (Slice C)) (returns : Pair C C → Result V (Fault Formula) → Type 0) (gives : Share C → V → Type 0)
     (gave : (p : Share C) (x : V) → gives p x → HoldsShare start end (share_of p) × IsShareGiven value start end parts items returns p (Ok x)) where
   -- the value of cuts at an instant
   abbrev cut_value : List (CutOf (Slice C)) → Ratio → Option B
@@ -80,7 +80,7 @@ module _ {C B V : Type 0} (value : C → Ratio → Ratio → Ratio → B) (start
       subst (λ z. MatchOption z (o ≡ one_of (cut_value v u) (cut_value w u)) (λ q. (x : V) × IsAnswered start end returns q (Ok x) × (o ≡ value_at value (items x) u))) (sym at)
       (subst (λ z. MatchOption (piece_at (λ q. q.span) (shared_cuts v' w') u) (o ≡ z) (λ q. (x : V) × IsAnswered start end returns q (Ok x) × (o ≡ value_at value (items x) u))) old h)
 
-  -- at each instant the walk has what was given on the piece there
+  -- at each instant the walk has the result of the piece there
   taken_from : (xs : List (Share C)) (s t : Shares C) → CanShare s → Walk s xs t → rest_of t.lefts ≡ [] → rest_of t.rights ≡ [] → (u : Ratio) (o : Option B) → MatchOption (piece_at share_span xs u) (o ≡ None) (λ p. (x : V) × gives p x × (o ≡ value_at value (items x) u)) → TakenBy (rest_of s.lefts) (rest_of s.rights) u o
   taken_from [] s t can y l r u o h =
       let l' : rest_of s.lefts ≡ [] = ap (λ z. rest_of z.lefts) y ∙ l in
@@ -99,7 +99,7 @@ module _ {C B V : Type 0} (value : C → Ratio → Ratio → Ratio → B) (start
     answered_both : (p : Pair C C) (x : V) → gives (Both p) x → has_instant p.span ≡ true → Answered (pair_of p) x
     answered_both p x g i = (fit p x (gave (Both p) x g).0 i (gave (Both p) x g).1, (p, refl, pair_fit start end p (gave (Both p) x g).0, (gave (Both p) x g).1))
 
-    -- every shared piece was answered
+    -- every shared piece has a result
     answered_from : (xs : List (Share C)) (s t : Shares C) (slices : List (Slice C)) → CanShare s → Walk s xs t → rest_of t.lefts ≡ [] → AreGivenInOrder items gives xs slices → AllByRecursion (λ q. AllFit (piece_parts parts q) × ((x : V) × IsAnswered start end returns q (Ok x))) (shared_cuts (rest_of s.lefts) (rest_of s.rights))
     answered_from [] s t slices can y l h =
         let l' : rest_of s.lefts ≡ [] = ap (λ z. rest_of z.lefts) y ∙ l in
@@ -127,7 +127,7 @@ module _ {C B V : Type 0} (value : C → Ratio → Ratio → Ratio → B) (start
     pair_right : (p : Pair C C) → AllFit (piece_parts parts (pair_of p)) → At p.right.now p.span.upper
     pair_right p h = all_second (slice_parts parts p.right.now p.span.lower) (slice_parts parts p.right.now p.span.upper) (all_second (at_ends (slice_parts parts p.left.now) p.span) (at_ends (slice_parts parts p.right.now) p.span) h)
 
-    -- what was given keeps the cuts fit
+    -- the results keep the cuts fitting
     cuts_left : (v w : List (CutOf (Slice C))) (p : Share C) (x : V) → next_share v w ≡ Some (share_of p) → has_instant (share_span p) ≡ true → gives p x → AtCuts At v → AtCuts At (behind (share_span p) (share_of p).left v)
     cuts_left v w (Left o) x e i g a = at_behind At v o.span o.slice.now (next_heads v w (share_of (Left o)) e).0 (ends_of o x (gave (Left o) x g).1) a
     cuts_left v w (Right o) x e i g a = a
@@ -139,15 +139,15 @@ module _ {C B V : Type 0} (value : C → Ratio → Ratio → Ratio → B) (start
     cuts_right v w (Both p) x e i g a = at_behind At w p.span p.right.now (next_heads v w (share_of (Both p)) e).1 (pair_right p (answered_both p x g i).0) a
 
     module _ (f : Formula) (fails : Share C → Type 0)
-        (failed : (p : Share C) → fails p → HoldsShare start end (share_of p) × IsShareGiven value start end parts items returns p (Err (Passed f)))
-        (judged : (p : Pair C C) → HoldsShare start end (share_of (Both p)) → returns p (Err (Passed f)) → ((f ≡ F1) × (¬ AllFit (piece_parts parts (pair_of p)))) ⊎ AllFit (piece_parts parts (pair_of p))) where
+        (failed : (p : Share C) → fails p → HoldsShare start end (share_of p) × IsShareGiven value start end parts items returns p (Err (Because f)))
+        (judged : (p : Pair C C) → HoldsShare start end (share_of (Both p)) → returns p (Err (Because f)) → ((f ≡ F1) × (¬ AllFit (piece_parts parts (pair_of p)))) ⊎ AllFit (piece_parts parts (pair_of p))) where
       abbrev Refused : List (PieceOf (Slice C) (Slice C)) → Type 0
       Refused ps = IsFirstFailure Answered (IsRefused start end parts returns f) ps
 
-      alone_fails : (o : One C) → IsShareGiven value start end parts items returns (Left o) (Err (Passed f)) → (f ≡ F1) × (¬ AllFit (at_ends (slice_parts parts o.slice.now) o.span))
+      alone_fails : (o : One C) → IsShareGiven value start end parts items returns (Left o) (Err (Because f)) → (f ≡ F1) × (¬ AllFit (at_ends (slice_parts parts o.slice.now) o.span))
       alone_fails o h = ⊎_elim (λ m. none_some f (sym m.1)) (λ m. (same_some m.1, m.0)) h
 
-      fails_left : (v w : List (CutOf (Slice C))) (o : One C) → PiecesAreClear cut_span w → AtCuts At v → next_share v w ≡ Some (share_of (Left o)) → IsShareGiven value start end parts items returns (Left o) (Err (Passed f)) → Refused (shared_cuts v w)
+      fails_left : (v w : List (CutOf (Slice C))) (o : One C) → PiecesAreClear cut_span w → AtCuts At v → next_share v w ≡ Some (share_of (Left o)) → IsShareGiven value start end parts items returns (Left o) (Err (Because f)) → Refused (shared_cuts v w)
       fails_left v w o k a e h =
           let bad = alone_fails o h in
           let ends = left_ends At v w k a o.span o.slice.now e in
@@ -156,7 +156,7 @@ module _ {C B V : Type 0} (value : C → Ratio → Ratio → Ratio → B) (start
           (λ m. subst Refused (sym m.3) (inl (inl (bad.0, λ all. bad.1 (all_both (slice_parts parts o.slice.now o.span.lower) (slice_parts parts o.slice.now o.span.upper) ends.0 (subst (λ z. At o.slice.now z) m.4 (all_first (slice_parts parts o.slice.now m.0.lower) (slice_parts parts o.slice.now m.0.upper) (all_first (at_ends (slice_parts parts o.slice.now) m.0) (at_ends (slice_parts parts m.1) m.0) all))))))))
           ends.1
 
-      fails_right : (v w : List (CutOf (Slice C))) (o : One C) → PiecesAreClear cut_span v → AtCuts At w → next_share v w ≡ Some (share_of (Right o)) → IsShareGiven value start end parts items returns (Right o) (Err (Passed f)) → Refused (shared_cuts v w)
+      fails_right : (v w : List (CutOf (Slice C))) (o : One C) → PiecesAreClear cut_span v → AtCuts At w → next_share v w ≡ Some (share_of (Right o)) → IsShareGiven value start end parts items returns (Right o) (Err (Because f)) → Refused (shared_cuts v w)
       fails_right v w o k a e h =
           let bad = alone_fails o h in
           let ends = right_ends At v w k a o.span o.slice.now e in
@@ -165,16 +165,15 @@ module _ {C B V : Type 0} (value : C → Ratio → Ratio → Ratio → B) (start
           (λ m. subst Refused (sym m.3) (inl (inl (bad.0, λ all. bad.1 (all_both (slice_parts parts o.slice.now o.span.lower) (slice_parts parts o.slice.now o.span.upper) ends.0 (subst (λ z. At o.slice.now z) m.4 (all_first (slice_parts parts o.slice.now m.0.lower) (slice_parts parts o.slice.now m.0.upper) (all_second (at_ends (slice_parts parts m.1) m.0) (at_ends (slice_parts parts o.slice.now) m.0) all))))))))
           ends.1
 
-      fails_both : (p : Pair C C) (rest : List (PieceOf (Slice C) (Slice C))) → HoldsShare start end (share_of (Both p)) → returns p (Err (Passed f)) → Refused (pair_of p ∷ rest)
+      fails_both : (p : Pair C C) (rest : List (PieceOf (Slice C) (Slice C))) → HoldsShare start end (share_of (Both p)) → returns p (Err (Because f)) → Refused (pair_of p ∷ rest)
       fails_both p rest h r = ⊎_elim (λ m. inl (inl m)) (λ m. inl (inr (m, (p, refl, pair_fit start end p h, r)))) (judged p h r)
 
-      -- the first piece of the walk on which a call was refused makes the first shared piece that
-      -- is refused
+      -- the first piece of the walk on which a call failed is the first shared piece that fails
       refused_from : (xs : List (Share C)) (s t : Shares C) → CanShare s → AtCuts At (rest_of s.lefts) → AtCuts At (rest_of s.rights) → Walk s xs t → IsFirstFailure gives fails xs → Refused (shared_cuts (rest_of s.lefts) (rest_of s.rights))
       refused_from [] s t can l r y h = absurd h
       refused_from (p ∷ xs) s t can l r y h = ⊎_elim (λ m. first p y.1 (step_of s y.0 p can y.1) (failed p m)) (λ m. later p m.0 m.1 y.1 (step_of s y.0 p can y.1) (λ a b. refused_from xs y.0 t (step_of s y.0 p can y.1).clear a b y.2 m.2)) h
         where
-          first : (p : Share C) → IsShared s p y.0 → IsStep (rest_of s.lefts) (rest_of s.rights) (share_of p) (rest_of y.0.lefts) (rest_of y.0.rights) → HoldsShare start end (share_of p) × IsShareGiven value start end parts items returns p (Err (Passed f)) → Refused (shared_cuts (rest_of s.lefts) (rest_of s.rights))
+          first : (p : Share C) → IsShared s p y.0 → IsStep (rest_of s.lefts) (rest_of s.rights) (share_of p) (rest_of y.0.lefts) (rest_of y.0.rights) → HoldsShare start end (share_of p) × IsShareGiven value start end parts items returns p (Err (Because f)) → Refused (shared_cuts (rest_of s.lefts) (rest_of s.rights))
           first (Left o) i step k = fails_left (rest_of s.lefts) (rest_of s.rights) o can.1 l i.next k.1
           first (Right o) i step k = fails_right (rest_of s.lefts) (rest_of s.rights) o can.0 r i.next k.1
           first (Both p) i step k = subst Refused (sym step.shared) (fails_both p (shared_cuts (rest_of y.0.lefts) (rest_of y.0.rights)) k.0 k.1)
@@ -189,8 +188,8 @@ module _ {C B V : Type 0} (value : C → Ratio → Ratio → Ratio → B) (start
               behind_it (Right o) x g i h = h
               behind_it (Both p) x g i h = inr (x, answered_both p x g i, h)
 
--- Of all of two values.
-module _ {C B V : Type 0} {steady copies : Bool} {value : C → Ratio → Ratio → Ratio → B} {start end : C → B} {can_make : B → B → Type 0} {make : B → B → C} {continues : C → C → Ratio → Ratio → Ratio → Bool} {parts : C → Ratio → Ratio → Ratio → List Ratio} (laws : IsCourse steady copies value start end can_make make continues parts) (items : V → List (Slice C)) (returns : Pair C C → Result V OpFault → Type 0) (gives : Share C → V → Type 0)
+-- The merge of two whole values.
+module _ {C B V : Type 0} {steady copies : Bool} {value : C → Ratio → Ratio → Ratio → B} {start end : C → B} {can_make : B → B → Type 0} {make : B → B → C} {continues : C → C → Ratio → Ratio → Ratio → Bool} {parts : C → Ratio → Ratio → Ratio → List Ratio} (laws : IsCourse steady copies value start end can_make make continues parts) (items : V → List (Slice C)) (returns : Pair C C → Result V (Fault Formula) → Type 0) (gives : Share C → V → Type 0)
     (gave : (p : Share C) (x : V) → gives p x → HoldsShare start end (share_of p) × IsShareGiven value start end parts items returns p (Ok x))
     (s : Shares C) (v w : List (Slice C)) (can : CanShare s) (left : rest_of s.lefts ≡ wholes (λ s. s.span) v) (right : rest_of s.rights ≡ wholes (λ s. s.span) w) where
   shared_is : shared_cuts (rest_of s.lefts) (rest_of s.rights) ≡ shared_pieces (λ s. s.span) (λ s. s.span) v w
@@ -217,8 +216,8 @@ module _ {C B V : Type 0} {steady copies : Bool} {value : C → Ratio → Ratio 
         }
 
     pub first_refused : (f : Formula) (fails : Share C → Type 0)
-        → ((p : Share C) → fails p → HoldsShare start end (share_of p) × IsShareGiven value start end parts items returns p (Err (Passed f)))
-        → ((p : Pair C C) → HoldsShare start end (share_of (Both p)) → returns p (Err (Passed f)) → ((f ≡ F1) × (¬ AllFit (piece_parts parts (pair_of p)))) ⊎ AllFit (piece_parts parts (pair_of p)))
+        → ((p : Share C) → fails p → HoldsShare start end (share_of p) × IsShareGiven value start end parts items returns p (Err (Because f)))
+        → ((p : Pair C C) → HoldsShare start end (share_of (Both p)) → returns p (Err (Because f)) → ((f ≡ F1) × (¬ AllFit (piece_parts parts (pair_of p)))) ⊎ AllFit (piece_parts parts (pair_of p)))
         → ((ps : List (Share C)) × (t : Shares C) × Yields GivesShare s ps t × IsFirstFailure gives fails ps) → IsFirstRefused start end parts returns v w f
     first_refused f fails failed judged h =
         subst (λ z. IsFirstFailure {V = V} (λ q x. AllFit (piece_parts parts q) × IsAnswered start end returns q (Ok x)) (IsRefused start end parts returns f) z) shared_is

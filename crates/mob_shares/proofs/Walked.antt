@@ -1,4 +1,4 @@
--- What the pieces of the walk give, taken together.
+-- The pieces of the walk, taken together.
 use Rattle.std.specs.Prelude.{◌≡◌, true, List, [], ◌∷◌, Option, Some, None}
 use Rattle.std.specs.List.{AllByRecursion}
 use Rattle.std.specs.Iterator.{Yields, HoldsAlong}

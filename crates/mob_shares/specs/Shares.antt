@@ -1,4 +1,4 @@
--- The walk over all instants that one of two temporal values has, as contracts see it.
+-- The walk over all instants at which one of two temporal values is defined, as contracts see it.
 use Rattle.std.specs.Prelude.{◌≡◌, true, List, [], ◌∷◌, Option, Some, None, MatchOption}
 use Rattle.std.specs.Iterator.{Count, at_most}
 use Rattle.mob_span.specs.Span.{SpanOf}
@@ -14,11 +14,11 @@ use Rattle.mob_shares.specs.declared.shares.Share.{Share}
 use Rattle.mob_shares.specs.declared.shares.Share.TheVariants.{Left, Right, Both}
 use Rattle.mob_shares.specs.declared.shares.Shares.{Shares}
 
--- a slice with what is left of it
+-- a slice with the rest of its span
 abbrev pub cut_of : {C : Type 0} → One C → CutOf (Slice C)
 cut_of o = record { span = o.span; of = o.slice.now }
 
--- the slices of which the first has that span left, or all
+-- the slices, the first of them with that rest of its span, or with its whole span
 abbrev pub cuts_by : {C : Type 0} → Option SpanOf → List (Slice C) → List (CutOf (Slice C))
 cuts_by o [] = []
 cuts_by None (s ∷ rest) = record { span = s.span; of = s } ∷ wholes (λ s. s.span) rest
@@ -39,7 +39,7 @@ share_span p = (share_of p).span
 abbrev pub CanShare : {C : Type 0} → Shares C → Type 0
 CanShare s = PiecesAreClear (λ c. c.span) (rest_of s.lefts) × PiecesAreClear (λ c. c.span) (rest_of s.rights)
 
--- the piece that comes next is given, and what is behind it is left
+-- the next piece is returned, and the rest after it is left
 pub record IsShared {C : Type 0} (s : Shares C) (p : Share C) (t : Shares C) : Type 0 where
   pub next : next_share (rest_of s.lefts) (rest_of s.rights) ≡ Some (share_of p)
   pub left : rest_of t.lefts ≡ behind (share_span p) (share_of p).left (rest_of s.lefts)
@@ -51,7 +51,7 @@ GivesShare s r t = MatchOption r ((rest_of s.lefts ≡ []) × (rest_of s.rights 
 abbrev pub shares_left : {C : Type 0} → Shares C → Count
 shares_left s = at_most (most_shares (rest_of s.lefts) (rest_of s.rights))
 
--- a slice is sound and holds a piece
+-- a slice is sound and contains a piece
 abbrev pub HoldsThere : {C B : Type 0} → (C → B) → (C → B) → SpanOf → Option (Slice C) → Type 0
 HoldsThere start end r None = Unit {0}
 HoldsThere start end r (Some s) = IsSound start end s × (is_inside s.span r ≡ true)

@@ -1,4 +1,4 @@
--- The pieces of time at which one of two lists has something.
+-- The pieces of time at which one of two lists has an item.
 use Rattle.std.specs.Prelude.{cond, ℕ, ◌+◌, List, [], ◌∷◌, length, Option, Some, None}
 use Rattle.mob_span.specs.Span.{SpanOf, has_instant}
 use Rattle.mob_span.specs.Meet.{meet_of}
@@ -6,12 +6,12 @@ use Rattle.mob_span.specs.Meets.{PieceOf}
 use Rattle.mob_span.specs.Remainders.{front_of}
 use Rattle.mob_shares.specs.Cuts.{CutOf, left_after}
 
--- A piece of time with what each of two lists has there: one of them, or both.
+-- A piece of time with the items that two lists have there: one of them, or both.
 abbrev pub ShareOf : Type 0 → Type 0 → Type 0
 ShareOf X Y = PieceOf (Option X) (Option Y)
 
--- the piece with which two lists begin: what of the first of one comes before that of the other, or
--- what both begin with
+-- the piece with which two lists begin: the part of one's first item before that of the other, or
+-- the part with which both begin
 abbrev pub next_share : {X Y : Type 0} → List (CutOf X) → List (CutOf Y) → Option (ShareOf X Y)
 next_share [] [] = None
 next_share (c ∷ cs) [] = Some (record { span = c.span; left = Some c.of; right = None })
@@ -21,12 +21,12 @@ next_share (c ∷ cs) (d ∷ ds) =
     (cond (has_instant (front_of d.span c.span)) (Some (record { span = front_of d.span c.span; left = None; right = Some d.of }))
     (Some (record { span = meet_of c.span d.span; left = Some c.of; right = Some d.of })))
 
--- what is left of a list behind a piece in which it has something, or nothing
+-- the rest of a list after a piece in which it has an item, or none
 abbrev pub behind : {X : Type 0} → SpanOf → Option X → List (CutOf X) → List (CutOf X)
 behind p None cs = cs
 behind p (Some x) cs = left_after p cs
 
--- the piece, where both have something in it
+-- the piece, if both have an item in it
 abbrev pub both_by : {X Y : Type 0} → SpanOf → Option X → Option Y → List (PieceOf X Y)
 both_by r None y = []
 both_by r (Some x) None = []
@@ -35,12 +35,12 @@ both_by r (Some x) (Some y) = record { span = r; left = x; right = y } ∷ []
 abbrev pub both_of : {X Y : Type 0} → ShareOf X Y → List (PieceOf X Y)
 both_of p = both_by p.span p.left p.right
 
--- how many of the two first ones begin before the other
+-- the number of first items that begin before the other list's
 abbrev pub fronts : {X Y : Type 0} → List (CutOf X) → List (CutOf Y) → ℕ
 fronts [] ds = 0
 fronts (c ∷ cs) [] = 0
 fronts (c ∷ cs) (d ∷ ds) = cond (has_instant (front_of c.span d.span)) 1 0 + cond (has_instant (front_of d.span c.span)) 1 0
 
--- no more pieces than so many come
+-- an upper bound of the number of pieces
 abbrev pub most_shares : {X Y : Type 0} → List (CutOf X) → List (CutOf Y) → ℕ
 most_shares cs ds = (length cs + length cs + length cs) + (length ds + length ds + length ds) + fronts cs ds

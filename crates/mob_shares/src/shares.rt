@@ -1,4 +1,4 @@
-//! The walk over all instants that one of two temporal values has.
+//! The walk over all instants at which one of two temporal values is defined.
 
 ghost use Rattle.std.specs.Prelude.{◌≡◌, true, false, [], ◌∷◌, Some, option_map, IfSome, MatchOption};
 ghost use Rattle.mob_span.specs.Meet.{meet_of};
@@ -19,7 +19,7 @@ fn is_like(a: bool, b: bool) -> bool
     a == b
 }
 
-// Whether two spans begin with one instant, or both behind it.
+// Whether two spans begin at the same instant, which both include or both exclude.
 fn begin_together(a: &Span, b: &Span) -> bool
     ensures together { result ≡ true → BeginTogether a.now b.now }
 {
@@ -29,7 +29,7 @@ fn begin_together(a: &Span, b: &Span) -> bool
     is_like(a.lower_inc(), b.lower_inc())
 }
 
-// Whether two spans end with one instant, or both before it.
+// Whether two spans end at the same instant, which both include or both exclude.
 fn end_together(a: &Span, b: &Span) -> bool
     ensures together { result ≡ true → EndTogether a.now b.now }
 {
@@ -39,7 +39,7 @@ fn end_together(a: &Span, b: &Span) -> bool
     is_like(a.upper_inc(), b.upper_inc())
 }
 
-// What two spans that begin together share: the one that ends first.
+// The intersection of two spans that begin together: the one that ends first.
 fn shorter(a: &Span, b: &Span) -> Span
     requires together { BeginTogether a.now b.now }
     ensures meet { result ≡ meet_of a.now b.now }
@@ -50,7 +50,7 @@ fn shorter(a: &Span, b: &Span) -> Span
     *b
 }
 
-// What of a span comes behind another that begins with it.
+// The part of a span after another that begins with it.
 fn back_of_longer(span: &Span, first: &Span) -> Option<Span>
     requires together { BeginTogether first.now span.now }
     ensures ends { IfSome result (λ p. p ≡ back_of span.now first.now) }
@@ -64,8 +64,7 @@ fn back_of_longer(span: &Span, first: &Span) -> Option<Span>
     )
 }
 
-// What of a span comes behind another, as `back` gives it. Most often the two begin or end
-// together.
+// The part of a span after another, as `back` returns it. Most often the two begin or end together.
 fn back(span: &Span, first: &Span) -> Option<Span>
     ensures ends { IfSome result (λ p. p ≡ back_of span.now first.now) }
     ensures test { MatchOption result (has_instant (back_of span.now first.now) ≡ false) (λ p. has_instant p ≡ true) }
@@ -79,11 +78,11 @@ fn back(span: &Span, first: &Span) -> Option<Span>
     span.back(first)
 }
 
-// What is left of the slices of a value: all but the first are whole.
+// The rest of the slices of a value: all but the first are whole.
 #[derive(Drop)]
 pub struct Rest<'a, C> {
     slices: &'a [Slice<C>],
-    // what is left of the first, where it is not all
+    // the rest of the first, if it is not whole
     first: Option<Span>,
 }
 
@@ -97,7 +96,7 @@ impl<'a, C> Rest<'a, C> {
         }
     }
 
-    // The first slice with what is left of it.
+    // The first slice with the rest of its span.
     fn first(&self) -> Option<One<'a, C>>
         ensures first { option_map cut_of result ≡ head_of (rest_of self.now) }
     {
@@ -113,7 +112,7 @@ impl<'a, C> Rest<'a, C> {
         }
     }
 
-    // What is left behind a span with which the first one begins.
+    // The rest after a span with which the first slice begins.
     fn after(&self, span: &Span) -> Self
         ensures after { rest_of result ≡ left_after span.now (rest_of self.now) }
     {
@@ -134,12 +133,12 @@ impl<'a, C> Rest<'a, C> {
     }
 }
 
-/// A piece of time at which one of two values has a slice, or each of them.
+/// A piece of time at which one of two values has a slice, or both have.
 #[derive(Drop)]
 pub enum Share<'a, C> {
-    /// The first alone.
+    /// The first value alone.
     Left(One<'a, C>),
-    /// The second alone.
+    /// The second value alone.
     Right(One<'a, C>),
     /// Both.
     Both(Pair<'a, C, C>),
@@ -159,8 +158,8 @@ impl<'a, C: Course> Part for Share<'a, C> {
     }
 }
 
-// The piece with which two lists of slices begin: what of the first slice of one comes before that
-// of the other, or what both begin with.
+// The piece with which two lists of slices begin: the part of one's first slice before that of the
+// other, or the part with which both begin.
 fn first_share<'a, C>(left: &One<'a, C>, right: &One<'a, C>) -> Share<'a, C>
     requires left { has_instant left.now.span ≡ true }
     requires right { has_instant right.now.span ≡ true }
@@ -196,7 +195,7 @@ fn first_share<'a, C>(left: &One<'a, C>, right: &One<'a, C>) -> Share<'a, C>
     })
 }
 
-/// The pieces of time at which one of two values has a slice, or each of them, in order of time.
+/// The pieces of time at which one of two values has a slice, or both have, in order of time.
 #[derive(Drop)]
 pub struct Shares<'a, C> {
     lefts: Rest<'a, C>,
@@ -204,7 +203,7 @@ pub struct Shares<'a, C> {
 }
 
 impl<'a, C> Shares<'a, C> {
-    /// The walk from the first piece.
+    /// The walk, at the first piece.
     pub fn new(lefts: &'a [Slice<C>], rights: &'a [Slice<C>]) -> Self
         requires left_order { PiecesAreClear (λ s. s.span) lefts.now }
         requires right_order { PiecesAreClear (λ s. s.span) rights.now }
@@ -218,7 +217,7 @@ impl<'a, C> Shares<'a, C> {
         }
     }
 
-    // The piece that comes next, if one is left.
+    // The next piece, if any is left.
     fn peek(&self) -> Option<Share<'a, C>>
         requires can { CanShare self.now }
         ensures next { option_map share_of result ≡ next_share (rest_of self.now.lefts) (rest_of self.now.rights) }
@@ -235,7 +234,7 @@ impl<'a, C> Shares<'a, C> {
         Some(first_share(&left, &right))
     }
 
-    // Takes a piece off each of the two values that has something in it.
+    // Removes a piece from each of the two values that has a slice in it.
     fn pass(&mut self, share: &Share<'a, C>)
         ensures left { rest_of self.new.lefts ≡ behind (share_span share.now) (share_of share.now).left (rest_of self.old.lefts) }
         ensures right { rest_of self.new.rights ≡ behind (share_span share.now) (share_of share.now).right (rest_of self.old.rights) }

@@ -8,7 +8,7 @@ use Rattle.mob_typed.specs.Selects.{TypedSelectParts}
 use Rattle.mob_typed.specs.Statements.{StatementOut, deletion, query}
 use Rattle.mob_catalog.specs.Catalogue.{Catalogue}
 use Rattle.mob_meaning.specs.Scene.{Scene, scene}
-use Rattle.mob_meaning.specs.Evaluation.{Fault}
+use Rattle.mob_meaning.specs.Evaluation.{PlacedFormula}
 use Rattle.mob_meaning.specs.Passes.{FaultsPass, TreePasses}
 use Rattle.mob_eval.specs.QueryFaults.{TupleFault}
 use Rattle.mob_tuples.specs.Tuples.{StandsIn}
@@ -32,15 +32,15 @@ failing_entry R (x ∷ xs) f (inl h) = (x, ([], xs, refl), h)
 failing_entry R (x ∷ xs) f (inr h) = let later = failing_entry R xs f h.2 in (later.0, stands_behind x later.0 xs later.1, later.2)
 
 module _ (pass : FaultsPass) where
-  unfit_condition : (s : Scene) (c : Option TypedTree) (f : Fault) → FailsBy c s f → (e : TypedTree) × (c ≡ Some e) × TreePasses s e f
+  unfit_condition : (s : Scene) (c : Option TypedTree) (f : PlacedFormula) → FailsBy c s f → (e : TypedTree) × (c ≡ Some e) × TreePasses s e f
   unfit_condition s None f h = absurd h
   unfit_condition s (Some e) f h = (e, refl, pass s e f h)
 
-  unfit_argument_of : (kind : AggKind) (s : Scene) (e : TypedTree) (f : Fault) → IsArgumentOf kind s e (Err f) → ArgumentOfPasses kind s e f
+  unfit_argument_of : (kind : AggKind) (s : Scene) (e : TypedTree) (f : PlacedFormula) → IsArgumentOf kind s e (Err f) → ArgumentOfPasses kind s e f
   unfit_argument_of CountAll s e f h = absurd (cc h)
   unfit_argument_of _ s e f h = pass s e f h
 
-  unfit_argument : (s : Scene) (column : Column) (f : Fault) → IsArgument s column (Err f) → ArgumentPasses s column f
+  unfit_argument : (s : Scene) (column : Column) (f : PlacedFormula) → IsArgument s column (Err f) → ArgumentPasses s column f
   unfit_argument s (e, None) f h = absurd (cc h)
   unfit_argument s (e, Some agg) f h = unfit_argument_of agg.kind s e f h
 

@@ -7,10 +7,11 @@ use Rattle.mob_ratio.specs.Order.{before, up_to, same}
 use Rattle.mob_ratio.proofs.Order.{before-self, before-back, before-trans, before-neither, same_exact}
 use Rattle.mob_span.specs.Span.{has_instant}
 use Rattle.mob_list.proofs.Each.{each_on, each_both}
-use Rattle.mob_slice.specs.Entries.{Entry, IsFirst, OnFormula}
+use Rattle.mob_list.specs.Faults.{OnCause}
+use Rattle.mob_slice.specs.Entries.{Entry, IsFirst}
 use Rattle.mob_slice.specs.declared.formula.Formula.{Formula}
-use Rattle.mob_slice.specs.declared.formula.OpFault.{OpFault}
-use Rattle.mob_slice.specs.declared.formula.OpFault.TheVariants.{Passed, NoMemory}
+use Rattle.mob_list.specs.declared.fault.Fault.{Fault}
+use Rattle.mob_list.specs.declared.fault.Fault.TheVariants.{Because, NoMemory}
 use Rattle.mob_slice.specs.declared.line.PlaneLine.{PlaneLine}
 use Rattle.mob_slice.specs.declared.slice.Slice.{Slice}
 use Rattle.mob_lifted.proofs.Firsts.{first_joined, first_front}
@@ -92,8 +93,8 @@ module _ (d : Ratio) (all : List (Slice PlaneLine)) (s : Slice PlaneLine) (betwe
     walking_fails f bad = m.firsts (Some f) (subst (λ z. IsFirst (tests_along d s between l z) (Some f)) (sym e) (first_front front (behind (stays d s wide l r)) f bad))
 
     -- what refuses the next slice refuses all
-    pub walking_refused : (e : OpFault) → OnFormula (λ f. IsFirst front (Some f)) e → OnFormula (λ f. IsFirst (all_tests d all) (Some f)) e
-    walking_refused (Passed f) bad = walking_fails f bad
+    pub walking_refused : (e : Fault Formula) → OnCause (λ f. IsFirst front (Some f)) e → OnCause (λ f. IsFirst (all_tests d all) (Some f)) e
+    walking_refused (Because f) bad = walking_fails f bad
     walking_refused NoMemory bad = tt
 
     going_by : (b c : Bool) → true ≡ (b && c) → b ≡ true

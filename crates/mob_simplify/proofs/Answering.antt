@@ -12,7 +12,7 @@ use Rattle.mob_slice.specs.Entries.{IsJudged}
 use Rattle.mob_slice.specs.Lines.{plane_value_of, plane_continued}
 use Rattle.mob_slice.specs.PlaneLaws.{plane_laws}
 use Rattle.mob_slice.specs.Slices.{value_at, IsNormal}
-use Rattle.mob_slice.specs.declared.formula.OpFault.{OpFault}
+use Rattle.mob_list.specs.declared.fault.Fault.{Fault}
 use Rattle.mob_slice.specs.declared.line.PlaneLine.{PlaneLine}
 use Rattle.mob_slice.specs.declared.slice.Slice.{Slice}
 use Rattle.mob_near.specs.Distances.{distance_squared}
@@ -22,6 +22,7 @@ use Rattle.mob_simplify.proofs.Convexity.{one_place}
 use Rattle.mob_simplify.proofs.Found.{found}
 use Rattle.mob_simplify.proofs.NearAlong.{all_near}
 use Rattle.mob_simplify.proofs.Ordered.{AreOrderedLines, all_ordered}
+use Rattle.mob_slice.specs.declared.formula.Formula.{Formula}
 
 abbrev pub IsNormalLines : List (Slice PlaneLine) → Type 0
 IsNormalLines v = IsNormal (λ c. c.from) (λ c. c.to) plane_continued v
@@ -49,5 +50,5 @@ near_one D (Some x) None e h = absurd h
 pub is_same : (d : Ratio) (a thin : List (Slice PlaneLine)) → d *ℚ d ≡ nil → IsNormalLines a → IsNormalLines thin → ((t : Ratio) → AreNear (d *ℚ d) (At thin t) (At a t)) → thin ≡ a
 is_same d a thin e n m near = unique plane_laws thin a m.chained n.chained (λ t. near_one (d *ℚ d) (At thin t) (At a t) e (near t))
 
-pub is_judged : {V : Type 0} (d : Ratio) (a : List (Slice PlaneLine)) (r : Result V OpFault) → IsJudged (all_tests d a) r → OnRuns d a (λ runs. IsJudged (flat_map (tests_of_run d) runs) r)
+pub is_judged : {V : Type 0} (d : Ratio) (a : List (Slice PlaneLine)) (r : Result V (Fault Formula)) → IsJudged (all_tests d a) r → OnRuns d a (λ runs. IsJudged (flat_map (tests_of_run d) runs) r)
 is_judged d a r h = let f = found d a in (f.runs, f.of, subst (λ z. IsJudged z r) (sym f.tests) h)

@@ -18,7 +18,7 @@ ghost use Rattle.mob_simplify.specs.Tests.{entries_of_test, tests_of};
 use crate::breaks::Break;
 use mob_frac::{Frac, Overflow};
 use mob_plane::Point;
-use mob_slice::{Formula, Passed};
+use mob_slice::Formula;
 
 /// A distance, with its square. A test judges the square where it comes to it.
 #[derive(Clone, Copy, Drop)]
@@ -113,7 +113,7 @@ fn moved_place(p: &Break, n: &Break, reach: &Reach, part: &Frac) -> Result<Point
 }
 
 // Where the straight course from `p` to `n` is at the instant of `b`.
-fn straight_at(p: &Break, n: &Break, reach: &Reach, b: &Break) -> Result<Point, Passed>
+fn straight_at(p: &Break, n: &Break, reach: &Reach, b: &Break) -> Result<Point, Formula>
     requires reach { IsBreakReach p.now n.now reach.now }
     requires after { before p.now.instant b.now.instant ≡ true }
     requires until { before b.now.instant n.now.instant ≡ true }
@@ -125,32 +125,24 @@ fn straight_at(p: &Break, n: &Break, reach: &Reach, b: &Break) -> Result<Point, 
     let part = match part_gone(&p.instant, &n.instant, &reach.time, &b.instant) {
         Ok(part) => part,
         Err(_) => {
-            return Err(Passed {
-                formula: Formula::F1,
-            });
+            return Err(Formula::F1);
         }
     };
     match moved_place(p, n, reach, &part) {
         Ok(place) => Ok(place),
-        Err(_) => Err(Passed {
-            formula: Formula::F1,
-        }),
+        Err(_) => Err(Formula::F1),
     }
 }
 
 // The difference of two points, by coordinate.
-fn difference(a: &Point, b: &Point) -> Result<Point, Passed>
+fn difference(a: &Point, b: &Point) -> Result<Point, Formula>
     ensures value { IsComputed F2 ((a.now.x -ℚ b.now.x) ∷ (a.now.y -ℚ b.now.y) ∷ []) (record { x = a.now.x -ℚ b.now.x; y = a.now.y -ℚ b.now.y }) result }
 {
     let Ok(x) = a.x.sub(&b.x) else {
-        return Err(Passed {
-            formula: Formula::F2,
-        });
+        return Err(Formula::F2);
     };
     let Ok(y) = a.y.sub(&b.y) else {
-        return Err(Passed {
-            formula: Formula::F2,
-        });
+        return Err(Formula::F2);
     };
     Ok(Point { x, y })
 }
@@ -170,7 +162,7 @@ fn length_within(v: &Point, limit: &Limit) -> Result<bool, Overflow>
 }
 
 // Whether the straight course from `p` to `n` is at the break `b` within the limit of its place.
-fn is_near(p: &Break, n: &Break, reach: &Reach, b: &Break, limit: &Limit) -> Result<bool, Passed>
+fn is_near(p: &Break, n: &Break, reach: &Reach, b: &Break, limit: &Limit) -> Result<bool, Formula>
     requires reach { IsBreakReach p.now n.now reach.now }
     requires square { IsSquared limit.now }
     requires after { before p.now.instant b.now.instant ≡ true }
@@ -178,26 +170,19 @@ fn is_near(p: &Break, n: &Break, reach: &Reach, b: &Break, limit: &Limit) -> Res
     ensures value { IfOk result (λ near. near ≡ up_to (off_course p.now n.now b.now) (limit.now.distance *ℚ limit.now.distance)) }
     ensures first { IsDecided (entries_of_test limit.now.distance p.now n.now b.now) result }
 {
-    let place = match straight_at(p, n, reach, b) {
-        Ok(place) => place,
-        Err(passed) => return Err(passed),
-    };
-    let gap = match difference(&place, &b.place) {
-        Ok(gap) => gap,
-        Err(passed) => return Err(passed),
-    };
+    let place = straight_at(p, n, reach, b)?;
+    let gap = difference(&place, &b.place)?;
     match length_within(&gap, limit) {
         Ok(near) => Ok(near),
-        Err(_) => Err(Passed {
-            formula: Formula::F6,
-        }),
+        Err(_) => Err(Formula::F6),
     }
 }
 
 /// Whether the break `n` passes after the kept break `p`: at each break between, the straight
-/// course from `p` to `n` is within the limit of the place there. `Passed` names the formula of the
-/// first test that has a part that does not fit; behind the first test that fails there is none.
-pub fn passes(p: &Break, between: &[Break], n: &Break, limit: &Limit) -> Result<bool, Passed>
+/// course from `p` to `n` is within the limit of the place there. The fault names the formula of
+/// the first test that has a part that does not fit; behind the first test that fails there is
+/// none.
+pub fn passes(p: &Break, between: &[Break], n: &Break, limit: &Limit) -> Result<bool, Formula>
     requires square { IsSquared limit.now }
     requires between { AllByRecursion (λ b. (before p.now.instant b.instant ≡ true) × (before b.instant n.now.instant ≡ true)) between.now }
     ensures value { IfOk result (λ pass. pass ≡ passes limit.now.distance p.now between.now n.now) }

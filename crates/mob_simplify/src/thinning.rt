@@ -11,8 +11,9 @@ ghost use Rattle.mob_simplify.specs.Thinned.{IsThin, AreNear, OnRuns, tests_of_r
 use crate::passing::with_square;
 use crate::walking::walked;
 use mob_frac::Frac;
+use mob_list::fault::Fault;
 use mob_normal::normal;
-use mob_slice::{Moving, OpFault, PlaneLine};
+use mob_slice::{Formula, Moving, PlaneLine};
 use std::alloc::Global;
 
 /// The moving point with straight courses in place of its runs, each within the distance `d` of it:
@@ -22,11 +23,15 @@ use std::alloc::Global;
 /// At every instant it is within `d` of the point, it is somewhere exactly where the point is, and
 /// with `d` 0 it is the point.
 ///
-/// `Passed` names the formula of the first test that has a part that does not fit: by run, kept
+/// The fault names the formula of the first test that has a part that does not fit: by run, kept
 /// break, break that is tested, and break between, each F1, the straight course at the break
 /// between, F2, the difference by coordinate, and F6, the square of its length and that of `d`. For
 /// a kept break the tests stop at the first that fails.
-pub fn thin(alloc: Global, a: &Moving<PlaneLine>, d: &Frac) -> Result<Moving<PlaneLine>, OpFault>
+pub fn thin(
+    alloc: Global,
+    a: &Moving<PlaneLine>,
+    d: &Frac,
+) -> Result<Moving<PlaneLine>, Fault<Formula>>
     requires not_negative { up_to nil d.now ≡ true }
     ensures thin { IfOk result (λ thin. IsThin d.now a.now thin) }
     ensures near { IfOk result (λ thin. (t : Ratio) → AreNear (d.now *ℚ d.now) (value_at plane_value_of thin t) (value_at plane_value_of a.now t)) }
@@ -41,6 +46,6 @@ pub fn thin(alloc: Global, a: &Moving<PlaneLine>, d: &Frac) -> Result<Moving<Pla
     match normal(alloc, legs) {
         Ok(Some(thin)) => Ok(thin),
         Ok(None) => unreachable!(),
-        Err(_) => Err(OpFault::NoMemory),
+        Err(_) => Err(Fault::NoMemory),
     }
 }

@@ -12,7 +12,8 @@ ghost use Rattle.mob_simplify.specs.Walk.{continues_run, stays, leg_over, all_le
 
 use crate::breaks::{Break, end_of, start_of};
 use crate::passing::{Limit, passes};
-use mob_slice::{OpFault, Passed, PlaneLine, Slice};
+use mob_list::fault::Fault;
+use mob_slice::{Formula, PlaneLine, Slice};
 use mob_span::Span;
 use std::alloc::Global;
 
@@ -37,7 +38,7 @@ fn stays(
     last: &Slice<PlaneLine>,
     next: &Slice<PlaneLine>,
     limit: &Limit,
-) -> Result<bool, Passed>
+) -> Result<bool, Formula>
     requires square { IsSquared limit.now }
     requires between { continues_run last.now next.now ≡ true → AllByRecursion (λ b. (before first.now.span.lower b.instant ≡ true) × (before b.instant next.now.span.upper ≡ true)) between.now }
     ensures value { IfOk result (λ stay. stay ≡ stays limit.now.distance first.now between.now last.now next.now) }
@@ -56,7 +57,7 @@ fn next_stays(
     last: &Slice<PlaneLine>,
     next: &Slice<PlaneLine>,
     limit: &Limit,
-) -> Result<bool, OpFault>
+) -> Result<bool, Fault<Formula>>
     requires square { IsSquared limit.now }
     requires between { continues_run last.now next.now ≡ true → AllByRecursion (λ b. (before first.now.span.lower b.instant ≡ true) × (before b.instant next.now.span.upper ≡ true)) (between.old.items ++ start_of next.now ∷ []) }
     ensures some { has_instant next.now.span ≡ true }
@@ -65,11 +66,11 @@ fn next_stays(
     ensures first { IsJudged (cond (continues_run last.now next.now) (tests_of limit.now.distance (start_of first.now) (between.old.items ++ start_of next.now ∷ []) (end_of next.now)) []) result }
 {
     if between.push(start_of(next)).is_err() {
-        return Err(OpFault::NoMemory);
+        return Err(Fault::NoMemory);
     }
     match stays(first, between.as_slice(), last, next, limit) {
         Ok(stay) => Ok(stay),
-        Err(Passed { formula }) => Err(OpFault::Passed { formula }),
+        Err(formula) => Err(Fault::Because(formula)),
     }
 }
 
@@ -101,7 +102,7 @@ pub fn walked(
     alloc: Global,
     slices: &[Slice<PlaneLine>],
     limit: &Limit,
-) -> Result<Vec<Slice<PlaneLine>>, OpFault>
+) -> Result<Vec<Slice<PlaneLine>>, Fault<Formula>>
     requires square { IsSquared limit.now }
     requires some { slices.now ≢ [] }
     ensures legs { IfOk result (λ v. v.items ≡ all_legs limit.now.distance slices.now) }
@@ -123,14 +124,14 @@ pub fn walked(
             continue;
         }
         if legs.push(leg_over(first, last)).is_err() {
-            return Err(OpFault::NoMemory);
+            return Err(Fault::NoMemory);
         }
         between.clear();
         first = next;
         last = next;
     }
     if legs.push(leg_over(first, last)).is_err() {
-        return Err(OpFault::NoMemory);
+        return Err(Fault::NoMemory);
     }
     Ok(legs)
 }

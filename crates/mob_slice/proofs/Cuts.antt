@@ -5,17 +5,18 @@ use Rattle.mob_ratio.specs.Ratio.{Ratio}
 use Rattle.mob_ratio.specs.Order.{before, up_to, same}
 use Rattle.mob_ratio.proofs.Order.{before-back, before-trans, before-neither, same_exact}
 use Rattle.mob_frac.specs.Formula.{AllFit}
-pub use Rattle.mob_frac.proofs.Fitting.{all_both, all_first, all_second}
 use Rattle.mob_span.specs.Span.{SpanOf, has, has_instant}
 use Rattle.mob_slice.specs.Course.{IsCourse}
 use Rattle.mob_slice.specs.Look.{IsLooked, IsLookFault}
 use Rattle.mob_slice.specs.declared.slice.Slice.{Slice}
-use Rattle.mob_slice.specs.declared.formula.LookFault.{LookFault}
-use Rattle.mob_slice.specs.declared.formula.LookFault.TheVariants.{Passed, NoMemory}
+use Rattle.mob_list.specs.declared.fault.Fault.{Fault}
+use Rattle.mob_list.specs.declared.fault.Fault.TheVariants.{Because, NoMemory}
 use Rattle.mob_span.proofs.SpanLemmas.{some_upto}
 use Rattle.mob_span.specs.Neighbours.{is_inside}
 use Rattle.mob_slice.specs.Sides.{HasValues, at_ends}
 use Rattle.mob_slice.specs.Cut.{slice_value}
+use Rattle.mob_slice.specs.declared.formula.Formula.{Formula}
+pub use Rattle.mob_frac.proofs.Fitting.{all_both, all_first, all_second}
 
 pub inside_has : (s : SpanOf) (t : Ratio) → up_to s.lower t ≡ true → up_to t s.upper ≡ true → same t s.lower ≡ false → same t s.upper ≡ false → has s t ≡ true
 unfolding same
@@ -102,39 +103,39 @@ module _ {C B : Type 0} {steady copies : Bool} {value : C → Ratio → Ratio �
   can_be_level x a b e f = rw (e, f) (laws.can_level x)
 
   -- the limits at the ends
-  pub at_low : (s : Slice C) (t : Ratio) (r : Result B LookFault) → same t s.span.lower ≡ true → MatchResult r (λ b. b ≡ start s.course) (IsLookFault copies []) → IsLooked copies (parts s.course s.span.lower s.span.upper t) (value s.course s.span.lower s.span.upper t) r
+  pub at_low : (s : Slice C) (t : Ratio) (r : Result B (Fault Formula)) → same t s.span.lower ≡ true → MatchResult r (λ b. b ≡ start s.course) (IsLookFault copies []) → IsLooked copies (parts s.course s.span.lower s.span.upper t) (value s.course s.span.lower s.span.upper t) r
   at_low s t r h m =
       let e : s.span.lower ≡ t = sym ((same_exact t s.span.lower).0 h) in
       subst (λ z. IsLooked copies (parts s.course s.span.lower s.span.upper z) (value s.course s.span.lower s.span.upper z) r) e (rw (laws.lower_parts s.course s.span.lower s.span.upper, laws.at_lower s.course s.span.lower s.span.upper) (looked r (start s.course) m))
     where
-      looked : (r : Result B LookFault) (x : B) → MatchResult r (λ b. b ≡ x) (IsLookFault copies []) → IsLooked copies [] x r
+      looked : (r : Result B (Fault Formula)) (x : B) → MatchResult r (λ b. b ≡ x) (IsLookFault copies []) → IsLooked copies [] x r
       looked (Ok b) x m = (m, tt)
       looked (Err f) x m = m
 
-  pub at_high : (s : Slice C) (t : Ratio) (r : Result B LookFault) → up_to s.span.lower t ≡ true → same t s.span.lower ≡ false → same t s.span.upper ≡ true → MatchResult r (λ b. b ≡ end s.course) (IsLookFault copies []) → IsLooked copies (parts s.course s.span.lower s.span.upper t) (value s.course s.span.lower s.span.upper t) r
+  pub at_high : (s : Slice C) (t : Ratio) (r : Result B (Fault Formula)) → up_to s.span.lower t ≡ true → same t s.span.lower ≡ false → same t s.span.upper ≡ true → MatchResult r (λ b. b ≡ end s.course) (IsLookFault copies []) → IsLooked copies (parts s.course s.span.lower s.span.upper t) (value s.course s.span.lower s.span.upper t) r
   at_high s t r a n h m =
       let e : s.span.upper ≡ t = sym ((same_exact t s.span.upper).0 h) in
       let long : before s.span.lower s.span.upper ≡ true = rw e (later s.span.lower t a n) in
       subst (λ z. IsLooked copies (parts s.course s.span.lower s.span.upper z) (value s.course s.span.lower s.span.upper z) r) e (rw (laws.upper_parts s.course s.span.lower s.span.upper, laws.at_upper s.course s.span.lower s.span.upper long) (looked r (end s.course) m))
     where
-      looked : (r : Result B LookFault) (x : B) → MatchResult r (λ b. b ≡ x) (IsLookFault copies []) → IsLooked copies [] x r
+      looked : (r : Result B (Fault Formula)) (x : B) → MatchResult r (λ b. b ≡ x) (IsLookFault copies []) → IsLooked copies [] x r
       looked (Ok b) x m = (m, tt)
       looked (Err f) x m = m
 
-pub fault_first : (copies : Bool) (p q : List Ratio) (f : LookFault) → IsLookFault copies p f → IsLookFault copies (p ++ q) f
-fault_first copies p q (Passed f) h = (h.0, λ all. h.1 (all_first p q all))
+pub fault_first : (copies : Bool) (p q : List Ratio) (f : Fault Formula) → IsLookFault copies p f → IsLookFault copies (p ++ q) f
+fault_first copies p q (Because f) h = (h.0, λ all. h.1 (all_first p q all))
 fault_first copies p q NoMemory h = h
 
-pub fault_second : (copies : Bool) (p q : List Ratio) (f : LookFault) → IsLookFault copies q f → IsLookFault copies (p ++ q) f
-fault_second copies p q (Passed f) h = (h.0, λ all. h.1 (all_second p q all))
+pub fault_second : (copies : Bool) (p q : List Ratio) (f : Fault Formula) → IsLookFault copies q f → IsLookFault copies (p ++ q) f
+fault_second copies p q (Because f) h = (h.0, λ all. h.1 (all_second p q all))
 fault_second copies p q NoMemory h = h
 
--- why the first or the second end was not given
+-- the reason why the first or the second end has no value
 module _ (parts : Ratio → List Ratio) (r : SpanOf) where
-  pub first_fault : (copies : Bool) (t : Ratio) (f : LookFault) → t ≡ r.lower → IsLookFault copies (parts t) f → IsLookFault copies (at_ends parts r) f
+  pub first_fault : (copies : Bool) (t : Ratio) (f : Fault Formula) → t ≡ r.lower → IsLookFault copies (parts t) f → IsLookFault copies (at_ends parts r) f
   first_fault copies t f e h = fault_first copies (parts r.lower) (parts r.upper) f (subst (λ z. IsLookFault copies (parts z) f) e h)
 
-  pub second_fault : (copies : Bool) (t : Ratio) (f : LookFault) → t ≡ r.upper → IsLookFault copies (parts t) f → IsLookFault copies (at_ends parts r) f
+  pub second_fault : (copies : Bool) (t : Ratio) (f : Fault Formula) → t ≡ r.upper → IsLookFault copies (parts t) f → IsLookFault copies (at_ends parts r) f
   second_fault copies t f e h = fault_second copies (parts r.lower) (parts r.upper) f (subst (λ z. IsLookFault copies (parts z) f) e h)
 
   pub both_fit : (t u : Ratio) → t ≡ r.lower → u ≡ r.upper → AllFit (parts t) → AllFit (parts u) → AllFit (at_ends parts r)

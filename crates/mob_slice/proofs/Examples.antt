@@ -21,7 +21,7 @@ use Rattle.mob_slice.specs.declared.slice.Slice.{Slice}
 abbrev line : Ratio → Ratio → Line
 line a b = record { from = a; to = b }
 
--- from 0 at 0 to 1 at 3, the upper end left out
+-- from 0 at 0 to 1 at 3, excluding the upper end
 abbrev rising : List (Slice Line)
 rising = record { span = record { lower = whole (pos 0); upper = whole (pos 3); lower_inc = true; upper_inc = false }; course = line (whole (pos 0)) (whole (pos 1)) } ∷ []
 
@@ -42,8 +42,8 @@ no_slice : slice_at rising (whole (pos 3)) ≡ None
 unfolding over gcd gcd_steps in_lowest_terms whole before
 no_slice = refl
 
--- the parts of F1 at 1: 1 - 0, 3 - 0, their quotient, 1 - 0, the product, the value; at an end, and
--- where there is no value, none
+-- the parts of F1 at 1: 1 - 0, 3 - 0, their quotient, 1 - 0, the product, the value; none at an
+-- end, and none if the value is undefined
 parts_inside : parts_at line_parts_of rising (whole (pos 1)) ≡ whole (pos 1) ∷ whole (pos 3) ∷ over (pos 1) 3 ∷ whole (pos 1) ∷ over (pos 1) 3 ∷ over (pos 1) 3 ∷ []
 unfolding over gcd gcd_steps in_lowest_terms whole ◌+ℚ◌ neg_ℚ ◌*ℚ◌ inverse turned before same
 parts_inside = refl
@@ -56,7 +56,7 @@ parts_left_out : parts_at line_parts_of rising (whole (pos 3)) ≡ []
 unfolding over gcd gcd_steps in_lowest_terms whole before same
 parts_left_out = refl
 
--- a point from (1/2, 0) at 0 to (1/2, 9) at 3 is at (1/2, 3) at 1: x keeps, y goes on
+-- a point from (1/2, 0) at 0 to (1/2, 9) at 3 is at (1/2, 3) at 1: x is constant, y changes
 abbrev climbing : PlaneLine
 climbing = record { from = record { x = over (pos 1) 2; y = whole (pos 0) }; to = record { x = over (pos 1) 2; y = whole (pos 9) } }
 
@@ -64,12 +64,12 @@ point_inside : plane_value_of climbing (whole (pos 0)) (whole (pos 3)) (whole (p
 unfolding over gcd gcd_steps in_lowest_terms whole ◌+ℚ◌ neg_ℚ ◌*ℚ◌ inverse turned before line_at line_value
 point_inside = refl
 
--- x takes no operation, since it is level; y takes six
+-- x takes no step, since it is constant; y takes six
 point_parts : plane_parts_of climbing (whole (pos 0)) (whole (pos 3)) (whole (pos 1)) ≡ whole (pos 1) ∷ whole (pos 3) ∷ over (pos 1) 3 ∷ whole (pos 9) ∷ whole (pos 3) ∷ whole (pos 3) ∷ []
 unfolding over gcd gcd_steps in_lowest_terms whole ◌+ℚ◌ neg_ℚ ◌*ℚ◌ inverse turned before same
 point_parts = refl
 
--- 0 to 1 and 1 to 3 go on as one line where the second takes twice the time; after a jump, or with
+-- 0 to 1 and 1 to 3 continue as one line if the second takes twice the time; after a jump, or with
 -- another slope, they do not
 straight : line_continued (line (whole (pos 0)) (whole (pos 1))) (line (whole (pos 1)) (whole (pos 3))) (whole (pos 0)) (whole (pos 1)) (whole (pos 3)) ≡ true
 unfolding over gcd gcd_steps in_lowest_terms whole ◌+ℚ◌ neg_ℚ ◌*ℚ◌ inverse turned before same line_at line_value line_continues
@@ -83,7 +83,7 @@ jump : line_continued (line (whole (pos 0)) (whole (pos 1))) (line (whole (pos 2
 unfolding over gcd gcd_steps in_lowest_terms whole before same line_continues
 jump = refl
 
--- 1/2 is below 2/3, and stands to it as their gap -1/6 to 0
+-- 1/2 is below 2/3, as their gap -1/6 is below 0
 below : number_relates Lt (over (pos 1) 2) (over (pos 2) 3) ≡ true
 unfolding over gcd gcd_steps in_lowest_terms before
 below = refl
@@ -96,7 +96,7 @@ below_by_gap : relates_gaps Lt (number_gaps (over (pos 1) 2) (over (pos 2) 3)) �
 unfolding over gcd gcd_steps in_lowest_terms whole ◌+ℚ◌ neg_ℚ before sign_of
 below_by_gap = refl
 
--- POINT(1 2) and POINT(1 5) are two points, with the gaps 0 and -3
+-- POINT(1 2) and POINT(1 5) are different points, with the gaps 0 and -3
 two_points : point_relates Ne (record { x = whole (pos 1); y = whole (pos 2) }) (record { x = whole (pos 1); y = whole (pos 5) }) ≡ true
 unfolding over gcd gcd_steps in_lowest_terms whole before same
 two_points = refl

@@ -1,4 +1,4 @@
--- Looking a list of slices up at one instant.
+-- Look-ups in a list of slices at one instant.
 use Rattle.std.specs.Prelude.{◌≡◌, Bool, true, false, cond, List, [], ◌∷◌, Option, Some, None, option_map, refl}
 use Rattle.std.proofs.Common.{ap, ◌∙◌, subst, true≢false}
 use Rattle.mob_ratio.specs.Ratio.{Ratio}
@@ -40,7 +40,7 @@ module _ {C B : Type 0} (value : C → Ratio → Ratio → Ratio → B) (t : Rat
   pub missing_value : slice_at slices t ≡ None → value_at value slices t ≡ None
   missing_value e = value_by value slices t ∙ ap (option_map (λ (s : Slice C). slice_value value s t)) e
 
-  -- so the value is defined exactly where a slice is found
+  -- so the value is defined exactly if a slice is found
   pub where_found : (s : Slice C) → slice_at slices t ≡ Some s → (true ≡ false → value_at value slices t ≡ None) × (value_at value slices t ≡ None → true ≡ false)
   where_found s e = (λ h. absurd (true≢false h), λ n. some_is (slice_value value s t) (value_at value slices t) (found_value s e) n)
 

@@ -13,7 +13,7 @@ use Rattle.mob_slice.proofs.LookUps.{inside_found, some_same}
 use Rattle.mob_slice.proofs.Orders.{ordered-clear}
 
 module _ {C B : Type 0} (start end : C → B) (t : Ratio) where
-  -- no slice behind one that has t has it too
+  -- no later slice has t if one does
   none_later : (q : SpanOf) (v : List (Slice C)) (s : Slice C) → AreAllClear (λ (r : Slice C). r.span) q v → has q t ≡ true → Contains v s → has s.span t ≡ true → ⊥
   none_later q [] s a h c k = none_in s c
   none_later q (r ∷ v) s a h c k = elim (which_in r v s c) [

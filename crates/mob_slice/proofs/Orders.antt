@@ -1,4 +1,4 @@
--- Normal lists of slices are ordered, and ordered ones are parts of time in order.
+-- Normal lists of slices are ordered, and ordered ones are pieces of time in order.
 use Rattle.std.specs.Prelude.{Bool, List, [], ◌∷◌}
 use Rattle.std.specs.List.{AllByRecursion}
 use Rattle.mob_ratio.specs.Ratio.{Ratio}

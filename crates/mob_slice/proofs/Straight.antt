@@ -21,7 +21,7 @@ at_last x0 x1 y l m u h j k = let e = one_instant m u h k in ap (λ x. same x x1
 pub apart : (l m d : Ratio) → d ≡ m -ℚ l → before l m ≡ true → d ≢ whole (pos 0)
 apart l m d e h = λ z. sub_ne-zero l m (before-lt l m h) (sym e ∙ z)
 
--- the point is on the line exactly where the slopes on both sides of it are the same
+-- the point is on the line exactly if the slopes on both sides of it are equal
 pub at_middle : (x0 x1 y l m u a b c d : Ratio) (r : Bool) → before l m ≡ true → before m u ≡ true → a ≡ x1 -ℚ x0 → b ≡ m -ℚ l → c ≡ y -ℚ x1 → d ≡ u -ℚ m → IsTrue r ↔ (a /ℚ b ≡ c /ℚ d) → r ≡ same (line_at x0 y l u m) x1
 at_middle x0 x1 y l m u a b c d r h k ea eb ec ed f =
     let s = slopes-same x0 x1 y l m u h k (before-trans l m u h k) in

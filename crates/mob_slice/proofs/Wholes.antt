@@ -1,4 +1,4 @@
--- One course with two parts, and two courses that are one.
+-- One course with two parts, and two courses that are equal.
 use Rattle.std.specs.Prelude.{◌≡◌, Bool, true, false, List, refl}
 use Rattle.std.proofs.Common.{arith, ap, sym, ◌∙◌, subst}
 use Rattle.mob_ratio.specs.Ratio.{Ratio}
@@ -10,7 +10,7 @@ use Rattle.mob_slice.specs.Wholes.{HasBothParts, AreNeighbours, ContinuesAsOne, 
 at_self : (t : Ratio) → up_to t t ≡ true
 at_self t = rw (before-self t) refl
 
--- the one instant of a span that has no other
+-- the only instant of a span of one instant
 pub one_instant : (s t : Ratio) → up_to s t ≡ true → before s t ≡ false → s ≡ t
 one_instant s t h k = before-neither s t k (grind (arith, h))
 
@@ -34,7 +34,7 @@ module _ {C B : Type 0} {steady copies : Bool} {value : C → Ratio → Ratio �
       let same : make (value w l u a) (value w l u b) ≡ c = ap (λ x. make x (value w l u b)) p ∙ ap (λ y. make (start c) y) q ∙ laws.by_ends (make (start c) (end c)) c (laws.start_made (start c) (end c) can) (laws.end_made (start c) (end c) can) in
       sym (m.same t) ∙ ap (λ z. value z a b t) same
 
-  -- the value at the upper end, where a course on one instant has equal limits
+  -- the value at the upper end, if a course on one instant has equal limits
   at_end : (c : C) (l u : Ratio) → up_to l u ≡ true → (before l u ≡ false → start c ≡ end c) → value c l u u ≡ end c
   at_end c l u h level = by (before l u) refl
     where
@@ -42,7 +42,7 @@ module _ {C B : Type 0} {steady copies : Bool} {value : C → Ratio → Ratio �
       by true e = laws.at_upper c l u e
       by false e = subst (λ t. value c l u t ≡ end c) (one_instant l u h e) (laws.at_lower c l u ∙ level e)
 
-  -- a course that has the limits of c at the ends of a span, be it one instant, has its values
+  -- a course that has the limits of c at the ends of a span, even of one instant, has its values
   -- there
   has_part : (w c : C) (l u a b : Ratio) → before l u ≡ true → value w l u a ≡ start c → value w l u b ≡ end c → (t : Ratio) → up_to a t ≡ true → up_to t b ≡ true → value w l u t ≡ value c a b t
   has_part w c l u a b h p q t i j = by (before a b) refl

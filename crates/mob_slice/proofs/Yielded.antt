@@ -1,4 +1,4 @@
--- What the calls of an iterator that shows what is left have given.
+-- The results of an iterator that shows its rest.
 use Rattle.std.specs.Prelude.{◌≡◌, true, List, [], ◌∷◌, ◌++◌, map}
 use Rattle.std.proofs.Common.{ap, ◌∙◌, subst, append-nil}
 use Rattle.std.specs.Iterator.{Yields, Drains, HoldsAlong, YieldsFirstBy}
@@ -9,12 +9,12 @@ use Rattle.mob_span.specs.Chained.{OfHead}
 use Rattle.mob_span.specs.Pieces.{PiecesAreClear}
 
 module _ {S A B : Type 0} (view : A → B) (rest : S → List B) where
-  -- what was given and what is left make up what there was
+  -- the results so far and the rest are the whole
   pub yielded : (s : S) (xs : List A) (t : S) → Yields (YieldsFirstBy view rest) s xs t → rest s ≡ map view xs ++ rest t
   yielded s [] t y = ap rest y
   yielded s (x ∷ xs) t y = y.1 ∙ ap (λ l. view x ∷ l) (yielded y.0 xs t y.2)
 
-  -- a whole walk gives all
+  -- a complete walk returns all
   pub drained : (s : S) (xs : List A) → Drains (YieldsFirstBy view rest) s xs → rest s ≡ map view xs
   drained s xs d = yielded s xs d.1.0 d.1.1 ∙ ap (λ l. map view xs ++ l) d.1.2.0 ∙ append-nil (map view xs)
 
@@ -27,7 +27,7 @@ module _ {S A B : Type 0} (view : A → B) (rest : S → List B) where
     front_clear [] ys h = tt
     front_clear (x ∷ xs) ys h = (h.0, head_front x xs ys h.1, front_clear xs ys h.2)
 
-    -- what was given is ordered, where all that there was is
+    -- the results are ordered if the whole is
     pub clear_along : (s : S) → PiecesAreClear span (rest s) → HoldsAlong (YieldsFirstBy view rest) s (PiecesAreClear (λ x. span (view x)))
     clear_along s h xs t y = front_clear xs (rest t) (subst (PiecesAreClear span) (yielded s xs t y) h)
 

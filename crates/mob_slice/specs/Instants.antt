@@ -7,11 +7,11 @@ use Rattle.mob_slice.specs.Cut.{slice_parts}
 use Rattle.mob_slice.specs.Slices.{IsOrdered}
 use Rattle.mob_slice.specs.declared.slice.Slice.{Slice}
 
--- the slice whose span has the instant t, and none where no span has it
+-- the slice whose span has the instant t, or none if no span has it
 abbrev pub slice_at : {C : Type 0} → List (Slice C) → Ratio → Option (Slice C)
 slice_at slices t = piece_at (λ s. s.span) slices t
 
--- the parts of the formula of the value at t, where there is a slice
+-- the parts of the formula of the value at t, if a slice is defined there
 abbrev pub parts_there : {C : Type 0} → (C → Ratio → Ratio → Ratio → List Ratio) → Ratio → Option (Slice C) → List Ratio
 parts_there parts t None = []
 parts_there parts t (Some s) = slice_parts parts s t
@@ -19,6 +19,6 @@ parts_there parts t (Some s) = slice_parts parts s t
 abbrev pub parts_at : {C : Type 0} → (C → Ratio → Ratio → Ratio → List Ratio) → List (Slice C) → Ratio → List Ratio
 parts_at parts slices t = parts_there parts t (slice_at slices t)
 
--- of slices that are ordered and disjoint, the slice at t is the one among them whose span has t
+-- if slices are ordered and disjoint, the slice at t is the one among them whose span has t
 abbrev pub OneSliceAt : {C B : Type 0} → (C → B) → (C → B) → Type 0
 OneSliceAt {C} start end = (slices : List (Slice C)) → IsOrdered start end slices → (t : Ratio) (s : Slice C) → (slice_at slices t ≡ Some s) ↔ (Contains slices s × (has s.span t ≡ true))

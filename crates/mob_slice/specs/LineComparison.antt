@@ -1,5 +1,5 @@
--- Lines meet the laws of comparisons: two numbers stand as their difference to 0, and two points
--- are one where both of their differences are 0.
+-- Lines satisfy the laws of comparisons: two numbers compare as their difference compares with 0,
+-- and two points are equal if both of their differences are 0.
 use Rattle.std.specs.Prelude.{◌≡◌, Bool, true, false, not, cond, ◌&&◌, refl}
 use Rattle.std.proofs.Common.{ap, sym, ◌∙◌, true≢false}
 use Rattle.std.specs.Cmp.{Equal-is}
@@ -39,8 +39,7 @@ line_comparison = record {
   linear = λ f c d l u t. ap One (line_at-diff c.from c.to d.from d.to l u t);
 }
 
--- whether two points are one, or not one: they have no order, and no other comparison is asked of
--- them
+-- whether two points are equal, or not equal: they have no order, and allow no other comparison
 abbrev pub point_relates : Rel → Point → Point → Bool
 point_relates Eq a b = same_point a b
 point_relates Ne a b = not (same_point a b)
@@ -53,7 +52,7 @@ point_relates Ge a b = false
 abbrev pub point_gaps : Point → Point → Gaps
 point_gaps a b = Two (a.x -ℚ b.x) (a.y -ℚ b.y)
 
--- two numbers are the same where their difference is 0
+-- two numbers are equal if their difference is 0
 same_by_gap : (a b : Ratio) → same a b ≡ same (a -ℚ b) nil
 same_by_gap a b = same_truth (same a b) (same (a -ℚ b) nil)
     (λ h. (same_exact (a -ℚ b) nil).1 (ap (λ z. z -ℚ b) ((same_exact a b).0 h) ∙ sub_self b))

@@ -1,4 +1,4 @@
--- Lines meet the laws of courses.
+-- Lines satisfy the laws of courses.
 use Rattle.std.specs.Prelude.{◌≡◌, Bool, true, false, refl, ◌||◌, [], ⊤}
 use Rattle.std.proofs.lemmas.Bool.{and_parts, and_from}
 use Rattle.std.proofs.Common.{sym, arith, true≢false}
@@ -15,14 +15,14 @@ use Rattle.mob_slice.specs.declared.line.Line.{Line}
 or_true : (a b c : Bool) → b ≡ true → (a || b || c) ≡ true
 or_true a b c h = grind (arith, h)
 
--- the numbers at the two ends are given
+-- the numbers at the two ends are stored
 pub none_at_lower : (x0 x1 l u : Ratio) → line_parts x0 x1 l u l ≡ []
 none_at_lower x0 x1 l u = rw ((same_exact l l).1 refl) refl
 
 pub none_at_upper : (x0 x1 l u : Ratio) → line_parts x0 x1 l u u ≡ []
 none_at_upper x0 x1 l u = rw (or_true (same u l) (same u u) (same x0 x1) ((same_exact u u).1 refl)) refl
 
--- what it means that one line goes on as another
+-- the meaning of one line continuing as another
 pub goes_on_is : (x0 x1 y0 y1 l m u : Ratio) → line_continues x0 x1 y0 y1 l m u ≡ true → (x1 ≡ y0) × (line_at x0 y1 l u m ≡ x1)
 unfolding line_continues
 goes_on_is x0 x1 y0 y1 l m u h = let p = and_parts (same x1 y0) (same (line_at x0 y1 l u m) x1) h in ((same_exact x1 y0).0 p.0, (same_exact (line_at x0 y1 l u m) x1).0 p.1)

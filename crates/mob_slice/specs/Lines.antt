@@ -1,4 +1,4 @@
--- Courses that change evenly: a number, and a point, whose coordinates change evenly each.
+-- Courses that change linearly: a number, and a point, each of whose coordinates changes linearly.
 use Rattle.std.specs.Prelude.{◌≡◌, Bool, true, ◌&&◌, List, ◌++◌}
 use Rattle.mob_ratio.specs.Ratio.{Ratio}
 use Rattle.mob_ratio.specs.Order.{before}
@@ -12,7 +12,7 @@ use Rattle.mob_slice.specs.declared.line.PlaneLine.{PlaneLine}
 abbrev pub line_value_of : Line → Ratio → Ratio → Ratio → Ratio
 line_value_of c l u t = line_at c.from c.to l u t
 
--- the line c from l to m goes on as d from m to u
+-- the line c from l to m continues as d from m to u
 abbrev pub line_continued : Line → Line → Ratio → Ratio → Ratio → Bool
 line_continued c d l m u = line_continues c.from c.to d.from d.to l m u
 
@@ -24,7 +24,7 @@ line_parts_of c l u t = line_parts c.from c.to l u t
 abbrev pub plane_value_of : PlaneLine → Ratio → Ratio → Ratio → Point
 plane_value_of c l u t = record { x = line_at c.from.x c.to.x l u t; y = line_at c.from.y c.to.y l u t }
 
--- both coordinates go on
+-- both coordinates continue
 abbrev pub plane_continued : PlaneLine → PlaneLine → Ratio → Ratio → Ratio → Bool
 plane_continued c d l m u = line_continues c.from.x c.to.x d.from.x d.to.x l m u && line_continues c.from.y c.to.y d.from.y d.to.y l m u
 
@@ -32,10 +32,10 @@ plane_continued c d l m u = line_continues c.from.x c.to.x d.from.x d.to.x l m u
 abbrev pub plane_parts_of : PlaneLine → Ratio → Ratio → Ratio → List Ratio
 plane_parts_of c l u t = line_parts c.from.x c.to.x l u t ++ line_parts c.from.y c.to.y l u t
 
--- a line is at every instant on the straight line through its limits
+-- at every instant, the value of a line is on the straight line through its limits
 abbrev pub NumbersAreStraight : Type 0
 NumbersAreStraight = (c : Line) (lower upper t : Ratio) → before lower upper ≡ true → IsOnLine lower c.from upper c.to t (line_value_of c lower upper t)
 
--- and so is each coordinate of a line of the plane
+-- and so is each coordinate of a line in the plane
 abbrev pub PointsAreStraight : Type 0
 PointsAreStraight = (c : PlaneLine) (lower upper t : Ratio) → before lower upper ≡ true → IsOnLine lower c.from.x upper c.to.x t (plane_value_of c lower upper t).x × IsOnLine lower c.from.y upper c.to.y t (plane_value_of c lower upper t).y

@@ -1,4 +1,4 @@
--- Step values, and operations where both operands have a value.
+-- Values that change in steps, and operations on two operands that both have a value.
 use Rattle.std.specs.Prelude.{◌≡◌, List, [], Option, Some, None, MatchOption}
 use Rattle.mob_ratio.specs.Ratio.{Ratio}
 use Rattle.mob_slice.specs.Slices.{value_at}
@@ -16,13 +16,13 @@ steady_limit c = c.value
 abbrev pub steady_parts : {B : Type 0} → Steady B → Ratio → Ratio → Ratio → List Ratio
 steady_parts c lower upper t = []
 
--- the operation on two values, where both are there
+-- the operation on two values, if both exist
 abbrev pub map_both : {X Y Z : Type 0} → (X → Y → Z) → Option X → Option Y → Option Z
 map_both f None y = None
 map_both f (Some x) None = None
 map_both f (Some x) (Some y) = Some (f x y)
 
--- The value of an operator is at each instant the operation on the two operands, and there is no
--- value exactly where at no instant both have one. `value` is that of the course of the result.
+-- At each instant, the value of an operator is the operation on the two operands. The result is
+-- none exactly if at no instant both have a value. `value` is that of the course of the result.
 abbrev pub IsPointwise : {C X Y Z : Type 0} → (C → Ratio → Ratio → Ratio → Z) → (X → Y → Z) → (Ratio → Option X) → (Ratio → Option Y) → Option (List (Slice C)) → Type 0
 IsPointwise value op left right r = MatchOption r ((t : Ratio) → map_both op (left t) (right t) ≡ None) (λ v. (t : Ratio) → value_at value v t ≡ map_both op (left t) (right t))

@@ -1,4 +1,4 @@
--- Lines of the plane meet the laws of courses, by coordinate.
+-- Lines of the plane satisfy the laws of courses, by coordinate.
 use Rattle.std.specs.Prelude.{false, refl, ⊤}
 use Rattle.std.proofs.lemmas.Bool.{and_parts, and_from}
 use Rattle.std.proofs.Common.{ap, sym, true≢false}

@@ -3,10 +3,10 @@
 //!
 //! A slice is a span with a course, which gives the value at each instant of the span. A temporal
 //! value is a normal list of slices: of all lists of slices with the same value at each instant,
-//! one is normal.
+//! exactly one is normal.
 //!
-//! `course` has what every course meets, with the base values that a steady course may hold; `line`
-//! has lines and how they are compared; `slice` has a slice and a piece of one.
+//! `course` has the trait of courses, and the base values that a steady course may hold; `line` has
+//! lines and their comparison; `slice` has a slice and pieces of one.
 #![tactic(auto)]
 
 mod comparison;
@@ -24,7 +24,7 @@ mod steady;
 pub use comparison::{Compared, Gaps, Ranked, Rel};
 pub use course::Course;
 pub use course::base_value::BaseValue;
-pub use formula::{Formula, LookFault, OpFault, Passed, operator_fault};
+pub use formula::Formula;
 pub use line::{Line, PlaneLine};
 pub use moving::Moving;
 pub use operand::Operand;

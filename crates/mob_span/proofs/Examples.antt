@@ -16,17 +16,17 @@ shared_example : map (λ p. p.span) (shared_pieces (λ s. s) (λ s. s) (from_to 
 unfolding over gcd gcd_steps in_lowest_terms whole before
 shared_example = refl
 
--- and [1, 3] leaves [0, 1) of [0, 2)
+-- and [0, 2) without [1, 3] is [0, 1)
 left_example : remainders_of (from_to (whole (pos 0)) (whole (pos 2)) true false) (from_to (whole (pos 1)) (whole (pos 3)) true true ∷ []) ≡ from_to (whole (pos 0)) (whole (pos 1)) true false ∷ []
 unfolding over gcd gcd_steps in_lowest_terms whole before
 left_example = refl
 
--- the instant 2 leaves two spans of [0, 4], neither of which has it
+-- [0, 4] without the instant 2 is two spans, both excluding 2
 hole_example : remainders_of (from_to (whole (pos 0)) (whole (pos 4)) true true) (from_to (whole (pos 2)) (whole (pos 2)) true true ∷ []) ≡ from_to (whole (pos 0)) (whole (pos 2)) true false ∷ from_to (whole (pos 2)) (whole (pos 4)) false true ∷ []
 unfolding over gcd gcd_steps in_lowest_terms whole before
 hole_example = refl
 
--- between two spans that leave out one instant, that instant is left
+-- between two spans that exclude one instant, that instant remains
 instant_example : remainders_of (from_to (whole (pos 0)) (whole (pos 4)) true true) (from_to (whole (pos 0)) (whole (pos 2)) true false ∷ from_to (whole (pos 2)) (whole (pos 4)) false true ∷ []) ≡ from_to (whole (pos 2)) (whole (pos 2)) true true ∷ []
 unfolding over gcd gcd_steps in_lowest_terms whole before
 instant_example = refl

@@ -19,7 +19,7 @@ use Rattle.mob_span.proofs.Shared.{AreAllClear, all_after, later}
 long_by : (l m n u : Ratio) (i j : Bool) → before m n ≡ true → (before l m || (i && up_to l m)) ≡ true → (before n u || (j && up_to n u)) ≡ true → before l u ≡ true
 long_by l m n u i j h k e = grind (arith, before-trans l m n, before-trans l n u, before-neither l m, before-neither n u)
 
--- from the start of a span to the end of a later one there is an instant
+-- the span from the start of one span to the end of a later one has an instant
 pub through_some : (s r : SpanOf) → is_clear s r ≡ true → has_instant s ≡ true → has_instant r ≡ true → has_instant (joined s r) ≡ true
 through_some s r c h k =
     let m = some_instant s h in
@@ -38,7 +38,7 @@ high_on p s r i j k h e = grind (arith, before-trans p s r, before-neither p s, 
 pub wider : (h r s : SpanOf) → is_clear h r ≡ true → has_instant r ≡ true → is_inside h s ≡ true → is_inside (joined h r) s ≡ true
 wider h r s c k i = let m = and_parts _ _ i in and_from _ _ m.0 (high_on s.upper h.upper r.upper s.upper_inc h.upper_inc r.upper_inc m.1 (high_by h r (before h.upper r.upper) refl c k))
 
--- and holds the later one
+-- and contains the later one
 pub holds_later : (h r : SpanOf) → is_clear h r ≡ true → has_instant h ≡ true → has_instant r ≡ true → is_inside (joined h r) r ≡ true
 holds_later h r c i k =
     let low : (before h.lower r.lower || (up_to h.lower r.lower && (h.lower_inc || not r.lower_inc))) ≡ true = grind (arith, c, i, before-trans h.lower h.upper r.lower, before-neither h.lower h.upper, before-neither h.upper r.lower, before-back h.lower r.lower, before-back h.lower h.upper, before-back h.upper r.lower) in
@@ -54,7 +54,7 @@ module _ {X : Type 0} (span : X → SpanOf) where
   keeps h s [] i c o k = k
   keeps h s (x ∷ xs) i c o k = keeps (joined h (span x)) s xs (through_some h (span x) c.0 i o.0) (later span (span x) (joined h (span x)) xs (λ r e. e) (all_after span x xs o)) o.2 (wider h (span x) s c.0 o.0 k)
 
-  -- it holds each of them
+  -- it contains each of them
   holds_all : (h : SpanOf) (xs : List X) → has_instant h ≡ true → AreAllClear span h xs → PiecesAreClear span xs → AllByRecursion (λ x. is_inside (through_all h xs) (span x) ≡ true) xs
   holds_all h [] i c o = tt
   holds_all h (x ∷ xs) i c o =
@@ -71,7 +71,7 @@ module _ {X : Type 0} (span : X → SpanOf) where
   some_through h [] i c o = i
   some_through h (x ∷ xs) i c o = some_through (joined h (span x)) xs (through_some h (span x) c.0 i o.0) (later span (span x) (joined h (span x)) xs (λ r e. e) (all_after span x xs o)) o.2
 
-  -- it ends with the last
+  -- it ends at the end of the last one
   through_end : (h : SpanOf) (xs init : List X) (y : X) → xs ≡ init ++ y ∷ [] → through_all h xs ≡ joined h (span y)
   through_end h xs [] y e = ap (through_all h) e
   through_end h xs (z ∷ init) y e = ap (through_all h) e ∙ through_end (joined h (span z)) (init ++ y ∷ []) init y refl
@@ -96,7 +96,7 @@ module _ {X : Type 0} (span : X → SpanOf) where
   whole_by items s None i a e k = absurd (true≢false (sym i ∙ k))
   whole_by items s (Some h) i a e k = subst (λ z. AllByRecursion (λ x. is_inside z (span x) ≡ true) items) (sym e) a
 
-  -- the span with these two ends holds each of a list in order
+  -- the span with these two ends contains each of a list in order
   pub whole_holds : (items : List X) (x : X) (xs init : List X) (y : X) (s : SpanOf) (o : Option SpanOf) → items ≡ x ∷ xs → items ≡ init ++ y ∷ [] → PiecesAreClear span items → s ≡ joined (span x) (span y) → IfSome o (λ h. h ≡ s) → MatchOption o (has_instant s ≡ false) (λ h. has_instant h ≡ true) → MatchOption o (items ≡ []) (λ h. AllByRecursion (λ x. is_inside h (span x) ≡ true) items)
   whole_holds items x xs init y s o e f c g k m =
       let order : PiecesAreClear span (x ∷ xs) = subst (PiecesAreClear span) e c in
@@ -106,7 +106,7 @@ module _ {X : Type 0} (span : X → SpanOf) where
       let all : AllByRecursion (λ z. is_inside s (span z) ≡ true) (x ∷ xs) = subst (λ h. AllByRecursion (λ z. is_inside h (span z) ≡ true) (x ∷ xs)) same (holds_from x xs order) in
       whole_by items s o some (subst (AllByRecursion (λ z. is_inside s (span z) ≡ true)) (sym e) all) k m
 
--- what is in none of a list that a span holds, where it is not in the span
+-- an instant outside a span is in no span of a list that it contains
 pub outside : (h : SpanOf) (v : List SpanOf) (t : Ratio) → AllByRecursion (λ s. is_inside h s ≡ true) v → has h t ≡ false → in_some v t ≡ false
 outside h [] t a n = refl
 outside h (s ∷ v) t a n = rw (inside_has h s t a.0 n) (outside h v t a.1 n)
@@ -115,7 +115,7 @@ minus_by : (v h w : Bool) → (h ≡ false → v ≡ false) → (v && (h && not 
 minus_by v true w f = refl
 minus_by v false w f = rw (f refl) refl
 
--- what a set shares with what another leaves of a span that holds it is what the other leaves of it
+-- a set inside h meets the rest of h without another set exactly in its instants outside that set
 pub minus_same : (v w g set : List SpanOf) (h : SpanOf) → AllByRecursion (λ s. is_inside h s ≡ true) v → AreRemainders h w g → IsInBoth v g set → IsInFirstAlone v w set
 minus_same v w g set h a k and_parts t = and_parts t ∙ ap (λ b. in_some v t && b) (k t) ∙ minus_by (in_some v t) (has h t) (in_some w t) (λ n. outside h v t a n)
 

@@ -1,4 +1,4 @@
--- What spans in order leave of a span.
+-- The rest of a span without spans in order.
 use Rattle.std.specs.Prelude.{◌≡◌, Bool, true, false, cond, refl, ◌||◌, ◌&&◌, not, List, [], ◌∷◌, IfSome, MatchOption, Option, Some, None}
 use Rattle.std.proofs.Common.{◌++◌, arith, ap, sym, subst, ◌∙◌, true≢false, append_assoc, append-nil}
 use Rattle.mob_ratio.specs.Ratio.{Ratio}
@@ -15,12 +15,12 @@ use Rattle.mob_span.proofs.Clearness.{clear_before}
 use Rattle.mob_span.proofs.Shared.{AreAllClear, all_after}
 use Rattle.mob_span.proofs.Touching.{apart_clear}
 
--- the end of what comes before a span
+-- the end of the part before a span
 front_end : (u m t : Ratio) (i j b : Bool) → (before u m || (up_to u m && not (i && j))) ≡ b → (before t (cond b u m) || (cond b i (not j) && up_to t (cond b u m))) ≡ ((before t u || (i && up_to t u)) && (before t m || (not j && up_to t m)))
 front_end u m t i j true h = grind (arith, before-trans t u m, before-neither t u, before-neither u m, before-back t m, before-back t u, before-back u m)
 front_end u m t i j false h = grind (arith, before-trans t m u, before-neither u m, before-neither t m, before-back t m, before-back t u, before-back u m, before-back m u)
 
--- and the start of what comes after one
+-- the start of the part after a span
 back_start : (l m t : Ratio) (i j b : Bool) → (before m l || (up_to m l && not (j && i))) ≡ b → (before (cond b l m) t || (cond b i (not j) && up_to (cond b l m) t)) ≡ ((before l t || (i && up_to l t)) && (before m t || (not j && up_to m t)))
 back_start l m t i j true h = grind (arith, before-trans m l t, before-neither l t, before-neither m l, before-back m t, before-back l t, before-back m l)
 back_start l m t i j false h = grind (arith, before-trans l m t, before-neither m l, before-neither m t, before-back m t, before-back l t, before-back m l, before-back l m)
@@ -37,15 +37,14 @@ front_has s r t = ap (λ z. (before s.lower t || (s.lower_inc && up_to s.lower t
 pub back_has : (s r : SpanOf) (t : Ratio) → has (back_of s r) t ≡ (has s t && follows t r)
 back_has s r t = ap (λ z. z && (before t s.upper || (s.upper_inc && up_to t s.upper))) (back_start s.lower r.upper t s.lower_inc r.upper_inc (is_clear r s) refl) ∙ turned (before s.lower t || (s.lower_inc && up_to s.lower t)) (before t s.upper || (s.upper_inc && up_to t s.upper)) (follows t r)
 
--- an instant that is in a span comes neither before nor after all of it, and another comes before
--- or after
+-- an instant is in a span exactly if it comes neither before nor after all of it
 pub neither_has : (r : SpanOf) (t : Ratio) → has r t ≡ (not (precedes t r) && not (follows t r))
 neither_has r t = grind (arith, before-back t r.lower, before-back r.lower t, before-back r.upper t, before-back t r.upper)
 
 before_has : (r : SpanOf) (t m : Ratio) → precedes t r ≡ true → has r m ≡ true → before t m ≡ true
 before_has r t m h k = grind (arith, before-trans t r.lower m, before-neither t r.lower, before-neither r.lower m)
 
--- what comes before a span is in none that comes after it
+-- an instant before a span is in none of the later ones
 none_later : (r : SpanOf) (w : List SpanOf) (t m : Ratio) → has r m ≡ true → AreAllClear (λ s. s) r w → precedes t r ≡ true → in_some w t ≡ false
 none_later r [] t m i h k = refl
 none_later r (q ∷ w) t m i h k =
@@ -77,7 +76,7 @@ remainders_in s (r ∷ w) h t = by (has_instant (front_of s r)) (has_instant (ba
     by true c e f ih = ap (λ b. has (front_of s r) t || b) (rest c f ih) ∙ ahead
     by false c e f ih = rest c f ih ∙ (rw (no_instant (front_of s r) t e) at ahead)
 
--- what is after a span is after it still without its front
+-- whatever is after a span is still after it without its front
 clear_back_by : (q l m : Ratio) (k i j b : Bool) → (before m l || (up_to m l && not (j && i))) ≡ b → (before q l || (up_to q l && not (k && i))) ≡ true → (before q (cond b l m) || (up_to q (cond b l m) && not (k && cond b i (not j)))) ≡ true
 clear_back_by q l m k i j true e h = h
 clear_back_by q l m k i j false e h = grind (arith, before-trans q l m, before-neither q l, before-neither m l, before-back q m, before-back q l, before-back m l, before-back l m)
@@ -92,7 +91,7 @@ front_back_by s r true false e f h k = grind (arith, e, k, before-trans s.upper 
 front_back_by s r false true e f h k = grind (arith, f, k, before-trans r.lower r.upper s.lower, before-neither r.lower r.upper, before-neither r.upper s.lower, before-back r.lower s.lower, before-back r.lower r.upper, before-back r.upper s.lower)
 front_back_by s r false false e f h k = grind (arith, k)
 
--- what comes before a span is before what comes after it
+-- the part before a span is clear of the part after it
 pub front_back : (s r : SpanOf) → has_instant s ≡ true → has_instant r ≡ true → is_clear (front_of s r) (back_of s r) ≡ true
 front_back s r h k = front_back_by s r (is_clear s r) (is_clear r s) refl refl h k
 
@@ -122,7 +121,7 @@ remainders_clear s (r ∷ w) h k = by (has_instant (front_of s r)) (has_instant 
     by true c e f ih = (e, head c, rest c f ih)
     by false c e f ih = rest c f ih
 
--- a part of a span that is there where it has an instant
+-- a part of a span exists if it has an instant
 pub front_instants : (s r : SpanOf) (o : Option SpanOf) → IfSome o (λ p. p ≡ front_of s r) → MatchOption o (has_instant (front_of s r) ≡ false) (λ p. has_instant p ≡ true) → MatchOption o ((t : Ratio) → (has s t && precedes t r) ≡ false) (λ p. (t : Ratio) → has p t ≡ (has s t && precedes t r))
 front_instants s r None e h = λ t. sym (front_has s r t) ∙ no_instant (front_of s r) t h
 front_instants s r (Some p) e h = λ t. ap (λ z. has z t) e ∙ front_has s r t
@@ -148,7 +147,7 @@ remainders_order s w v e h k = rw e (remainders_clear s w h k)
 
 -- ---- a step of the walk that finds the remainders
 
--- what the walk has found once it has come to r: what of s comes before r, if there is something
+-- the result of the walk once it reaches r: the part of s before r, if not empty, is added
 abbrev pub front_into : SpanOf → SpanOf → List SpanOf → List SpanOf
 front_into s r old = cond (has_instant (front_of s r)) (old ++ front_of s r ∷ []) old
 
@@ -162,23 +161,23 @@ added_before : (b : Bool) (p : SpanOf) (old rest : List SpanOf) → cond b (old 
 added_before true p old rest = append_assoc old (p ∷ []) rest
 added_before false p old rest = refl
 
--- with something of s behind r, the walk goes on
+-- if part of s is left after r, the walk goes on
 pub left_on : (s r q : SpanOf) (v w old new all : List SpanOf) → v ≡ r ∷ w → new ≡ front_into s r old → q ≡ back_of s r → has_instant q ≡ true → old ++ remainders_of s v ≡ all → new ++ remainders_of q w ≡ all
 left_on s r q v w old new all e n b h i =
     let k : has_instant (back_of s r) ≡ true = subst (λ z. has_instant z ≡ true) b h in
     rw (n, b) (added_before (has_instant (front_of s r)) (front_of s r) old (remainders_of (back_of s r) w) ∙ (rw (e, k) at i))
 
--- with nothing behind r, it has found all
+-- if nothing is left after r, the result is complete
 pub left_all : (s r : SpanOf) (v w old new all : List SpanOf) → v ≡ r ∷ w → new ≡ front_into s r old → has_instant (back_of s r) ≡ false → old ++ remainders_of s v ≡ all → new ≡ all
 left_all s r v w old new all e n k i = rw n (sym (append-nil (front_into s r old)) ∙ added_before (has_instant (front_of s r)) (front_of s r) old [] ∙ (rw (e, k) at i))
 
--- behind the last of the spans, the rest of s is left
+-- after the last of the spans, the rest of s is added
 pub left_last : (s : SpanOf) (v old new all : List SpanOf) → v ≡ [] → new ≡ old ++ s ∷ [] → old ++ remainders_of s v ≡ all → new ≡ all
 left_last s v old new all e n i = n ∙ (rw e at i)
 
--- ---- what the calls answer
+-- ---- the results of the calls
 
--- the end that the code picks
+-- the end that the code chooses
 front_picked : (s r : SpanOf) (u : Ratio × Bool) (b : Bool) → u ≡ cond b (s.upper, s.upper_inc) (r.lower, not r.lower_inc) → between_ends (s.lower, s.lower_inc) u ≡ between_ends (s.lower, s.lower_inc) (cond b s.upper r.lower, cond b s.upper_inc (not r.lower_inc))
 front_picked s r u true e = rw e refl
 front_picked s r u false e = rw e refl
@@ -187,7 +186,7 @@ back_picked : (s r : SpanOf) (u : Ratio × Bool) (b : Bool) → u ≡ cond b (s.
 back_picked s r u true e = rw e refl
 back_picked s r u false e = rw e refl
 
--- all that is promised of what comes before, and of what comes after
+-- the clauses on the part before, and on the part after
 pub front_answers : (s r : SpanOf) (b : Bool) (u : Ratio × Bool) (o : Option SpanOf) → b ≡ is_clear s r → u ≡ cond b (s.upper, s.upper_inc) (r.lower, not r.lower_inc) → IsMadeOf (between_ends (s.lower, s.lower_inc) u) o
     → MatchOption o ((t : Ratio) → (has s t && precedes t r) ≡ false) (λ p. (t : Ratio) → has p t ≡ (has s t && precedes t r)) × IsMadeOf (front_of s r) o
 front_answers s r b u o eb eu h =

@@ -1,4 +1,4 @@
--- What follows of the pieces that two lists share.
+-- Laws of the pieces that two lists share.
 use Rattle.std.specs.Prelude.{◌≡◌, Bool, true, false, cond, ◌&&◌, Option, Some, None, option_map, List, [], ◌∷◌, ◌++◌, map, refl}
 use Rattle.std.specs.List.{filter, AllByRecursion}
 use Rattle.std.specs.Option.{option_zip}
@@ -45,7 +45,7 @@ module _ {X Y : Type 0} (span : X → SpanOf) (span' : Y → SpanOf) where
       by ih true = (clear_meet q (span x) (span' y) h, ih)
       by ih false = ih
 
-  -- what is before all of the first list is before all pieces
+  -- a span clear of all of the first list is clear of all pieces
   meets_after : (q : SpanOf) (v : List X) (w : List Y) → AreAllClear span q v → AreAllClear (λ p. p.span) q (shared_pieces span span' v w)
   meets_after q [] w h = tt
   meets_after q (x ∷ v) w h = all_joined (λ p. p.span) q (row span span' x w) (shared_pieces span span' v w) (row_after q x w h.0) (meets_after q v w h.1)
@@ -69,7 +69,7 @@ module _ {X Y : Type 0} (span : X → SpanOf) (span' : Y → SpanOf) where
   meets_clear [] w h k = tt
   meets_clear (x ∷ v) w h k = row_joined x w (shared_pieces span span' v w) k (meets_clear v w h.2 k) (meets_after (span x) v w (all_after span x v h))
 
-  -- the two of a piece
+  -- the two entries of a piece
   abbrev pub sides : PieceOf X Y → X × Y
   sides p = (p.left, p.right)
 
@@ -104,8 +104,8 @@ module _ {X Y : Type 0} (span : X → SpanOf) (span' : Y → SpanOf) where
           let q : cond (b && k) (Some (piece span span' x y)) (piece_at (λ p. p.span) (row span span' x w) t) ≡ piece_at (λ p. p.span) (row span span' x w) t = rw no refl in
           sym q ∙ pick b k (piece_at (λ p. p.span) (row span span' x w) t) ih
 
-  -- At each instant the piece there has the two that the lists have there, and there is no piece
-  -- where one of them has none.
+  -- At each instant, the piece there has the entries that the lists have there. If one of them has
+  -- none, there is no piece.
   pub meets_at : (v : List X) (w : List Y) (t : Ratio) → option_map sides (piece_at (λ p. p.span) (shared_pieces span span' v w) t) ≡ option_zip (piece_at span v t) (piece_at span' w t)
   meets_at [] w t = refl
   meets_at (x ∷ v) w t = ap (option_map sides) (part_joined (row span span' x w) (shared_pieces span span' v w) t ∙ ap (λ o. or_else o (piece_at (λ p. p.span) (shared_pieces span span' v w) t)) (row_at x w t (has (span x) t) refl)) ∙ by (has (span x) t) (piece_at span' w t) (meets_at v w t)
@@ -123,7 +123,7 @@ module _ {X Y : Type 0} (span : X → SpanOf) (span' : Y → SpanOf) where
   shared_common v w h k = record { clear = meets_clear v w h k; at_each = λ t. meets_at v w t }
 
   module _ (P : X → Type 0) (Q : Y → Type 0) where
-    -- what holds of each entry holds of the two of each piece, whose spans hold that of the piece
+    -- a property of each entry holds for the two of each piece, whose spans contain the piece
     abbrev pub HoldsBoth : PieceOf X Y → Type 0
     HoldsBoth p = (P p.left × (is_inside (span p.left) p.span ≡ true)) × (Q p.right × (is_inside (span' p.right) p.span ≡ true))
 

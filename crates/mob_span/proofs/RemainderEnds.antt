@@ -1,5 +1,5 @@
--- The ends of what spans leave of a span are theirs: inside a slice of time the one list is cut
--- where the other is.
+-- The remainders of a span have the ends of the spans removed: inside a slice of time, one list is
+-- cut at exactly the instants of the other.
 use Rattle.std.specs.Prelude.{◌≡◌, ◌⊎◌, Bool, true, false, cond, ◌||◌, ◌&&◌, not, List, [], ◌∷◌, refl}
 use Rattle.std.proofs.lemmas.Bool.{and_parts, and_from}
 use Rattle.std.specs.List.{AllByRecursion}
@@ -34,8 +34,8 @@ starts_if s r h = grind (arith, h)
 ends_not : (s r : SpanOf) → before r.upper s.upper ≡ true → ends_before s r ≡ false
 ends_not s r h = grind (arith, h, before-back r.upper s.upper)
 
--- a span that starts, or ends, strictly inside another shares an instant with it, and their meet
--- starts, or ends, there
+-- a span that starts, or ends, strictly inside another shares an instant with it, and their
+-- intersection starts, or ends, there
 low_meets : (s r : SpanOf) → has_instant r ≡ true → before s.lower r.lower ≡ true → before r.lower s.upper ≡ true → has_instant (meet_of s r) ≡ true
 low_meets s r i a b =
     let m = first_by r s.upper (before r.lower r.upper) (before s.upper r.upper) refl refl i b in
@@ -52,7 +52,7 @@ starts_upto s r h = grind (arith, before-back s.lower r.lower)
 ends_upto : (s r : SpanOf) → ends_before s r ≡ false → up_to r.upper s.upper ≡ true
 ends_upto s r h = grind (arith, h)
 
--- what starts before a span that has an instant is not after it
+-- a span that starts before one with an instant is not after it
 not_after : (h w : SpanOf) → has_instant w ≡ true → starts_before h w ≡ true → is_clear w h ≡ false
 not_after h w i k = grind (arith, i, k, before-trans h.lower w.lower w.upper, before-trans w.upper h.lower w.lower, before-neither h.lower w.lower, before-neither w.lower w.upper, before-neither w.upper h.lower, before-back h.lower w.upper, before-back w.lower w.upper, before-back h.lower w.lower, before-back w.upper h.lower)
 
@@ -71,7 +71,7 @@ upto_before a b c h k = grind (arith, before-trans a b c, before-neither a b)
 not_upto : (a b : Ratio) → before a b ≡ true → up_to b a ≡ true → ⊥
 not_upto a b h k = true≢false (sym h ∙ grind (arith, k))
 
--- what comes before a span has an instant where the whole starts before that span
+-- the part before a span has an instant if the whole starts before that span
 front_some_by : (h w : SpanOf) (b : Bool) → is_clear h w ≡ b → has_instant h ≡ true → starts_before h w ≡ true → (before h.lower (cond b h.upper w.lower) || (h.lower_inc && cond b h.upper_inc (not w.lower_inc) && up_to h.lower (cond b h.upper w.lower))) ≡ true
 front_some_by h w true e i k = i
 front_some_by h w false e i k = grind (arith, k)
@@ -105,18 +105,18 @@ all_some : (rs : List SpanOf) → PiecesAreClear (λ r. r) rs → AllByRecursion
 all_some [] h = tt
 all_some (r ∷ rs) h = (h.0, all_some rs h.2)
 
--- P holds of each instant at which a slice of time s is cut: of its own ends, and of what else is
--- said
+-- P holds for each instant at which a slice of time s is cut: for its own ends, and for others
+-- given
 module _ (P : Ratio → Type 0) (s : SpanOf) (low : P s.lower) (high : P s.upper) where
-  -- P holds of e, where e lies strictly inside s
+  -- P holds for e if e lies strictly inside s
   abbrev pub Inner : Ratio → Type 0
   Inner e = before s.lower e ≡ true → before e s.upper ≡ true → P e
 
-  -- of and_parts ends of each span of a list
+  -- P holds for both ends of each span of a list that lie inside s
   abbrev pub InnerEnds : List SpanOf → Type 0
   InnerEnds rs = AllByRecursion (λ r. Inner r.lower × Inner r.upper) rs
 
-  -- of and_parts ends of what s shares with each of them
+  -- P holds for both ends of the intersection of s with each of them
   abbrev pub SharedEnds : List SpanOf → Type 0
   SharedEnds rs = AllByRecursion (λ r. has_instant (meet_of s r) ≡ true → P (meet_of s r).lower × P (meet_of s r).upper) rs
 
@@ -139,8 +139,8 @@ module _ (P : Ratio → Type 0) (s : SpanOf) (low : P s.lower) (high : P s.upper
       let h = and_parts _ _ m.1 in
       within_by r.upper (before s.lower r.upper) (before r.upper s.upper) refl refl (upto_trans s.lower m.0 r.upper (has_upto_lower s m.0 h.0) (has_upto_upper r m.0 h.1)) (ends_upto s r e) k
 
-  -- what is said of the ends of the spans strictly inside s, and of the ends of what they share
-  -- with it, is the same
+  -- P holds for the ends of the spans strictly inside s exactly if it holds for the ends of their
+  -- intersections with s
   inner_shared : (rs : List SpanOf) → InnerEnds rs → SharedEnds rs
   inner_shared [] h = tt
   inner_shared (r ∷ rs) h = (λ i. (shared_low r (starts_before s r) refl i h.0.0, shared_high r (ends_before s r) refl i h.0.1), inner_shared rs h.1)
@@ -159,7 +159,7 @@ module _ (P : Ratio → Type 0) (s : SpanOf) (low : P s.lower) (high : P s.upper
   pick true x y h k = h
   pick false x y h k = k
 
-  -- the ends of the remainders are ends of the spans, or of the whole
+  -- the ends of the remainders are ends of the spans or of the whole
   remainders_inner : (h : SpanOf) (ws : List SpanOf) → Inner h.lower → Inner h.upper → InnerEnds ws → InnerEnds (remainders_of h ws)
   remainders_inner h [] l u k = ((l, u), tt)
   remainders_inner h (w ∷ ws) l u k = by (has_instant (front_of h w)) (rest (has_instant (back_of h w)) (remainders_inner (back_of h w) ws (pick (is_clear w h) h.lower w.upper l k.0.1) u k.1))
@@ -189,7 +189,7 @@ module _ (P : Ratio → Type 0) (s : SpanOf) (low : P s.lower) (high : P s.upper
   first_low k [] i l g = g.0.0
   first_low k (w ∷ ws) i l g = (front_ends (has_instant (front_of k w)) (front_of k w) (cond (has_instant (back_of k w)) (remainders_of (back_of k w) ws) []) (front_some k w i l) g).0
 
-  -- spans past the end of s have no end strictly inside it
+  -- spans past the end of s have no end strictly inside s
   past : (w : SpanOf) (ws : List SpanOf) → up_to s.upper w.upper ≡ true → AreAllClear (λ r. r) w ws → AllByRecursion (λ r. has_instant r ≡ true) ws → InnerEnds ws
   past w [] u c i = tt
   past w (v ∷ ws) u c i =
@@ -199,8 +199,8 @@ module _ (P : Ratio → Type 0) (s : SpanOf) (low : P s.lower) (high : P s.upper
       clear_upto : (p q : SpanOf) → is_clear p q ≡ true → up_to p.upper q.lower ≡ true
       clear_upto p q h = grind (arith, before-back p.upper q.lower)
 
-  -- where the spans lie in the whole, and s does: what is said of the ends of the remainders is
-  -- said of those of the spans
+  -- if the spans lie in the whole, and s does, P holds for the ends of the spans if it holds for
+  -- those of the remainders
   spans_inner : (h : SpanOf) (ws : List SpanOf) → IsSpanSet ws → has_instant h ≡ true → (up_to h.lower s.lower ≡ true) ⊎ HeadLater h ws → up_to s.upper h.upper ≡ true → InnerEnds (remainders_of h ws) → InnerEnds ws
   spans_inner h [] o i l u g = tt
   spans_inner h (w ∷ ws) o i l u g = ((starts, ends), by (has_instant (back_of h w)) refl (next_of (has_instant (front_of h w)) (front_of h w) tails g) (λ e d r. spans_inner (back_of h w) ws o.2 e d u r))
@@ -242,7 +242,7 @@ module _ (P : Ratio → Type 0) (s : SpanOf) (low : P s.lower) (high : P s.upper
   inside_high : (h : SpanOf) → is_inside h s ≡ true → up_to s.upper h.upper ≡ true
   inside_high h k = grind (arith, k, before-back s.upper h.upper)
 
-  -- So s, which lies in h, is cut by the remainders of h where it is cut by the spans.
+  -- So s, which lies in h, is cut by the remainders of h at the instants at which the spans cut it.
   pub remainders_cut : (h : SpanOf) (ws : List SpanOf) → is_inside h s ≡ true → PiecesAreClear (λ r. r) ws → SharedEnds ws → SharedEnds (remainders_of h ws)
   remainders_cut h ws i o k = inner_shared (remainders_of h ws) (remainders_inner h ws (λ a b. absurd (not_upto s.lower h.lower a (inside_low h i))) (λ a b. absurd (not_upto h.upper s.upper b (inside_high h i))) (shared_inner ws (all_some ws o) k))
 

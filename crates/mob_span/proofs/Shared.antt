@@ -1,4 +1,4 @@
--- What two lists in order share, from the front.
+-- The shared pieces of two lists in order, from the front.
 use Rattle.std.specs.Prelude.{◌≡◌, Bool, true, false, cond, ◌&&◌, List, [], ◌∷◌, ◌++◌, map, refl}
 use Rattle.std.specs.List.{filter}
 use Rattle.std.specs.Iterator.{MakesProgress, item_count}
@@ -11,7 +11,7 @@ use Rattle.mob_span.proofs.SpanLemmas.{meet_none}
 use Rattle.mob_span.proofs.Insides.{clear_trans, clear_has, ends_no_later, ends_sooner}
 use Rattle.mob_span.specs.Pieces.{PiecesAreClear}
 
--- all of a list is after the span
+-- every entry of a list is after the span
 abbrev pub AreAllClear : {X : Type 0} → (X → SpanOf) → SpanOf → List X → Type 0
 AreAllClear span q [] = Unit {0}
 AreAllClear span q (x ∷ xs) = (is_clear q (span x) ≡ true) × AreAllClear span q xs
@@ -21,7 +21,7 @@ module _ {X : Type 0} (span : X → SpanOf) where
   after_from q x [] h k = tt
   after_from q x (y ∷ xs) h k = let l = clear_trans q (span x) (span y) k.0 h k.1 in (l, after_from q y xs l k.2)
 
-  -- what follows in an ordered list is after its first
+  -- the later entries of an ordered list are after its first
   pub all_after : (x : X) (xs : List X) → PiecesAreClear span (x ∷ xs) → AreAllClear span (span x) xs
   all_after x [] k = tt
   all_after x (y ∷ xs) k = (k.1, after_from (span x) y xs k.1 k.2)
@@ -39,7 +39,7 @@ neither' true true h = h refl
 neither' true false h = refl
 neither' false b h = refl
 
--- spans that follow one another share no instant
+-- if one span is clear of another, they share no instant
 pub none_shared : (a b : SpanOf) → is_clear a b ≡ true → has_instant (meet_of a b) ≡ false
 none_shared a b h = (meet_none a b).1 (λ t. neither (has a t) (has b t) (λ k. clear_has a b t h k))
 
@@ -78,7 +78,7 @@ module _ {X Y : Type 0} (span : X → SpanOf) (span' : Y → SpanOf) where
   map_cond x y w true = refl
   map_cond x y w false = refl
 
-  -- the first of the first list ends no later: nothing else meets it
+  -- the first entry of the first list ends no later: nothing else shares an instant with it
   pub step_left : (x : X) (v : List X) (y : Y) (w : List Y) → ends_before (span' y) (span x) ≡ false → PiecesAreClear span' (y ∷ w)
       → shared_pieces span span' (x ∷ v) (y ∷ w) ≡ cond (has_instant (meet_of (span x) (span' y))) (piece x y ∷ shared_pieces span span' v (y ∷ w)) (shared_pieces span span' v (y ∷ w))
   step_left x v y w e o =
@@ -89,14 +89,14 @@ module _ {X Y : Type 0} (span : X → SpanOf) (span' : Y → SpanOf) where
   put_cond p xs ys true = refl
   put_cond p xs ys false = refl
 
-  -- the first of the second list ends sooner: nothing else meets it
+  -- the first entry of the second list ends sooner: nothing else shares an instant with it
   pub step_right : (x : X) (v : List X) (y : Y) (w : List Y) → ends_before (span' y) (span x) ≡ true → PiecesAreClear span (x ∷ v)
       → shared_pieces span span' (x ∷ v) (y ∷ w) ≡ cond (has_instant (meet_of (span x) (span' y))) (piece x y ∷ shared_pieces span span' (x ∷ v) w) (shared_pieces span span' (x ∷ v) w)
   step_right x v y w e o =
       let skip : shared_pieces span span' v (y ∷ w) ≡ shared_pieces span span' v w = skip_right v y w (later span (span x) (span' y) v (λ s k. ends_sooner (span x) (span' y) s e k) (all_after span x v o)) in
       ap (λ z. z ++ shared_pieces span span' v (y ∷ w)) (map_cond x y (filter (λ z. has_instant (meet_of (span x) (span' z))) w) (has_instant (meet_of (span x) (span' y)))) ∙ ap (λ z. cond (has_instant (meet_of (span x) (span' y))) (piece x y ∷ row x w) (row x w) ++ z) skip ∙ put_cond (piece x y) (row x w) (shared_pieces span span' v w) (has_instant (meet_of (span x) (span' y)))
 
-  -- one step of the walk, where the two share an instant, and where they do not
+  -- one step of the walk, if the two entries share an instant, and if they do not
   module _ (v v' : List X) (w w' : List Y) (x : X) (y : Y) (e : v ≡ x ∷ v') (f : w ≡ y ∷ w') where
     at_heads : shared_pieces span span' v w ≡ shared_pieces span span' (x ∷ v') (y ∷ w')
     at_heads = ap (λ z. shared_pieces span span' z w) e ∙ ap (λ z. shared_pieces span span' (x ∷ v') z) f
@@ -123,6 +123,6 @@ module _ {X Y : Type 0} (span : X → SpanOf) (span' : Y → SpanOf) where
     pub passed_right : ends_before (span' y) (span x) ≡ true → PiecesAreClear span v → has_instant (meet_of (span x) (span' y)) ≡ false → shared_pieces span span' v w ≡ shared_pieces span span' v w'
     passed_right k o h = right_step k o false h
 
--- a step that gave the first of what was left
+-- a step that returned the first piece of the rest
 pub progress : {S A B : Type 0} (can : S → Type 0) (rest : S → List B) (s t : S) (x : A) (b : B) → can t → rest s ≡ b ∷ rest t → MakesProgress can (item_count rest) s (Some x) t
 progress can rest s t x b c e = record { on = λ h. (c, tt, omega (arith, ap length e)); keeps = c; rests = λ h. tt }

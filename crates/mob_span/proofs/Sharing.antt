@@ -15,7 +15,7 @@ abbrev pub is_there : {A : Type 0} → Option A → Bool
 is_there None = false
 is_there (Some x) = true
 
--- some part has the instant exactly where there is a part there
+-- some part has the instant exactly if `piece_at` finds one there
 pub there : {P : Type 0} (span : P → SpanOf) (ps : List P) (t : Ratio) → list_any (λ p. has (span p) t) ps ≡ is_there (piece_at span ps t)
 there span [] t = refl
 there span (p ∷ ps) t = ap (λ b. has (span p) t || b) (there span ps t) ∙ by (has (span p) t)

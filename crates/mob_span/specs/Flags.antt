@@ -1,8 +1,8 @@
--- When two truth values are the same, as two flags of spans.
+-- Equality of booleans, such as the inclusion flags of spans.
 use Rattle.std.specs.Prelude.{◌≡◌, Bool, true, false, IsTrue, ◌↔◌, refl, not}
 use Rattle.std.proofs.Common.{sym}
 
--- two truth values are the same
+-- two booleans are equal
 abbrev pub same_bool : Bool → Bool → Bool
 same_bool true b = b
 same_bool false b = not b

@@ -1,4 +1,4 @@
--- Pieces of time in order, each with what is known there.
+-- Pieces of time in order, each with its data.
 use Rattle.std.specs.Prelude.{◌≡◌, true, cond, List, [], ◌∷◌, Option, None, Some}
 use Rattle.mob_ratio.specs.Ratio.{Ratio}
 use Rattle.mob_span.specs.Chained.{Chained}

@@ -14,16 +14,16 @@ precedes t r = before t r.lower || (not r.lower_inc && up_to t r.lower)
 abbrev pub follows : Ratio → SpanOf → Bool
 follows t r = before r.upper t || (not r.upper_inc && up_to r.upper t)
 
--- what of s comes before all of r
+-- the part of s before all of r
 abbrev pub front_of : SpanOf → SpanOf → SpanOf
 front_of s r = record { lower = s.lower; upper = cond (is_clear s r) s.upper r.lower; lower_inc = s.lower_inc; upper_inc = cond (is_clear s r) s.upper_inc (not r.lower_inc) }
 
--- what of s comes after all of r
+-- the part of s after all of r
 abbrev pub back_of : SpanOf → SpanOf → SpanOf
 back_of s r = record { lower = cond (is_clear r s) s.lower r.upper; upper = s.upper; lower_inc = cond (is_clear r s) s.lower_inc (not r.upper_inc); upper_inc = s.upper_inc }
 
--- Of spans in order, what they leave of s: what of s comes before the first of them, and what the
--- others leave of that which comes after it.
+-- The rest of s without spans that are in order: the part of s before the first of them, and the
+-- rest of the part after it without the others.
 abbrev pub remainders_of : SpanOf → List SpanOf → List SpanOf
 remainders_of s [] = s ∷ []
 remainders_of s (r ∷ spans) = cond (has_instant (front_of s r)) (front_of s r ∷ cond (has_instant (back_of s r)) (remainders_of (back_of s r) spans) []) (cond (has_instant (back_of s r)) (remainders_of (back_of s r) spans) [])
@@ -36,6 +36,6 @@ AreRemainders s spans remainders = (t : Ratio) → in_some remainders t ≡ (has
 abbrev pub IsInBoth : List SpanOf → List SpanOf → List SpanOf → Type 0
 IsInBoth v w set = (t : Ratio) → in_some set t ≡ (in_some v t && in_some w t)
 
--- The set has exactly the instants of the first set that the second has not.
+-- The set has exactly the instants of the first set that are not in the second.
 abbrev pub IsInFirstAlone : List SpanOf → List SpanOf → List SpanOf → Type 0
 IsInFirstAlone v w set = (t : Ratio) → in_some set t ≡ (in_some v t && not (in_some w t))

@@ -6,7 +6,7 @@ use Rattle.mob_span.specs.Pieces.{PiecesAreClear}
 use Rattle.mob_span.specs.declared.walk.Met.{Met}
 use Rattle.mob_span.specs.declared.walk.SharedPieces.{SharedPieces}
 
--- what the walk has before it, of the first list and of the second
+-- the entries of the first and of the second list that are still ahead of the walk
 abbrev pub lefts_of : {X Y : Type 0} → SharedPieces X Y → List X
 lefts_of s = s.lefts.now
 
@@ -17,10 +17,10 @@ rights_of s = s.rights.now
 abbrev pub CanWalk : {X Y : Type 0} → (X → SpanOf) → (Y → SpanOf) → SharedPieces X Y → Type 0
 CanWalk span span' s = PiecesAreClear span s.lefts.now × PiecesAreClear span' s.rights.now
 
--- what contracts see of a piece
+-- a piece, as contracts see it
 abbrev pub met_of : {X Y : Type 0} → Met X Y → PieceOf X Y
 met_of m = record { span = m.span; left = m.left.now; right = m.right.now }
 
--- the pieces that are still to come: those of the two lists
+-- the pieces still to come: those that the rests of the two lists share
 abbrev pub meets_left : {X Y : Type 0} → (X → SpanOf) → (Y → SpanOf) → SharedPieces X Y → List (PieceOf X Y)
 meets_left span span' s = shared_pieces span span' s.lefts.now s.rights.now

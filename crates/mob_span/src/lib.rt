@@ -1,7 +1,7 @@
 //! Spans of time: the instants between two ends, each of which is included or not.
 //!
-//! An instant is a rational number of any size. Two ends of a span are fractions that fit. A set of
-//! instants is a list of spans that do not touch.
+//! An instant is a rational number of any size. The two ends of a span are fractions that fit. A
+//! set of instants is a list of spans that do not touch.
 #![tactic(auto)]
 
 mod flags;

@@ -1,4 +1,4 @@
-//! What spans leave of a span.
+//! The rest of a span without other spans.
 
 ghost use Rattle.std.specs.Prelude.{◌≡◌, true, [], IfOk, MatchOption};
 ghost use Rattle.std.specs.List.{AllByRecursion};
@@ -11,23 +11,23 @@ use crate::spanned::Spanned;
 use std::alloc::{AllocError, Global};
 
 /// The instants of a span that are in none of the given spans, in order of time. The given spans
-/// are in order too.
+/// are in order too. The only error is a failed allocation.
 pub fn remainders(alloc: Global, span: &Span, spans: &[Span]) -> Result<Vec<Span>, AllocError>
     requires order { PiecesAreClear (λ s. s) spans.now }
     ensures instants { IfOk result (λ v. AreRemainders span.now spans.now v.items) }
     ensures order { IfOk result (λ v. PiecesAreClear (λ s. s) v.items) }
     ensures ends { IfOk result (λ v. v.items ≡ remainders_of span.now spans.now) }
 {
-    // A call of a method tells the proof what holds of every span.
+    // A method call gives the proof the invariant of a span.
     let _ = span.lower();
     left_by(alloc, span, spans)
 }
 
-// What the spans leave of the span, from the first of them on.
+// The rest of the span without the spans, from the first of them on.
 fn left_by(alloc: Global, span: &Span, spans: &[Span]) -> Result<Vec<Span>, AllocError>
     ensures ends { IfOk result (λ v. v.items ≡ remainders_of span.now spans.now) }
 {
-    // A call of a method tells the proof what holds of every span.
+    // A method call gives the proof the invariant of a span.
     let _ = span.lower();
     let mut found = Vec::new(alloc);
     let mut rest = *span;
@@ -44,8 +44,8 @@ fn left_by(alloc: Global, span: &Span, spans: &[Span]) -> Result<Vec<Span>, Allo
     Ok(found)
 }
 
-/// A span that holds all that stands on spans in order of time: from the start of the first to the
-/// end of the last. None exactly where there is nothing.
+/// A span that includes all items, which are in order of time: from the start of the first to the
+/// end of the last. `None` exactly if there are no items.
 pub fn whole<X: Spanned>(items: &[X]) -> Option<Span>
     requires order { PiecesAreClear X.span_of items.now }
     ensures holds { MatchOption result (items.now ≡ []) (λ h. AllByRecursion (λ x. is_inside h (X.span_of x) ≡ true) items.now) }

@@ -1,3 +1,4 @@
+//! The walk over the pieces of time that two lists share.
 ghost use Rattle.std.specs.Prelude.{◌≡◌};
 ghost use Rattle.std.specs.Iterator.{YieldsFirstBy, item_count};
 ghost use Rattle.mob_span.specs.Pieces.{PiecesAreClear};
@@ -6,7 +7,7 @@ ghost use Rattle.mob_span.specs.Walk.{CanWalk, met_of, meets_left, lefts_of, rig
 use crate::span::Span;
 use crate::spanned::Spanned;
 
-/// A piece of time that two things share, with the two.
+/// A piece of time that two items share, with the two.
 #[derive(Drop)]
 pub struct Met<'a, X, Y> {
     /// The instants that they share.
@@ -26,7 +27,7 @@ pub struct SharedPieces<'a, X, Y> {
 }
 
 impl<'a, X: Spanned, Y: Spanned> SharedPieces<'a, X, Y> {
-    /// The walk from the first piece.
+    /// The walk, at the first piece.
     pub fn new(lefts: &'a [X], rights: &'a [Y]) -> Self
         requires left_order { PiecesAreClear X.span_of lefts.now }
         requires right_order { PiecesAreClear Y.span_of rights.now }
@@ -37,14 +38,14 @@ impl<'a, X: Spanned, Y: Spanned> SharedPieces<'a, X, Y> {
         SharedPieces { lefts, rights }
     }
 
-    /// What is left of the first list.
+    /// The rest of the first list.
     pub fn lefts(&self) -> &'a [X]
         ensures same { result.now ≡ lefts_of self.now }
     {
         self.lefts
     }
 
-    /// What is left of the second list.
+    /// The rest of the second list.
     pub fn rights(&self) -> &'a [Y]
         ensures same { result.now ≡ rights_of self.now }
     {

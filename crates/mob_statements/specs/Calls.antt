@@ -4,16 +4,16 @@ use Rattle.std.specs.Borrow.{Bor, MutBor}
 use Rattle.std.specs.Fn.{Shared}
 use Rattle.std.specs.declared.vec.Vec.{Vec}
 use Rattle.mob_eval.specs.QueryFaults.{TupleFault}
-use Rattle.mob_eval.specs.declared.query_fault.QueryFault.{QueryFault}
-use Rattle.mob_eval.specs.declared.query_fault.QueryFault.TheVariants.{Passed}
+use Rattle.mob_list.specs.declared.fault.Fault.{Fault}
+use Rattle.mob_list.specs.declared.fault.Fault.TheVariants.{Because}
 
-module _ {F S X A : Type 0} (g : Shared F (A × (MutBor S × (Bor X × Unit {0}))) (Result (Vec ℕ A) QueryFault × (MutBor S × Unit {0}))) (f : F) where
+module _ {F S X A : Type 0} (g : Shared F (A × (MutBor S × (Bor X × Unit {0}))) (Result (Vec ℕ A) (Fault TupleFault) × (MutBor S × Unit {0}))) (f : F) where
   -- it may be called at a state and a statement
   abbrev pub CallCanRun : S → X → Type 0
   CallCanRun s x = (a : A) (p : MutBor S) (q : Bor X) → p.now ≡ s → q.now ≡ x → g.pre f (a, (p, (q, tt)))
 
   -- a call at s and x may give this, and leave t
-  pub record CallGives (s : S) (x : X) (given : Result (Vec ℕ A) QueryFault) (t : S) : Type 0 where
+  pub record CallGives (s : S) (x : X) (given : Result (Vec ℕ A) (Fault TupleFault)) (t : S) : Type 0 where
     pub alloc : A
     pub shown : MutBor S
     pub statement : Bor X
@@ -29,4 +29,4 @@ module _ {F S X A : Type 0} (g : Shared F (A × (MutBor S × (Bor X × Unit {0})
 
   -- the statement x has this fault
   abbrev pub CallStops : S → X → TupleFault → Type 0
-  CallStops s x f = (t : S) × CallGives s x (Err (Passed f.0 f.1.0 f.1.1)) t
+  CallStops s x f = (t : S) × CallGives s x (Err (Because f)) t

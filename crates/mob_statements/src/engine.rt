@@ -1,13 +1,14 @@
 // Statements that run one after another, each with the text of its answer.
 ghost use Rattle.std.specs.Prelude.{◌≤◌, IfOk, IfErr, OnOk};
 ghost use Rattle.mob_outside.specs.EndsSeen.{stream_seen};
-ghost use Rattle.mob_eval.specs.QueryFaults.{OnTuple};
+ghost use Rattle.mob_list.specs.Faults.{OnCause};
 ghost use Rattle.mob_ending.specs.declared.ending.Ending.TheVariants.{Done};
 ghost use Rattle.mob_statements.specs.Calls.{CallCanRun, CallRuns, CallStops};
 ghost use Rattle.mob_statements.specs.Statements.{CanRunEach, StatementsEnd, EndsByFault};
 
 use mob_ending::Ending;
 use mob_eval::QueryFault;
+use mob_list::fault::Fault;
 use mob_outside::{Sink, put_all};
 use std::alloc::Global;
 
@@ -73,7 +74,7 @@ fn run_one<S, X, F: Fn(Global, &mut S, &X) -> Result<Vec<u8>, QueryFault>>(
 ) -> Result<Vec<u8>, QueryFault>
     requires can { CallCanRun F.Fn execute.now state.old statement.now }
     ensures step { IfOk result (λ text. CallRuns F.Fn execute.now state.old statement.now state.new text.items) }
-    ensures fault { IfErr result (OnTuple (λ f. CallStops F.Fn execute.now state.old statement.now f)) }
+    ensures fault { IfErr result (OnCause (λ f. CallStops F.Fn execute.now state.old statement.now f)) }
 {
     execute(alloc, state, statement)
 }
@@ -83,16 +84,12 @@ fn ended_by(statement: u32, fault: QueryFault) -> Ending
     ensures end { EndsByFault statement fault result }
 {
     match fault {
-        QueryFault::Passed {
-            tuple,
-            place,
-            formula,
-        } => Ending::Overflow {
+        Fault::Because((rows, (place, formula))) => Ending::Overflow {
             statement,
-            rows: tuple,
+            rows,
             place,
             formula,
         },
-        QueryFault::NoMemory => Ending::NoMemory,
+        Fault::NoMemory => Ending::NoMemory,
     }
 }

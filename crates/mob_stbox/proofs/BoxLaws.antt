@@ -1,4 +1,4 @@
--- What holds of boxes: what their tests mean, and what a search through boxes over boxes stands on.
+-- Laws of boxes: the meaning of their tests, and what a search through a tree of boxes relies on.
 use Rattle.std.specs.Prelude.{◌≡◌, ◌↔◌, ◌⊎◌, IsTrue, Bool, true, false, refl, ◌||◌, ◌&&◌, not, Option, Some, None, is_some, IfSome, IsNone, MatchOption}
 use Rattle.std.proofs.lemmas.Bool.{and_parts, and_from}
 use Rattle.std.proofs.Common.{arith, ap, sym, ◌∙◌, true≢false, inl, inr, subst}
@@ -16,7 +16,7 @@ use Rattle.mob_stbox.specs.Boxes.{BoxOf, NoBox, area_stands, span_stands, is_box
 use Rattle.mob_stbox.specs.declared.area.Area.{Area}
 use Rattle.mob_stbox.proofs.Sides.{four, upto_self, in_area_exact, areas_meet_exact, spans_meet_exact, area_over_exact, in_over, in_inside, area_over_self, area_over_trans, area_over_meets, area_cover_left, area_cover_right, area_cover_least, over_is_area, inside_meets, inside_trans, span_cover_left, span_cover_right, span_cover_least, span_cover_some}
 
--- the dimensions of a box stand
+-- the dimensions of a box are valid
 pub box_area : (b : BoxOf) → is_box b ≡ true → area_stands b.space ≡ true
 box_area b h = (and_parts (area_stands b.space) (span_stands b.time) (and_parts (is_some b.space || is_some b.time) _ h).1).0
 
@@ -49,7 +49,7 @@ time_meet None r = (λ e. tt, λ e. refl)
 time_meet (Some x) None = (λ e. tt, λ e. refl)
 time_meet (Some x) (Some y) = spans_meet_exact x y
 
--- the test of two boxes whose rectangles have a point
+-- the test of two boxes, if their rectangles have a point
 pub meet_by_test : (a b : BoxOf) → area_stands a.space ≡ true → area_stands b.space ≡ true → (overlaps a b ≡ true) ↔ BoxesMeet a b
 unfolding overlaps
 meet_by_test a b h k = (
@@ -99,7 +99,7 @@ is_contains a b k e = and_from (lies_in area_over a.space b.space) (lies_in is_i
 pub contains_exact_as : (a b : BoxOf) (r : Bool) → is_box b ≡ true → r ≡ contains a b → IsTrue r ↔ BoxContains a b
 contains_exact_as a b r k e = rw e (contains_is a b, is_contains a b k)
 
--- what is in a box is in one that contains it
+-- whatever is in a box is in a box that contains it
 pub in_contained : (a b : BoxOf) (t : Ratio) (p : Point) → BoxContains a b → InBox b t p → InBox a t p
 in_contained a b t p c h = record { in_space = in_other a.space b.space c.in_space h.in_space; in_time = at_other a.time b.time c.in_time h.in_time }
   where
@@ -142,7 +142,7 @@ self_over over f (Some x) = f x
 share_over : (a a' b b' q q' : Bool) → a ≡ true → a' ≡ true → ((b && q) || (b' && q')) ≡ true → ((a && q) || (a' && q')) ≡ true
 share_over a a' b b' q q' h k m = grind (arith, h, k, m)
 
--- what overlaps a box overlaps each box over it that has space and time
+-- whatever overlaps a box overlaps each box that contains it and has space and time
 pub over_overlaps : (a b q : BoxOf) → is_whole a ≡ true → contains a b ≡ true → overlaps b q ≡ true → overlaps a q ≡ true
 unfolding contains overlaps
 over_overlaps a b q w h k =
@@ -156,7 +156,7 @@ over_overlaps a b q w h k =
     (meet_over area_over areas_meet area_over_meets a.space b.space q.space s.0 m.0 o.0)
     (meet_over is_inside spans_meet inside_meets a.time b.time q.time s.1 m.1 o.1))
 
--- what lies in a box with space and time has and_parts
+-- a box that lies in one with space and time has both
 pub over_whole : (a b : BoxOf) → is_whole a ≡ true → contains a b ≡ true → is_whole b ≡ true
 unfolding contains is_whole
 over_whole a b w h =
@@ -278,16 +278,16 @@ none_where space time a e h = (λ k. subst (λ s. NoBox s time) (sym e) (no_area
 pub some_where : (space : Option Area) (time : Option SpanOf) (a : Area) → space ≡ Some a → is_area a ≡ true → (true ≡ false) ↔ NoBox space time
 some_where space time a e h = (λ k. absurd (true≢false k), λ n. absurd (an_area a time h (subst (λ s. NoBox s time) e n)))
 
--- what is made of an area is that box
+-- the result made from an area is the box with that area
 pub made_box : (a : Area) (time : Option SpanOf) (o : Option BoxOf) → is_area a ≡ true → IsNone o ↔ NoBox (Some a) time → IfSome o (λ b. b ≡ record { space = Some a; time = time }) → o ≡ Some (record { space = Some a; time = time })
 made_box a time None h n v = absurd (an_area a time h (n.0 refl))
 made_box a time (Some b) h n v = ap Some v
 
--- a point is an area
+-- a single point is an area
 pub point_is_area : (x y : Ratio) → is_area (record { xmin = x; xmax = x; ymin = y; ymax = y }) ≡ true
 point_is_area x y = and_from (up_to x x) (up_to y y) (upto_self x) (upto_self y)
 
--- ---- two boxes that contain one another are one
+-- ---- two boxes that contain each other are equal
 
 upto_both : (s t : Ratio) → up_to s t ≡ true → up_to t s ≡ true → s ≡ t
 upto_both s t h k = before-neither s t (grind (arith, k)) (grind (arith, h))

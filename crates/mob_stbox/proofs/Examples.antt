@@ -19,11 +19,11 @@ until l u inc = record { lower = l; upper = u; lower_inc = true; upper_inc = inc
 abbrev first : BoxOf
 first = record { space = Some (area (whole (pos 0)) (whole (pos 1)) (whole (pos 2)) (whole (pos 3))); time = Some (until (whole (pos 0)) (whole (pos 2)) false) }
 
--- ((2,3),(4,4)) in [1, 3]: it touches the first one in a corner
+-- ((2,3),(4,4)) in [1, 3]: it touches the first one at a corner
 abbrev corner : BoxOf
 corner = record { space = Some (area (whole (pos 2)) (whole (pos 3)) (whole (pos 4)) (whole (pos 4))); time = Some (until (whole (pos 1)) (whole (pos 3)) true) }
 
--- the same from the instant 2 on, which the first one has not
+-- the same from the instant 2 on, which the first one excludes
 abbrev late : BoxOf
 late = record { space = corner.space; time = Some (until (whole (pos 2)) (whole (pos 3)) true) }
 
@@ -50,7 +50,7 @@ no_dimension : overlaps spaced timed ≡ false
 unfolding over gcd gcd_steps in_lowest_terms whole before overlaps
 no_dimension = refl
 
--- a box with fewer dimensions may contain one with more, and not the other way
+-- a box with fewer dimensions may contain one with more, but not the other way round
 more_dimensions : contains spaced first ≡ true
 unfolding over gcd gcd_steps in_lowest_terms whole before contains
 more_dimensions = refl
@@ -59,12 +59,13 @@ fewer_dimensions : contains first spaced ≡ false
 unfolding over gcd gcd_steps in_lowest_terms whole before contains
 fewer_dimensions = refl
 
--- the cover of the two is ((0,1),(4,4)) in [0, 3]
+-- the smallest box over the two is ((0,1),(4,4)) in [0, 3]
 covered : same_box (cover first corner) (record { space = Some (area (whole (pos 0)) (whole (pos 1)) (whole (pos 4)) (whole (pos 4))); time = Some (until (whole (pos 0)) (whole (pos 3)) true) }) ≡ true
 unfolding over gcd gcd_steps in_lowest_terms whole before same cover same_box
 covered = refl
 
--- ((0,1),(2,3)) by 1 is ((-1,0),(3,4)); by -1 it is the point 1 2, and by -2 nothing is left
+-- ((0,1),(2,3)) expanded by 1 is ((-1,0),(3,4)); by -1 it is the point 1 2, and by -2 nothing is
+-- left
 wider : expanded first (whole (pos 1)) ≡ Some (record { space = Some (area (neg_ℚ (whole (pos 1))) (whole (pos 0)) (whole (pos 3)) (whole (pos 4))); time = first.time })
 unfolding over gcd gcd_steps in_lowest_terms whole before ◌+ℚ◌ neg_ℚ
 wider = refl

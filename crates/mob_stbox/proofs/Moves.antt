@@ -1,4 +1,4 @@
--- Areas made wider or narrower, by their points.
+-- Areas expanded or shrunk, by their points.
 use Rattle.std.specs.Prelude.{◌≡◌, ◌↔◌, Bool, true, false, pos, refl}
 use Rattle.std.proofs.lemmas.Bool.{and_parts}
 use Rattle.std.proofs.Common.{arith}
@@ -45,7 +45,7 @@ turned_positive d h p = pair p d h
     pair : (p d : Ratio) → d ≤ℚ whole (pos 0) → ((p -ℚ neg_ℚ d) ≤ℚ p) × (p ≤ℚ (p +ℚ neg_ℚ d)) × ((p -ℚ neg_ℚ d) ≤ℚ (p +ℚ neg_ℚ d))
     pair = clear2 _ (λ D p d q h. let h' = simp cleared at h in (simp cleared (omega (arith, linear)), simp cleared (omega (arith, linear)), simp cleared (omega (arith, linear))))
 
--- of numbers between l and u one is at most d from p
+-- some number between l and u is at most d from p
 record HasNear (l u d p : Ratio) : Type 0 where
   near : Ratio
   from : l ≤ℚ near

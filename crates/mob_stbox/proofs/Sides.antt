@@ -1,4 +1,4 @@
--- How areas and spans lie, by their sides.
+-- The relations of areas and spans, by their sides.
 use Rattle.std.specs.Prelude.{◌≡◌, ◌↔◌, Bool, true, false, cond, refl, ◌||◌, ◌&&◌, not, IsTrue}
 use Rattle.std.proofs.lemmas.Bool.{and_parts, and_from}
 use Rattle.std.proofs.Common.{arith, sym, ◌∙◌, true≢false}
@@ -28,7 +28,7 @@ four a b c d h = let k = and_parts (a && b) (c && d) h in let l = and_parts a b 
 pub all_four : (a b c d : Bool) → a ≡ true → b ≡ true → c ≡ true → d ≡ true → (a && b && (c && d)) ≡ true
 all_four a b c d h k l m = rw (h, k, l, m) refl
 
--- the test of membership says what it means
+-- the test of membership is exact
 pub in_area_exact : (a : Area) (p : Point) → IsTrue (in_area a p) ↔ InArea a p
 in_area_exact a p = (
   λ h. let k = four (up_to a.xmin p.x) (up_to p.x a.xmax) (up_to a.ymin p.y) (up_to p.y a.ymax) h in record {
@@ -40,7 +40,7 @@ in_area_exact a p = (
   λ h. all_four (up_to a.xmin p.x) (up_to p.x a.xmax) (up_to a.ymin p.y) (up_to p.y a.ymax) (as_test a.xmin p.x h.from_west) (as_test p.x a.xmax h.to_east) (as_test a.ymin p.y h.from_south) (as_test p.y a.ymax h.to_north),
 )
 
--- on one axis: two ranges of numbers share the greater of their lower ends, or none
+-- on one axis: two intervals share the greater of their lower ends, or no number
 pub record IsShared (al ah bl bh x : Ratio) : Type 0 where
   pub from_a : up_to al x ≡ true
   pub to_a : up_to x ah ≡ true
@@ -51,7 +51,7 @@ axis_shared : (al ah bl bh : Ratio) (b : Bool) → before al bl ≡ b → up_to 
 axis_shared al ah bl bh true e h k l m = record { from_a = grind (arith, before-back al bl e); to_a = m; from_b = upto_self bl; to_b = k }
 axis_shared al ah bl bh false e h k l m = record { from_a = upto_self al; to_a = h; from_b = grind (arith, e); to_b = l }
 
--- an area has a point exactly where no least coordinate is above its greatest
+-- an area has a point exactly if no smallest coordinate is above its greatest
 pub area_has_point : (a : Area) → (is_area a ≡ true) ↔ ((p : Point) × InArea a p)
 area_has_point a = (
   λ h.
@@ -62,7 +62,7 @@ area_has_point a = (
       and_from (up_to a.xmin a.xmax) (up_to a.ymin a.ymax) (upto_trans a.xmin m.0.x a.xmax k.0 k.1) (upto_trans a.ymin m.0.y a.ymax k.2 k.3),
 )
 
--- two areas share a point exactly where on each axis neither lies wholly on one side of the other
+-- two areas share a point exactly if on each axis neither lies wholly on one side of the other
 pub areas_meet_exact : (a b : Area) → is_area a ≡ true → is_area b ≡ true → (areas_meet a b ≡ true) ↔ ((p : Point) × InArea a p × InArea b p)
 areas_meet_exact a b h k = (
   λ m.
@@ -83,14 +83,14 @@ areas_meet_exact a b h k = (
       all_four (up_to a.xmin b.xmax) (up_to b.xmin a.xmax) (up_to a.ymin b.ymax) (up_to b.ymin a.ymax) (upto_trans a.xmin p.x b.xmax i.0 j.1) (upto_trans b.xmin p.x a.xmax j.0 i.1) (upto_trans a.ymin p.y b.ymax i.2 j.3) (upto_trans b.ymin p.y a.ymax j.2 i.3),
 )
 
--- what is in an area is in one over it
+-- a point in an area is in an area that contains it
 pub in_over : (a b : Area) (p : Point) → area_over a b ≡ true → InArea b p → InArea a p
 in_over a b p h k =
     let i = four (up_to a.xmin b.xmin) (up_to b.xmax a.xmax) (up_to a.ymin b.ymin) (up_to b.ymax a.ymax) h in
     let j = four (up_to b.xmin p.x) (up_to p.x b.xmax) (up_to b.ymin p.y) (up_to p.y b.ymax) ((in_area_exact b p).1 k) in
     (in_area_exact a p).0 (all_four (up_to a.xmin p.x) (up_to p.x a.xmax) (up_to a.ymin p.y) (up_to p.y a.ymax) (upto_trans a.xmin b.xmin p.x i.0 j.0) (upto_trans p.x b.xmax a.xmax j.1 i.1) (upto_trans a.ymin b.ymin p.y i.2 j.2) (upto_trans p.y b.ymax a.ymax j.3 i.3))
 
--- an area lies in another exactly where each of its points does
+-- an area lies in another exactly if each of its points does
 pub area_over_exact : (a b : Area) → is_area b ≡ true → (area_over a b ≡ true) ↔ ((p : Point) → InArea b p → InArea a p)
 area_over_exact a b h = (
   λ k p i. in_over a b p k i,
@@ -114,7 +114,7 @@ area_over_trans a b c h k =
     let j = four (up_to b.xmin c.xmin) (up_to c.xmax b.xmax) (up_to b.ymin c.ymin) (up_to c.ymax b.ymax) k in
     all_four (up_to a.xmin c.xmin) (up_to c.xmax a.xmax) (up_to a.ymin c.ymin) (up_to c.ymax a.ymax) (upto_trans a.xmin b.xmin c.xmin i.0 j.0) (upto_trans c.xmax b.xmax a.xmax j.1 i.1) (upto_trans a.ymin b.ymin c.ymin i.2 j.2) (upto_trans c.ymax b.ymax a.ymax j.3 i.3)
 
--- what meets an area meets one over it
+-- whatever meets an area meets an area that contains it
 pub area_over_meets : (a b q : Area) → area_over a b ≡ true → areas_meet b q ≡ true → areas_meet a q ≡ true
 area_over_meets a b q h k =
     let i = four (up_to a.xmin b.xmin) (up_to b.xmax a.xmax) (up_to a.ymin b.ymin) (up_to b.ymax a.ymax) h in
@@ -127,11 +127,11 @@ smaller_least s t u h k = grind arith
 greater_least : (s t u : Ratio) → up_to s u ≡ true → up_to t u ≡ true → up_to (greater s t) u ≡ true
 greater_least s t u h k = grind arith
 
--- the least area over two points
+-- the bounding box of two points
 pub between_is_area : (p q : Point) → is_area (area_between p q) ≡ true
 between_is_area p q = and_from (up_to (smaller p.x q.x) (greater p.x q.x)) (up_to (smaller p.y q.y) (greater p.y q.y)) (upto_trans (smaller p.x q.x) p.x (greater p.x q.x) (smaller_left p.x q.x) (greater_left p.x q.x)) (upto_trans (smaller p.y q.y) p.y (greater p.y q.y) (smaller_left p.y q.y) (greater_left p.y q.y))
 
--- an area with two points has the least area over them
+-- an area that contains two points contains their bounding box
 pub between_least : (p q : Point) (b : Area) → InArea b p → InArea b q → area_over b (area_between p q) ≡ true
 between_least p q b h k =
     let i = four (up_to b.xmin p.x) (up_to p.x b.xmax) (up_to b.ymin p.y) (up_to p.y b.ymax) ((in_area_exact b p).1 h) in
@@ -152,7 +152,7 @@ greater_is : (s t : Ratio) (b : Bool) → before s t ≡ b → up_to s t ≡ tru
 greater_is s t true e h = refl
 greater_is s t false e h = before-neither s t e (grind (arith, h))
 
--- an area is the one between its least corner and its greatest
+-- an area is the bounding box of its smallest corner and its greatest
 pub between_again : (a : Area) → is_area a ≡ true → area_between (record { x = a.xmin; y = a.ymin }) (record { x = a.xmax; y = a.ymax }) ≡ a
 between_again a h =
     let k = and_parts (up_to a.xmin a.xmax) (up_to a.ymin a.ymax) h in
@@ -175,14 +175,14 @@ area_cover_least a b d h k =
     let c = area_cover a b in
     all_four (up_to d.xmin c.xmin) (up_to c.xmax d.xmax) (up_to d.ymin c.ymin) (up_to c.ymax d.ymax) (smaller_least a.xmin b.xmin d.xmin i.0 j.0) (greater_least a.xmax b.xmax d.xmax i.1 j.1) (smaller_least a.ymin b.ymin d.ymin i.2 j.2) (greater_least a.ymax b.ymax d.ymax i.3 j.3)
 
--- what is over an area is one
+-- whatever contains an area is one
 pub over_is_area : (a b : Area) → area_over a b ≡ true → is_area b ≡ true → is_area a ≡ true
 over_is_area a b h k =
     let i = four (up_to a.xmin b.xmin) (up_to b.xmax a.xmax) (up_to a.ymin b.ymin) (up_to b.ymax a.ymax) h in
     let s = and_parts (up_to b.xmin b.xmax) (up_to b.ymin b.ymax) k in
     and_from (up_to a.xmin a.xmax) (up_to a.ymin a.ymax) (upto_trans a.xmin b.xmin a.xmax i.0 (upto_trans b.xmin b.xmax a.xmax s.0 i.1)) (upto_trans a.ymin b.ymin a.ymax i.2 (upto_trans b.ymin b.ymax a.ymax s.1 i.3))
 
--- spans: what is in a span is in one over it
+-- spans: an instant in a span is in a span that contains it
 pub in_inside : (s r : SpanOf) (t : Ratio) → is_inside s r ≡ true → has r t ≡ true → has s t ≡ true
 in_inside s r t h k = by_test (has s t) refl
   where
@@ -190,14 +190,14 @@ in_inside s r t h k = by_test (has s t) refl
     by_test true e = e
     by_test false e = absurd (true≢false (sym k ∙ inside_has s r t h e))
 
--- two spans share an instant exactly where their meet has one
+-- two spans share an instant exactly if their intersection has one
 pub spans_meet_exact : (s r : SpanOf) → (has_instant (meet_of s r) ≡ true) ↔ ((t : Ratio) × InSpan s t × InSpan r t)
 spans_meet_exact s r = (
   λ h. let m = (meet_some s r).0 h in let k = and_parts (has s m.0) (has r m.0) m.1 in (m.0, (has_exact s m.0).0 k.0, (has_exact r m.0).0 k.1),
   λ m. (meet_some s r).1 (m.0, and_from (has s m.0) (has r m.0) ((has_exact s m.0).1 m.1) ((has_exact r m.0).1 m.2)),
 )
 
--- what meets a span meets one over it
+-- whatever meets a span meets a span that contains it
 pub inside_meets : (a b q : SpanOf) → is_inside a b ≡ true → has_instant (meet_of b q) ≡ true → has_instant (meet_of a q) ≡ true
 inside_meets a b q h k = let m = (meet_some b q).0 k in let i = and_parts (has b m.0) (has q m.0) m.1 in (meet_some a q).1 (m.0, and_from (has a m.0) (has q m.0) (in_inside a b m.0 h i.0) i.1)
 

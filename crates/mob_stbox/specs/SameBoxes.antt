@@ -1,4 +1,4 @@
--- The test whether two boxes are one is exact.
+-- The test of whether two boxes are equal is exact.
 use Rattle.std.specs.Prelude.{◌≡◌, ◌↔◌, Bool, true, false, IsTrue, refl, Option, Some, None}
 use Rattle.std.proofs.lemmas.Bool.{and_parts, and_from}
 use Rattle.std.proofs.Common.{ap, sym, ◌∙◌, true≢false}
@@ -53,7 +53,7 @@ part_self : {A : Type 0} (test : A → A → Bool) → ((x : A) → test x x ≡
 part_self test f None = refl
 part_self test f (Some x) = f x
 
--- a box is the same as itself alone
+-- a box is equal to itself
 pub same_self : (a : BoxOf) → same_box a a ≡ true
 unfolding same_box
 same_self a = and_from _ _ (part_self same_area area_self a.space) (part_self same_span span_self a.time)
@@ -69,11 +69,11 @@ same_is a b h =
 pub same_box_exact : (a b : BoxOf) → IsTrue (same_box a b) ↔ (a ≡ b)
 same_box_exact a b = (same_is a b, λ e. ap (λ z. same_box a z) (sym e) ∙ same_self a)
 
--- as the answer to a question
+-- the same for a named result
 pub same_box_exact_as : (a b : BoxOf) (r : Bool) → r ≡ same_box a b → IsTrue r ↔ (a ≡ b)
 same_box_exact_as a b r e = rw e (same_box_exact a b)
 
--- being one box is an equivalence
+-- equality of boxes is an equivalence relation
 pub same_box_equivalence : IsEquivalence same_box
 same_box_equivalence = record {
   refl = same_self;

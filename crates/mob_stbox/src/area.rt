@@ -7,8 +7,9 @@ ghost use Rattle.mob_stbox.specs.Expansion.{moved_area};
 use mob_frac::{Frac, Overflow};
 use mob_plane::{Point, greater, smaller};
 
-/// A closed rectangle of the plane, by its least and its greatest coordinates. Its sides belong to
-/// it. Any four numbers can stand here; a `StBox` has no least coordinate above its greatest.
+/// A closed rectangle of the plane, by its smallest and its greatest coordinates. Its sides belong
+/// to it. Any four numbers are allowed here; in a `StBox`, no smallest coordinate is above its
+/// greatest.
 #[derive(Clone, Copy, Debug, Drop)]
 pub struct Area {
     /// The coordinate of its west side.
@@ -22,8 +23,8 @@ pub struct Area {
 }
 
 impl Area {
-    /// The least rectangle over two points, which are opposite corners of it. They may be any two
-    /// opposite ones.
+    /// The bounding box of two points, which are opposite corners of it. They may be either pair of
+    /// opposite corners.
     pub fn between(a: &Point, b: &Point) -> Area
         ensures value { result ≡ area_between a.now b.now }
         ensures area { is_area result ≡ true }
@@ -37,14 +38,14 @@ impl Area {
         }
     }
 
-    // Whether no least coordinate is above its greatest.
+    // Whether no smallest coordinate is above its greatest.
     pub(crate) fn is_area(&self) -> bool
         ensures value { result ≡ is_area self.now }
     {
         !self.xmax.is_before(&self.xmin) && !self.ymax.is_before(&self.ymin)
     }
 
-    // Whether the two share a point, where both are areas.
+    // Whether the two share a point, if both are areas.
     pub(crate) fn meets(&self, other: &Area) -> bool
         ensures value { result ≡ areas_meet self.now other.now }
     {
@@ -62,7 +63,7 @@ impl Area {
             && (!other.ymin.is_before(&self.ymin) && !self.ymax.is_before(&other.ymax))
     }
 
-    // The least area over both.
+    // The smallest area that contains both.
     pub(crate) fn cover(&self, other: &Area) -> Area
         ensures value { result ≡ area_cover self.now other.now }
     {
@@ -74,7 +75,7 @@ impl Area {
         }
     }
 
-    // Each side moved outward by `d`, inward where `d` is below 0.
+    // Each side moved outward by `d`, or inward if `d` is below 0.
     pub(crate) fn moved(&self, d: &Frac) -> Result<Area, Overflow>
         ensures value { IsFormula (expansion_parts self.now.xmin self.now.xmax self.now.ymin self.now.ymax d.now) (moved_area self.now d.now) result }
     {

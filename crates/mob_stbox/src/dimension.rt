@@ -1,4 +1,4 @@
-//! One dimension of two boxes: each of them has it or lacks it.
+//! One dimension of two boxes, each of which has it or lacks it.
 ghost use Rattle.std.specs.Prelude.{◌≡◌, ◌&&◌, ◌||◌, true, Option};
 ghost use Rattle.mob_span.specs.Neighbours.{is_inside};
 ghost use Rattle.mob_stbox.specs.Areas.{areas_meet, area_over, area_cover, same_area};
@@ -19,7 +19,7 @@ pub(crate) fn is_shared(
     (a.is_some() && b.is_some()) || (s.is_some() && r.is_some())
 }
 
-// Whether two areas share a point, if both are there.
+// Whether two areas share a point, or one is missing.
 pub(crate) fn spaces_meet(a: &Option<Area>, b: &Option<Area>) -> bool
     ensures value { result ≡ where_both areas_meet a.now b.now }
 {
@@ -29,7 +29,7 @@ pub(crate) fn spaces_meet(a: &Option<Area>, b: &Option<Area>) -> bool
     }
 }
 
-// Whether two spans share an instant, if both are there.
+// Whether two spans share an instant, or one is missing.
 pub(crate) fn times_meet(s: &Option<Span>, r: &Option<Span>) -> bool
     ensures value { result ≡ where_both spans_meet s.now r.now }
 {
@@ -39,7 +39,7 @@ pub(crate) fn times_meet(s: &Option<Span>, r: &Option<Span>) -> bool
     }
 }
 
-// Whether the second area is there and lies in the first, if the first is there.
+// Whether the second area exists and lies in the first, or the first is missing.
 pub(crate) fn is_space_over(a: &Option<Area>, b: &Option<Area>) -> bool
     ensures value { result ≡ lies_in area_over a.now b.now }
 {
@@ -50,7 +50,7 @@ pub(crate) fn is_space_over(a: &Option<Area>, b: &Option<Area>) -> bool
     }
 }
 
-// Whether the second span is there and lies in the first, if the first is there.
+// Whether the second span exists and lies in the first, or the first is missing.
 pub(crate) fn is_time_over(s: &Option<Span>, r: &Option<Span>) -> bool
     ensures value { result ≡ lies_in is_inside s.now r.now }
 {
@@ -61,7 +61,7 @@ pub(crate) fn is_time_over(s: &Option<Span>, r: &Option<Span>) -> bool
     }
 }
 
-// Whether no instant of the second span is outside the first.
+// Whether every instant of the second span is in the first.
 fn is_span_over(s: &Span, r: &Span) -> bool
     ensures value { result ≡ is_inside s.now r.now }
 {
@@ -71,7 +71,7 @@ fn is_span_over(s: &Span, r: &Span) -> bool
             || (!s.upper().is_before(r.upper()) && (s.upper_inc() || !r.upper_inc())))
 }
 
-// The least area over both, which are there.
+// The smallest area that contains both, if both exist.
 pub(crate) fn space_cover(a: &Option<Area>, b: &Option<Area>) -> Option<Area>
     ensures value { result ≡ of_both area_cover a.now b.now }
 {
@@ -81,7 +81,7 @@ pub(crate) fn space_cover(a: &Option<Area>, b: &Option<Area>) -> Option<Area>
     }
 }
 
-// The least span over both, which are there.
+// The smallest span that contains both, if both exist.
 pub(crate) fn time_cover(s: &Option<Span>, r: &Option<Span>) -> Option<Span>
     ensures value { result ≡ of_both span_cover s.now r.now }
 {
@@ -111,7 +111,7 @@ fn span_cover(s: &Span, r: &Span) -> Span
     }
 }
 
-// Whether both areas are missing, or both are there with the same sides.
+// Whether both areas are missing, or both exist with the same sides.
 pub(crate) fn is_same_space(a: &Option<Area>, b: &Option<Area>) -> bool
     ensures value { result ≡ same_part same_area a.now b.now }
 {
@@ -123,7 +123,7 @@ pub(crate) fn is_same_space(a: &Option<Area>, b: &Option<Area>) -> bool
     }
 }
 
-// Whether both spans are missing, or both are there with the same ends.
+// Whether both spans are missing, or both exist with the same ends.
 pub(crate) fn is_same_time(s: &Option<Span>, r: &Option<Span>) -> bool
     ensures value { result ≡ same_part same_span s.now r.now }
 {

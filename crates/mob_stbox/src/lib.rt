@@ -1,7 +1,7 @@
 //! Boxes of the plane and of time: a closed rectangle, a span of time, or both.
 //!
-//! Two boxes overlap where they share at least one dimension and, on every dimension that both
-//! have, a value, as the boxes of MobilityDB do. No call takes memory.
+//! Two boxes overlap if they share at least one dimension and, on every dimension that both have, a
+//! value, like the boxes of MobilityDB. No call allocates.
 #![tactic(auto)]
 
 mod area;

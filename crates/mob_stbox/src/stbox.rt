@@ -1,4 +1,4 @@
-//! Boxes of the plane and of time.
+//! Boxes of the plane and of time, and their operations.
 ghost use Rattle.std.specs.Prelude.{◌≡◌, ◌↔◌, true, IsTrue, IsNone, IfSome, MatchOption, Option, Some, None};
 ghost use Rattle.std.specs.Cmp.{partial_equiv_from_equiv};
 ghost use Rattle.mob_frac.specs.Formula.{IsFormula};
@@ -16,9 +16,9 @@ use mob_frac::{Frac, Overflow};
 use mob_span::Span;
 use std::marker::Model;
 
-/// A box: a closed rectangle of the plane, a span of time, or both. No least coordinate is above
-/// its greatest, and the span has its own ends, each included or not. Contracts see it as the
-/// record of the two. It is MobilityDB's `stbox` without a third dimension of space.
+/// A box: a closed rectangle of the plane, a span of time, or both. No smallest coordinate is above
+/// its greatest, and each end of the span is included or not. Contracts see it as the record of the
+/// two. It is MobilityDB's `stbox` without a third dimension of space.
 #[derive(Clone, Copy)]
 pub struct StBox {
     space: Option<Area>,
@@ -53,8 +53,8 @@ fn with_space(area: Area, time: Option<Span>) -> Option<StBox>
 }
 
 impl StBox {
-    /// The box with these dimensions. None exactly where both are missing or a least coordinate is
-    /// above its greatest.
+    /// The box with these dimensions. `None` exactly if both are missing or a smallest coordinate
+    /// is above its greatest.
     pub fn new(space: Option<Area>, time: Option<Span>) -> Option<StBox>
         ensures none { IsNone result ↔ NoBox space time }
         ensures value { IfSome result (λ b. b ≡ record { space = space; time = time }) }
@@ -117,7 +117,7 @@ impl StBox {
         is_space_over(&self.space, &other.space) && is_time_over(&self.time, &other.time)
     }
 
-    /// The least box over both, which have space and time.
+    /// The smallest box that contains both, which have space and time.
     #[tactic(auto, unfolding(crate::specs::Boxes::cover, crate::specs::Boxes::is_whole))]
     pub fn cover(&self, other: &StBox) -> StBox
         requires first { is_whole self.now ≡ true }
@@ -131,10 +131,10 @@ impl StBox {
         }
     }
 
-    /// The box with each side of its rectangle moved outward by `d`, or inward where `d` is below
-    /// 0, and with its time as it is. It is `Overflow` exactly where the box has space and a new
-    /// coordinate does not fit. It is None exactly where the box has no space, or each new
-    /// coordinate fits and no rectangle is left. This is MobilityDB's `expandSpace`.
+    /// The box with each side of its rectangle moved outward by `d`, or inward if `d` is below 0,
+    /// and its time unchanged. It is `Overflow` exactly if the box has space and a new coordinate
+    /// does not fit. It is `None` exactly if the box has no space, or each new coordinate fits and
+    /// no rectangle is left. This is MobilityDB's `expandSpace`.
     pub fn expand(&self, d: &Frac) -> Result<Option<StBox>, Overflow>
         ensures value { IsFormula (parts_of_expansion self.now d.now) (expanded self.now d.now) result }
     {
@@ -144,7 +144,8 @@ impl StBox {
         }
     }
 
-    /// Whether both are one box: they have the same dimensions, the same sides and the same span.
+    /// Whether both boxes are equal: they have the same dimensions, the same sides and the same
+    /// span.
     #[tactic(auto, unfolding(crate::specs::Boxes::same_box))]
     pub fn same(&self, other: &StBox) -> bool
         ensures exact { IsTrue result ↔ (self.now ≡ other.now) }
@@ -171,7 +172,7 @@ impl Eq for StBox {
 impl Default for StBox {
     ghost is_default = { λ b. b ≡ origin };
 
-    /// The point 0 0 at any time. It stands where an array wants something to begin with.
+    /// The point 0 0 at any time. It is a placeholder to fill arrays with.
     fn default() -> StBox {
         let zero = Frac::zero();
         StBox {

@@ -1,4 +1,4 @@
-//! A counter of steps, for contracts that bound them. It costs nothing when the program runs.
+//! A counter of steps, for contracts that bound them. It costs nothing at run time.
 #![tactic(auto)]
 
 mod steps;

@@ -1,4 +1,4 @@
--- What follows of the pieces of a walk with a base value beside them.
+-- Lemmas on the pieces of a walk next to a base value.
 use Rattle.std.specs.Prelude.{◌≡◌, true, List, [], ◌∷◌, map}
 use Rattle.std.specs.List.{AllByRecursion}
 use Rattle.mob_list.proofs.Each.{each_map}
@@ -13,7 +13,7 @@ use Rattle.mob_sync.specs.Common.{HoldsPair}
 use Rattle.mob_sync.specs.Ones.{HoldsOne}
 use Rattle.mob_sync.specs.Pieces.{both_move, left_moves, right_moves}
 
--- a list of pieces that are made of others on the same spans is in order of time as they are
+-- pieces made from others on the same spans are in order of time if those are
 module _ {P Q : Type 0} (span : P → SpanOf) (span' : Q → SpanOf) (f : P → Q) (same : (p : P) → span' (f p) ≡ span p) where
   map_head : (p : P) (ps : List P) → OfHead (λ q r. is_clear (span q) (span r) ≡ true) p ps → OfHead (λ q r. is_clear (span' q) (span' r) ≡ true) (f p) (map f ps)
   map_head p [] h = tt
@@ -23,7 +23,7 @@ module _ {P Q : Type 0} (span : P → SpanOf) (span' : Q → SpanOf) (f : P → 
   map_clear [] h = tt
   map_clear (p ∷ ps) h = (rw (same p) h.0, map_head p ps h.1, map_clear ps h.2)
 
--- the slices of each hold its span
+-- the slices of each contain its span
 module _ {A X B Y : Type 0} (start end : A → X) (start' end' : B → Y) where
   pub both_hold : (ps : List (PieceOf (Slice A) (Slice B))) → AllByRecursion (HoldsPair start end start' end') ps → AllByRecursion (HoldsPiece start end start' end') (map both_move ps)
   both_hold ps h = each_map (HoldsPair start end start' end') (HoldsPiece start end start' end') both_move (λ p k. k) ps h

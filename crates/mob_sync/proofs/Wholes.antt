@@ -1,4 +1,4 @@
--- What follows of slices on their whole spans.
+-- Lemmas on slices on their whole spans.
 use Rattle.std.specs.Prelude.{◌≡◌, true, List, [], ◌∷◌}
 use Rattle.std.specs.List.{AllByRecursion}
 use Rattle.mob_span.specs.Neighbours.{is_clear}
@@ -13,12 +13,12 @@ wholes_head : {C : Type 0} (s : Slice C) (v : List (Slice C)) → OfHead (λ p q
 wholes_head s [] h = tt
 wholes_head s (r ∷ v) h = h
 
--- they are ordered and disjoint where the slices are
+-- they are ordered and disjoint if the slices are
 pub wholes_clear : {C : Type 0} (v : List (Slice C)) → PiecesAreClear (λ s. s.span) v → PiecesAreClear (λ p. p.0) (whole_slices v)
 wholes_clear [] h = tt
 wholes_clear (s ∷ v) h = (h.0, wholes_head s v h.1, wholes_clear v h.2)
 
--- each slice holds its span
+-- each slice contains its span
 pub wholes_hold : {C X : Type 0} (start end : C → X) (v : List (Slice C)) → AllByRecursion (IsSound start end) v → AllByRecursion (HoldsOne start end) (whole_slices v)
 wholes_hold start end [] h = tt
 wholes_hold start end (s ∷ v) h = ((h.0, inside_self s.span), wholes_hold start end v h.1)

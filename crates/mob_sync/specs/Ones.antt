@@ -6,7 +6,7 @@ use Rattle.mob_slice.specs.declared.slice.Slice.{Slice}
 use Rattle.mob_slice.specs.declared.part.One.{One}
 use Rattle.mob_sync.specs.declared.ones.Ones.{Ones}
 
--- what contracts see of a piece
+-- a piece, as contracts see it
 abbrev pub one_of : {C : Type 0} → One C → SpanOf × Slice C
 one_of p = (p.span, p.slice.now)
 
@@ -14,14 +14,14 @@ one_of p = (p.span, p.slice.now)
 abbrev pub whole_slices : {C : Type 0} → List (Slice C) → List (SpanOf × Slice C)
 whole_slices v = map (λ s. (s.span, s)) v
 
--- the pieces that are still to come
+-- the pieces still to come
 abbrev pub ones_left : {C : Type 0} → Ones C → List (SpanOf × Slice C)
 ones_left s = whole_slices s.slices.now
 
--- the slice of a piece is sound and holds its span
+-- the slice of a piece is sound and contains its span
 abbrev pub HoldsOne : {C X : Type 0} → (C → X) → (C → X) → SpanOf × Slice C → Type 0
 HoldsOne start end p = HoldsSide start end (Moves p.1) p.0
 
--- a walk can always go on
+-- a walk can always continue
 abbrev pub CanWalkOne : {C : Type 0} → Ones C → Type 0
 CanWalkOne s = Unit {0}

@@ -10,7 +10,7 @@ use Rattle.mob_sync.specs.declared.pieces.Walk.{Walk}
 use Rattle.mob_sync.specs.declared.pieces.Walk.TheVariants.{Both, Left, Right, Neither}
 use Rattle.mob_sync.specs.declared.pieces.Pieces.{Pieces}
 
--- a common piece of two temporal values, and a piece of one beside a base value
+-- a common piece of two temporal values, and a piece of one next to a base value
 abbrev pub both_move : {A X B Y : Type 0} → PieceOf (Slice A) (Slice B) → PieceOf (SideOf A X) (SideOf B Y)
 both_move p = record { span = p.span; left = Moves p.left; right = Moves p.right }
 
@@ -20,7 +20,7 @@ left_moves base p = record { span = p.0; left = Moves p.1; right = Stays base }
 abbrev pub right_moves : {A X B Y : Type 0} → X → SpanOf × Slice B → PieceOf (SideOf A X) (SideOf B Y)
 right_moves base p = record { span = p.0; left = Stays base; right = Moves p.1 }
 
--- the walk over the temporal operands can go on
+-- the walk over the temporal operands can continue
 abbrev pub CanWalkOn : {A X B Y : Type 0} → Walk A B X Y → Type 0
 CanWalkOn (Both walk) = CanStep walk
 CanWalkOn (Left beside) = CanWalkOne beside.walk
@@ -30,7 +30,7 @@ CanWalkOn Neither = Unit {0}
 abbrev pub CanGo : {A X B Y : Type 0} → Pieces A B X Y → Type 0
 CanGo s = CanWalkOn s.walk
 
--- the pieces that are still to come: those of the walk, each with the base value beside it
+-- the pieces still to come: those of the walk, each with the base value next to it
 abbrev pub still_to_come : {A X B Y : Type 0} → Walk A B X Y → List (PieceOf (SideOf A X) (SideOf B Y))
 still_to_come (Both walk) = map both_move (common_left walk)
 still_to_come (Left beside) = map (left_moves beside.base.now) (ones_left beside.walk)

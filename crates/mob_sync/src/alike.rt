@@ -1,12 +1,13 @@
+//! Equality of slices as functions.
 ghost use Rattle.std.specs.Prelude.{◌≡◌, true};
 ghost use Rattle.mob_sync.specs.Alike.{AreAlike};
 
 use mob_slice::{Course, Slice};
 
-/// Whether two slices have one course, on spans with the same ends.
+/// Whether two slices have the same course, on spans with the same ends.
 ///
-/// Neighbouring pieces share an instant, and mostly a slice: then what was computed at the end of
-/// the one is known at the start of the other.
+/// Neighbouring pieces share an instant, and usually a slice: then the values computed at the end
+/// of the first piece are known at the start of the second.
 pub fn are_alike<C: Course>(a: &Slice<C>, b: &Slice<C>) -> bool
     ensures alike { result ≡ true → AreAlike a.now b.now }
 {

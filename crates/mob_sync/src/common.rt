@@ -1,3 +1,4 @@
+//! The walk over the common pieces of two temporal values.
 ghost use Rattle.std.specs.Prelude.{◌≡◌};
 ghost use Rattle.std.specs.Iterator.{YieldsFirstBy, item_count};
 ghost use Rattle.std.specs.List.{AllByRecursion};
@@ -9,7 +10,7 @@ use mob_slice::{Course, Moving, Pair, Slice};
 use mob_span::SharedPieces;
 
 /// The common pieces of two temporal values, in order of time: exactly the pieces that a slice of
-/// one and a slice of the other share. They hold exactly the instants at which both have a value,
+/// one and a slice of the other share. They have exactly the instants at which both have a value,
 /// each with the slices there.
 #[derive(Drop)]
 pub struct Common<'a, A, B> {
@@ -17,7 +18,7 @@ pub struct Common<'a, A, B> {
 }
 
 impl<'a, A: Course, B: Course> Common<'a, A, B> {
-    /// The walk from the first common piece.
+    /// The walk, at the first common piece.
     pub fn new(a: &'a Moving<A>, b: &'a Moving<B>) -> Self
         ensures can { CanStep result }
         ensures clear { PiecesAreClear (λ p. p.span) (common_left result) }

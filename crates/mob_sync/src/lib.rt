@@ -1,6 +1,6 @@
 //! Walks over the pieces of temporal values, in order of time: `Ones` over those of one value,
 //! `Common` over those that two share, and `Pieces` over those of two operands, by one of the
-//! others. A walk takes no memory and has no refusal.
+//! others. A walk does not allocate and has no error.
 #![tactic(auto)]
 
 mod alike;

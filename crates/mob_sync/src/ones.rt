@@ -1,3 +1,4 @@
+//! The walk over the slices of one temporal value.
 ghost use Rattle.std.specs.Prelude.{◌≡◌};
 ghost use Rattle.std.specs.Iterator.{YieldsFirstBy, item_count};
 ghost use Rattle.std.specs.List.{AllByRecursion};
@@ -13,7 +14,7 @@ pub struct Ones<'a, C> {
 }
 
 impl<'a, C: Course> Ones<'a, C> {
-    /// The walk from the first piece.
+    /// The walk, at the first piece.
     pub fn new(a: &'a Moving<C>) -> Self
         ensures can { CanWalkOne result }
         ensures clear { PiecesAreClear (λ p. p.0) (ones_left result) }

@@ -1,3 +1,4 @@
+//! The walk over the pieces of two operands.
 ghost use Rattle.std.specs.Prelude.{◌≡◌};
 ghost use Rattle.std.specs.Iterator.{YieldsFirstBy, item_count};
 ghost use Rattle.std.specs.List.{AllByRecursion};
@@ -9,7 +10,7 @@ use crate::common::Common;
 use crate::ones::Ones;
 use mob_slice::{Course, Operand, Piece, Side};
 
-// The walk over a temporal value, and the base value beside it.
+// The walk over a temporal value, next to a base value.
 #[derive(Drop)]
 struct Beside<'a, C, B> {
     walk: Ones<'a, C>,
@@ -21,23 +22,23 @@ struct Beside<'a, C, B> {
 enum Walk<'a, A: Course, B: Course> {
     // Both are temporal values.
     Both(Common<'a, A, B>),
-    // The first is one.
+    // Only the first is.
     Left(Beside<'a, A, B::Base>),
-    // The second is one.
+    // Only the second is.
     Right(Beside<'a, B, A::Base>),
-    // Neither is one.
+    // Neither is.
     Neither,
 }
 
 /// The pieces of two operands, in order of time: those that two temporal values share, or each
-/// slice of one beside a base value.
+/// slice of one, next to a base value.
 #[derive(Drop)]
 pub struct Pieces<'a, A: Course, B: Course> {
     walk: Walk<'a, A, B>,
 }
 
 impl<'a, A: Course, B: Course> Pieces<'a, A, B> {
-    /// The walk from the first piece.
+    /// The walk, at the first piece.
     pub fn new(a: Operand<'a, A>, b: Operand<'a, B>) -> Self
         ensures can { CanGo result }
         ensures all { pieces_left result ≡ pieces (operand_of a.entry) (operand_of b.entry) }

@@ -1,4 +1,4 @@
--- The aggregate of two lists is that of the two aggregates.
+-- The aggregate of two concatenated lists is that of the two aggregates.
 use Rattle.std.specs.Prelude.{◌≡◌, Bool, true, false, cond, ◌&&◌, ◌||◌, ◌+◌, pos, refl, List, [], ◌∷◌, ◌++◌, length, Option, Some, None, option_map}
 use Rattle.std.proofs.Common.{ap, sym, ◌∙◌, arith}
 use Rattle.mob_ratio.specs.Ratio.{Ratio, whole, ◌+ℚ◌}
@@ -48,16 +48,16 @@ module _ {V B D Z : Type 0} (there : V → Ratio → Option B) (result : D → R
       by (Some x) = refl
 
   -- Two lists: their aggregates united by the operation are the aggregate of both. A fold is the
-  -- case of one value behind, and so is any tree.
+  -- case of a single value in the second list; any tree works too.
   pub aggregate_both : (op : Z → Z → Z) → JoinsBy op f → (vs ws : List V) (r s u : List (Slice D)) → Of vs (Some r) → Of ws (Some s) → IsNormal start end continues u → AreUnited result op r s u → Of (vs ++ ws) (Some u)
   aggregate_both op joins vs ws r s u h k n e = (n, λ t. e t ∙ ap (λ z. united_by op z (value_at result s t)) (h.1 t) ∙ ap (λ z. united_by op (made_of f (values_at there vs t)) z) (k.1 t) ∙ sym (made_both op f joins (values_at there vs t) (values_at there ws t)) ∙ ap (made_of f) (sym (values_both there vs ws t)))
 
-  -- values that have nothing at any instant add nothing
+  -- values that are undefined at every instant add nothing
   pub aggregate_same : (vs ws : List V) (r : Option (List (Slice D))) → ((t : Ratio) → values_at there ws t ≡ []) → Of vs r → Of (vs ++ ws) r
   aggregate_same vs ws None e h = λ t. values_both there vs ws t ∙ ap (λ z. z ++ values_at there ws t) (h t) ∙ e t
   aggregate_same vs ws (Some r) e h = (h.0, λ t. h.1 t ∙ ap (made_of f) (sym (values_both there vs ws t ∙ ap (λ z. values_at there vs t ++ z) (e t) ∙ append_none (values_at there vs t))))
 
-  -- the first values that have something
+  -- the first values that are defined somewhere
   pub aggregate_first : (vs ws : List V) (r : Option (List (Slice D))) → ((t : Ratio) → values_at there vs t ≡ []) → Of ws r → Of (vs ++ ws) r
   aggregate_first vs ws None e h = λ t. values_both there vs ws t ∙ ap (λ z. z ++ values_at there ws t) (e t) ∙ h t
   aggregate_first vs ws (Some r) e h = (h.0, λ t. h.1 t ∙ ap (made_of f) (sym (values_both there vs ws t ∙ ap (λ z. z ++ values_at there ws t) (e t))))

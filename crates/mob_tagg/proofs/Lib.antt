@@ -1,4 +1,3 @@
-pub mod Lasts
 pub mod Pairs
 pub mod Three
 pub mod Unions

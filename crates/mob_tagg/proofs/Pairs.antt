@@ -1,4 +1,4 @@
--- What a call on a pair says of the piece.
+-- The meaning, for a piece, of a call on a pair.
 use Rattle.std.specs.Prelude.{◌≡◌, Bool, true, List, [], ◌∷◌, Result, Ok}
 use Rattle.std.specs.List.{AllByRecursion}
 use Rattle.std.proofs.Common.{sym, subst}
@@ -6,15 +6,14 @@ use Rattle.mob_ratio.specs.Ratio.{Ratio}
 use Rattle.mob_frac.specs.Formula.{AllFit}
 use Rattle.mob_span.specs.Meets.{PieceOf}
 use Rattle.mob_slice.specs.Cut.{slice_parts}
-use Rattle.mob_slice.specs.Entries.{OnFormula, operator_fault}
+use Rattle.mob_list.specs.Faults.{OnCause}
 use Rattle.mob_slice.specs.Look.{IsLookFault}
 use Rattle.mob_slice.specs.Sides.{at_ends}
 use Rattle.mob_slice.specs.declared.slice.Slice.{Slice}
 use Rattle.mob_slice.specs.declared.part.Pair.{Pair}
 use Rattle.mob_slice.specs.declared.formula.Formula.TheVariants.{F1}
-use Rattle.mob_slice.specs.declared.formula.OpFault.{OpFault}
-use Rattle.mob_slice.specs.declared.formula.LookFault.{LookFault}
-use Rattle.mob_slice.specs.declared.formula.LookFault.TheVariants.{Passed, NoMemory}
+use Rattle.mob_list.specs.declared.fault.Fault.{Fault}
+use Rattle.mob_list.specs.declared.fault.Fault.TheVariants.{Because, NoMemory}
 use Rattle.mob_slice.proofs.Cuts.{all_both, all_first, all_second}
 use Rattle.mob_sync.specs.Common.{pair_of}
 use Rattle.mob_shares.specs.Taken.{piece_parts, AreFull, IsShareGiven}
@@ -32,6 +31,7 @@ use Rattle.mob_slice.specs.Parts.{IsPairFit}
 use Rattle.mob_slice.specs.Pieces.{AreInside}
 use Rattle.mob_slice.specs.Slices.{IsSound, IsOrdered}
 use Rattle.mob_slice.proofs.Orders.{all_sound}
+use Rattle.mob_slice.specs.declared.formula.Formula.{Formula}
 
 module _ {C : Type 0} (parts : C → Ratio → Ratio → Ratio → List Ratio) (q : PieceOf (Slice C) (Slice C)) where
   abbrev lefts : List Ratio
@@ -40,19 +40,19 @@ module _ {C : Type 0} (parts : C → Ratio → Ratio → Ratio → List Ratio) (
   abbrev rights : List Ratio
   rights = at_ends (slice_parts parts q.right) q.span
 
-  pub left_unfit : (copies : Bool) (f : LookFault) → IsLookFault copies lefts f → OnFormula (λ f. (f ≡ F1) × (¬ AllFit (piece_parts parts q))) (operator_fault f)
-  left_unfit copies (Passed f) h = (h.0, λ k. h.1 (all_first lefts rights k))
+  pub left_unfit : (copies : Bool) (f : Fault Formula) → IsLookFault copies lefts f → OnCause (λ f. (f ≡ F1) × (¬ AllFit (piece_parts parts q))) f
+  left_unfit copies (Because f) h = (h.0, λ k. h.1 (all_first lefts rights k))
   left_unfit copies NoMemory h = tt
 
-  pub right_unfit : (copies : Bool) (f : LookFault) → IsLookFault copies rights f → OnFormula (λ f. (f ≡ F1) × (¬ AllFit (piece_parts parts q))) (operator_fault f)
-  right_unfit copies (Passed f) h = (h.0, λ k. h.1 (all_second lefts rights k))
+  pub right_unfit : (copies : Bool) (f : Fault Formula) → IsLookFault copies rights f → OnCause (λ f. (f ≡ F1) × (¬ AllFit (piece_parts parts q))) f
+  right_unfit copies (Because f) h = (h.0, λ k. h.1 (all_second lefts rights k))
   right_unfit copies NoMemory h = tt
 
   pub both_fit : AllFit lefts → AllFit rights → AllFit (piece_parts parts q)
   both_fit h k = all_both lefts rights h k
 
--- what is given on a piece of the walk is ordered and lies in the piece
-pub share_sound : {C B V : Type 0} (value : C → Ratio → Ratio → Ratio → B) (start end : C → B) (parts : C → Ratio → Ratio → Ratio → List Ratio) (items : V → List (Slice C)) (returns : Pair C C → Result V OpFault → Type 0) (x : V)
+-- the result on a piece of the walk is ordered and lies in the piece
+pub share_sound : {C B V : Type 0} (value : C → Ratio → Ratio → Ratio → B) (start end : C → B) (parts : C → Ratio → Ratio → Ratio → List Ratio) (items : V → List (Slice C)) (returns : Pair C C → Result V (Fault Formula) → Type 0) (x : V)
     → ((p : Pair C C) → has_instant p.span ≡ true → IsPairFit start end start end p → returns p (Ok x) → AreFull value start end p.span (items x) × AllFit (piece_parts parts (pair_of p)))
     → (p : Share C) → has_instant (share_span p) ≡ true → HoldsShare start end (share_of p) → IsShareGiven value start end parts items returns p (Ok x) → IsOrdered start end (items x) × AreInside (share_span p) (items x)
 share_sound value start end parts items returns x f (Left o) i h k = (k.0.ordered, k.0.inside)

@@ -1,4 +1,4 @@
--- Two values that go by steps have a union.
+-- Two values that change in steps have a union.
 use Rattle.std.specs.Prelude.{◌≡◌, ◌≢◌, ◌⊎◌, ◌↔◌, Bool, true, false, not, cond, IsTrue, refl, ℕ, zero, suc, ◌<◌, List, [], ◌∷◌, ◌++◌, Option, Some, None, option_map}
 use Rattle.std.proofs.Common.{ap, ap₂, sym, ◌∙◌, inl, inr, ⊎_elim, arith, true≢false}
 use Rattle.mob_ratio.specs.Ratio.{Ratio}
@@ -46,12 +46,12 @@ one_at_end : {A : Type 0} (xs : List A) (x : A) → xs ++ x ∷ [] ≢ []
 one_at_end [] x e = some_list x [] e
 one_at_end (y ∷ xs) x e = some_list y (xs ++ x ∷ []) e
 
--- whether two steps are one
+-- two steps are equal
 abbrev goes_on : {B : Type 0} → (B → B → Bool) → Steady B → Steady B → Ratio → Ratio → Ratio → Bool
 goes_on is_same = (steady_course is_same).continues
 
 module _ {B : Type 0} (is_same : B → B → Bool) (exact : (a b : B) → IsTrue (is_same a b) ↔ (a ≡ b)) where
-  -- what two neighbours become
+  -- the normal form of two neighbours
   abbrev Join : Slice (Steady B) → Slice (Steady B) → Type 0
   Join s r = (d : Steps B) × (l : Slice (Steady B)) × IsJoin steady_value steady_limit steady_limit (goes_on is_same) s r d l
 
@@ -95,17 +95,17 @@ module _ {B : Type 0} (is_same : B → B → Bool) (exact : (a b : B) → IsTrue
 abbrev AreAfter : {B : Type 0} → SpanOf → Steps B → Type 0
 AreAfter q slices = AreAllClear (λ s. s.span) q slices
 
--- steps that come after a span have nothing there
+-- steps after a span are undefined in it
 pub none_at : {B : Type 0} (p : SpanOf) (rest : Steps B) (t : Ratio) → AreAllClear (λ s. s.span) p rest → has p t ≡ true → value_at steady_value rest t ≡ None
 none_at p [] t h k = refl
 none_at p (s ∷ rest) t h k = ap (λ b. cond b (Some s.course.value) (value_at steady_value rest t)) (clear_has p s.span t h.0 k) ∙ none_at p rest t h.1 k
 
 module _ {B : Type 0} (op : B → B → B) where
-  -- what two lists have together, where these are the slices there
+  -- the union of two lists, from their slices there
   abbrev both_at : Option (Slice (Steady B)) → Option (Slice (Steady B)) → Option B
   both_at x y = united_by op (option_map (λ s. s.course.value) x) (option_map (λ s. s.course.value) y)
 
-  -- a step on a span before others, where there is a value
+  -- a step on a span before others, if its value exists
   abbrev put_step : SpanOf → Option B → Steps B → Steps B
   put_step p None rest = rest
   put_step p (Some x) rest = record { span = p; course = record { value = x } } ∷ rest
@@ -130,7 +130,7 @@ module _ {B : Type 0} (op : B → B → B) where
   put_after q p None rest c h = h
   put_after q p (Some x) rest c h = (c, h)
 
-  -- slices in order that have at each instant what two lists have together
+  -- slices in order with the union of two lists at each instant
   pub record IsWalked (v w : List (CutOf (Slice (Steady B)))) (slices : Steps B) : Type 0 where
     pub in_order : IsOrdered steady_limit steady_limit slices
     pub values : (t : Ratio) → value_at steady_value slices t ≡ both_at (entry_at v t) (entry_at w t)
@@ -198,7 +198,7 @@ module _ {B : Type 0} (op : B → B → B) where
       let here : value_at steady_value (s ∷ v) i.0 ≡ Some s.course.value = ap (λ b. cond b (Some s.course.value) (value_at steady_value v i.0)) i.1 in
       there_is s.course.value (value_at steady_value w i.0) (ap (λ z. value_at steady_value z i.0) (sym e) ∙ h i.0 ∙ ap (λ z. united_by op z (value_at steady_value w i.0)) here)
 
--- Two normal values that go by steps have a normal union.
+-- Two normal values that change in steps have a normal union.
 pub normal_union : {B : Type 0} (is_same : B → B → Bool) → ((a b : B) → IsTrue (is_same a b) ↔ (a ≡ b)) → (op : B → B → B) (v w : List (Slice (Steady B))) → IsNormal steady_limit steady_limit (steady_course is_same).continues v → IsNormal steady_limit steady_limit (steady_course is_same).continues w
     → (u : List (Slice (Steady B))) × IsNormal steady_limit steady_limit (steady_course is_same).continues u × AreUnited steady_value op v w u
 normal_union is_same exact op v w n m =

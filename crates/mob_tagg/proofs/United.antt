@@ -1,4 +1,4 @@
--- What two values are together.
+-- The union of two values.
 use Rattle.std.specs.Prelude.{◌≡◌, ◌≢◌, ◌⊎◌, Bool, true, false, cond, refl, List, [], ◌∷◌, ◌++◌, map, Option, Some, None, option_map, MatchOption, Result, Ok, Err, IfOk, IfErr, pos, ℕ, ◌≤◌, length, drop}
 use Rattle.std.specs.List.{AllByRecursion, flat_map}
 use Rattle.std.specs.Option.{option_zip}
@@ -11,7 +11,8 @@ use Rattle.mob_span.specs.Pieces.{piece_at}
 use Rattle.mob_span.proofs.MeetLaws.{meets_at, sides}
 use Rattle.mob_span.proofs.SpanLemmas.{some_instant}
 use Rattle.mob_slice.specs.Cut.{slice_value}
-use Rattle.mob_slice.specs.Entries.{Entry, IsFirst, IsJudged, OnFormula}
+use Rattle.mob_list.specs.Faults.{OnCause}
+use Rattle.mob_slice.specs.Entries.{Entry, IsFirst, IsJudged}
 use Rattle.mob_slice.specs.Parts.{IsPairFit}
 use Rattle.mob_slice.specs.Sides.{SideOf, pieces, Slices, side_parts, at_ends}
 use Rattle.mob_lift.specs.Given.{IsGiven, on_sides}
@@ -20,8 +21,8 @@ use Rattle.mob_slice.specs.declared.slice.Slice.{Slice}
 use Rattle.mob_slice.specs.declared.part.Pair.{Pair}
 use Rattle.mob_slice.specs.declared.formula.Formula.{Formula}
 use Rattle.mob_slice.specs.declared.formula.Formula.TheVariants.{F1}
-use Rattle.mob_slice.specs.declared.formula.OpFault.{OpFault}
-use Rattle.mob_slice.specs.declared.formula.OpFault.TheVariants.{Passed, NoMemory}
+use Rattle.mob_list.specs.declared.fault.Fault.{Fault}
+use Rattle.mob_list.specs.declared.fault.Fault.TheVariants.{Because, NoMemory}
 use Rattle.mob_slice.proofs.LookUps.{value_by}
 use Rattle.mob_lifted.specs.Piecewise.{IsFirstFailure}
 use Rattle.mob_lifted.proofs.Firsts.{first_joined, first_front}
@@ -42,8 +43,8 @@ part_here {P} span (p ∷ ps) t q e = by (has (span p) t) refl e (part_here span
     by true h e f = subst (λ (z : P). has (span z) t ≡ true) (same_some e) h
     by false h e f = f e
 
-module _ {C B V : Type 0} (value : C → Ratio → Ratio → Ratio → B) (start end : C → B) (parts : C → Ratio → Ratio → Ratio → List Ratio) (items : V → List (Slice C)) (returns : Pair C C → Result V OpFault → Type 0) where
-  -- slices that are taken together from a value are not the empty list
+module _ {C B V : Type 0} (value : C → Ratio → Ratio → Ratio → B) (start end : C → B) (parts : C → Ratio → Ratio → Ratio → List Ratio) (items : V → List (Slice C)) (returns : Pair C C → Result V (Fault Formula) → Type 0) where
+  -- slices merged from a value are not the empty list
   pub taken_some : ((q : PieceOf (Slice C) (Slice C)) (x : V) → IsAnswered start end returns q (Ok x) → (t : Ratio) → has q.span t ≡ true → value_at value (items x) t ≢ None) → (v w slices : List (Slice C)) → v ≢ [] → IsOrdered start end v → AreTaken value start end parts items returns v w slices → slices ≢ []
   taken_some full [] w slices n o h e = n refl
   taken_some full (s ∷ v) w slices n o h e =
@@ -56,7 +57,7 @@ module _ {C B V : Type 0} (value : C → Ratio → Ratio → Ratio → B) (start
       by t (Some q) f g m = full q m.0 m.1 t (part_here (λ q. q.span) (shared_pieces (λ s. s.span) (λ s. s.span) (s ∷ v) w) t q f) (sym m.2)
 
   module _ (op : B → B → B) (each : (q : PieceOf (Slice C) (Slice C)) (x : V) → IsAnswered start end returns q (Ok x) → (t : Ratio) → has q.span t ≡ true → value_at value (items x) t ≡ Some (op (slice_value value q.left t) (slice_value value q.right t))) where
-    -- where calls answered the operation on each shared piece, all is united by the operation
+    -- if calls returned the operation on each shared piece, the whole is united by the operation
     pub united_at : (v w : List (Slice C)) (t : Ratio) (o : Option B) → IsTakenAt value start end items returns v w t o → o ≡ united_by op (value_at value v t) (value_at value w t)
     united_at v w t o h =
         by (piece_at (λ q. q.span) (shared_pieces (λ s. s.span) (λ s. s.span) v w) t) (piece_at (λ s. s.span) v t) (piece_at (λ s. s.span) w t) refl (meets_at (λ s. s.span) (λ s. s.span) v w t)
@@ -94,13 +95,13 @@ module _ {C B V : Type 0} (value : C → Ratio → Ratio → Ratio → B) (start
     first_fails f [] h = absurd h
     first_fails f (q ∷ qs) h = ⊎_elim (λ k. first_front (entries (sides_of q)) (flat_map entries (map sides_of qs)) f (bad q f k)) (λ k. first_joined (entries (sides_of q)) (flat_map entries (map sides_of qs)) (Some f) (good q k.0 k.1.1) (first_fails f qs k.2)) h
 
-    pub judged_by : {W : Type 0} (list : W → List (Slice C)) (v w : List (Slice C)) (r : Result W OpFault) → IfOk r (λ all. AreTaken value start end parts items returns v w (list all)) → ((f : Formula) → r ≡ Err (Passed f) → IsFirstRefused start end parts returns v w f) → IsJudged (flat_map entries (pieces (Slices v) (Slices w))) r
+    pub judged_by : {W : Type 0} (list : W → List (Slice C)) (v w : List (Slice C)) (r : Result W (Fault Formula)) → IfOk r (λ all. AreTaken value start end parts items returns v w (list all)) → ((f : Formula) → r ≡ Err (Because f) → IsFirstRefused start end parts returns v w f) → IsJudged (flat_map entries (pieces (Slices v) (Slices w))) r
     judged_by list v w (Ok all) h k = all_fit (shared_pieces (λ s. s.span) (λ s. s.span) v w) h.answered
-    judged_by list v w (Err (Passed f)) h k = first_fails f (shared_pieces (λ s. s.span) (λ s. s.span) v w) (k f refl)
+    judged_by list v w (Err (Because f)) h k = first_fails f (shared_pieces (λ s. s.span) (λ s. s.span) v w) (k f refl)
     judged_by list v w (Err NoMemory) h k = tt
 
--- What is checked before a call is what the call says.
-module _ {C B V : Type 0} (start end : C → B) (parts : C → Ratio → Ratio → Ratio → List Ratio) (wrapped returns : Pair C C → Result V OpFault → Type 0) (checks : (p : Pair C C) (r : Result V OpFault) → wrapped p r → IsChecked parts returns p r) where
+-- The check before a call adds nothing to the meaning of the call.
+module _ {C B V : Type 0} (start end : C → B) (parts : C → Ratio → Ratio → Ratio → List Ratio) (wrapped returns : Pair C C → Result V (Fault Formula) → Type 0) (checks : (p : Pair C C) (r : Result V (Fault Formula)) → wrapped p r → IsChecked parts returns p r) where
   answered_as : (q : PieceOf (Slice C) (Slice C)) (x : V) → IsAnswered start end wrapped q (Ok x) → IsAnswered start end returns q (Ok x)
   answered_as q x h = (h.0, h.1, h.2, (checks h.0 (Ok x) h.3).1)
 
@@ -120,54 +121,54 @@ module _ {C B V : Type 0} (start end : C → B) (parts : C → Ratio → Ratio �
 
   refused_as : (f : Formula) (q : PieceOf (Slice C) (Slice C)) → IsRefused start end parts wrapped f q → IsRefused start end parts returns f q
   refused_as f q (inl h) = inl h
-  refused_as f q (inr h) = ⊎_elim (λ m. inl (m.0, subst (λ z. ¬ AllFit (piece_parts parts z)) h.1.1 m.1)) (λ m. inr (subst (λ z. AllFit (piece_parts parts z)) h.1.1 m.0, (h.1.0, h.1.1, h.1.2, m.1))) (checks h.1.0 (Err (Passed f)) h.1.3)
+  refused_as f q (inr h) = ⊎_elim (λ m. inl (m.0, subst (λ z. ¬ AllFit (piece_parts parts z)) h.1.1 m.1)) (λ m. inr (subst (λ z. AllFit (piece_parts parts z)) h.1.1 m.0, (h.1.0, h.1.1, h.1.2, m.1))) (checks h.1.0 (Err (Because f)) h.1.3)
 
   pub first_as : (f : Formula) (qs : List (PieceOf (Slice C) (Slice C))) → IsFirstFailure {V = V} (λ q x. AllFit (piece_parts parts q) × IsAnswered start end wrapped q (Ok x)) (IsRefused start end parts wrapped f) qs → IsFirstFailure {V = V} (λ q x. AllFit (piece_parts parts q) × IsAnswered start end returns q (Ok x)) (IsRefused start end parts returns f) qs
   first_as f [] h = h
   first_as f (q ∷ qs) h = ⊎_elim (λ m. inl (refused_as f q m)) (λ m. inr (m.0, (m.1.0, answered_as q m.0 m.1.1), first_as f qs m.2)) h
 
-pub first_from : {C B V W : Type 0} (value : C → Ratio → Ratio → Ratio → B) (start end : C → B) (parts : C → Ratio → Ratio → Ratio → List Ratio) (items : V → List (Slice C)) (list : W → List (Slice C)) (wrapped returns : Pair C C → Result V OpFault → Type 0) (v w : List (Slice C)) (r : Result W OpFault) → IfOk r (λ all. AreTaken value start end parts items wrapped v w (list all)) → (f : Formula) → IsFirstRefused start end parts wrapped v w f → ((p : Pair C C) (r : Result V OpFault) → wrapped p r → IsChecked parts returns p r) → IsFirstRefused start end parts returns v w f
+pub first_from : {C B V W : Type 0} (value : C → Ratio → Ratio → Ratio → B) (start end : C → B) (parts : C → Ratio → Ratio → Ratio → List Ratio) (items : V → List (Slice C)) (list : W → List (Slice C)) (wrapped returns : Pair C C → Result V (Fault Formula) → Type 0) (v w : List (Slice C)) (r : Result W (Fault Formula)) → IfOk r (λ all. AreTaken value start end parts items wrapped v w (list all)) → (f : Formula) → IsFirstRefused start end parts wrapped v w f → ((p : Pair C C) (r : Result V (Fault Formula)) → wrapped p r → IsChecked parts returns p r) → IsFirstRefused start end parts returns v w f
 first_from value start end parts items list wrapped returns v w r taken f h checks = first_as start end parts wrapped returns checks f (shared_pieces (λ s. s.span) (λ s. s.span) v w) h
 
--- a call that is checked says whether F1 fits
-pub passes_of : {C V : Type 0} (parts : C → Ratio → Ratio → Ratio → List Ratio) (returns : Pair C C → Result V OpFault → Type 0) (p : Pair C C) (f : Formula) → IsChecked parts returns p (Err (Passed f)) → ((f ≡ F1) × (¬ AllFit (piece_parts parts (pair_of p)))) ⊎ AllFit (piece_parts parts (pair_of p))
+-- a checked call says whether F1 fits
+pub passes_of : {C V : Type 0} (parts : C → Ratio → Ratio → Ratio → List Ratio) (returns : Pair C C → Result V (Fault Formula) → Type 0) (p : Pair C C) (f : Formula) → IsChecked parts returns p (Err (Because f)) → ((f ≡ F1) × (¬ AllFit (piece_parts parts (pair_of p)))) ⊎ AllFit (piece_parts parts (pair_of p))
 passes_of parts returns p f h = ⊎_elim inl (λ m. inr m.0) h
 
-pub still_judged : {W : Type 0} (entries : List Entry) (r : Result W OpFault) → IsFirst entries None → IfErr r (λ e. e ≡ NoMemory) → IsJudged entries r
+pub still_judged : {W : Type 0} (entries : List Entry) (r : Result W (Fault Formula)) → IsFirst entries None → IfErr r (λ e. e ≡ NoMemory) → IsJudged entries r
 still_judged entries (Ok x) h k = h
-still_judged entries (Err f) h k = subst (OnFormula (λ f. IsFirst entries (Some f))) (sym k) tt
+still_judged entries (Err f) h k = subst (OnCause (λ f. IsFirst entries (Some f))) (sym k) tt
 
--- Where calls give an operation on each shared piece whose first entry is F1 at its ends.
-module _ {C B V : Type 0} (value : C → Ratio → Ratio → Ratio → B) (start end : C → B) (parts : C → Ratio → Ratio → Ratio → List Ratio) (items : V → List (Slice C)) (returns : Pair C C → Result V OpFault → Type 0) (op : B → B → B) (others : PieceOf (SideOf C B) (SideOf C B) → List Entry) where
+-- If calls return an operation on each shared piece whose first entry is F1 at its ends.
+module _ {C B V : Type 0} (value : C → Ratio → Ratio → Ratio → B) (start end : C → B) (parts : C → Ratio → Ratio → Ratio → List Ratio) (items : V → List (Slice C)) (returns : Pair C C → Result V (Fault Formula) → Type 0) (op : B → B → B) (others : PieceOf (SideOf C B) (SideOf C B) → List Entry) where
   abbrev pub with_cuts : PieceOf (SideOf C B) (SideOf C B) → List Entry
   with_cuts q = record { formula = F1; parts = at_ends (side_parts parts q.left) q.span ++ at_ends (side_parts parts q.right) q.span } ∷ others q
 
-  module _ (gives : (p : Pair C C) (r : Result V OpFault) → returns p r → IsGiven value start end items (on_sides value value op (sides_of (pair_of p))) p.span (with_cuts (sides_of (pair_of p))) r) where
+  module _ (gives : (p : Pair C C) (r : Result V (Fault Formula)) → returns p r → IsGiven value start end items (on_sides value value op (sides_of (pair_of p))) p.span (with_cuts (sides_of (pair_of p))) r) where
     pub given_united : (v w : List (Slice C)) (t : Ratio) (o : Option B) → IsTakenAt value start end items returns v w t o → o ≡ united_by op (value_at value v t) (value_at value w t)
     given_united v w t o h = united_at value start end parts items returns op (λ q x a t k. subst (λ z. value_at value (items x) t ≡ Some (op (slice_value value z.left t) (slice_value value z.right t))) a.1 ((gives a.0 (Ok x) a.3).0.values t (subst (λ z. has z.span t ≡ true) (sym a.1) k))) v w t o h
 
-    pub given_judged : {W : Type 0} (list : W → List (Slice C)) (v w : List (Slice C)) (r : Result W OpFault) → IfOk r (λ all. AreTaken value start end parts items returns v w (list all)) → ((f : Formula) → r ≡ Err (Passed f) → IsFirstRefused start end parts returns v w f) → IsJudged (flat_map with_cuts (pieces (Slices v) (Slices w))) r
+    pub given_judged : {W : Type 0} (list : W → List (Slice C)) (v w : List (Slice C)) (r : Result W (Fault Formula)) → IfOk r (λ all. AreTaken value start end parts items returns v w (list all)) → ((f : Formula) → r ≡ Err (Because f) → IsFirstRefused start end parts returns v w f) → IsJudged (flat_map with_cuts (pieces (Slices v) (Slices w))) r
     given_judged list v w r h k = judged_by value start end parts items returns with_cuts
         (λ q x a. subst (λ z. IsFirst (with_cuts (sides_of z)) None) a.1 (gives a.0 (Ok x) a.3).1)
-        (λ q f m. ⊎_elim (λ n. inr (n.1, ap Some n.0)) (λ n. subst (λ z. IsFirst (with_cuts (sides_of z)) (Some f)) n.1.1 (gives n.1.0 (Err (Passed f)) n.1.3)) m)
+        (λ q f m. ⊎_elim (λ n. inr (n.1, ap Some n.0)) (λ n. subst (λ z. IsFirst (with_cuts (sides_of z)) (Some f)) n.1.1 (gives n.1.0 (Err (Because f)) n.1.3)) m)
         list v w r h k
 
-    -- what such a call gives fills the piece, and it says whether F1 fits
+    -- the result of such a call fills the piece, and it says whether F1 fits
     pub given_full : (p : Pair C C) (x : V) → returns p (Ok x) → AreFull value start end p.span (items x) × AllFit (piece_parts parts (pair_of p))
     given_full p x h =
         let g = gives p (Ok x) h in
         (record { ordered = g.0.ordered; inside = g.0.inside; full = λ t k e. none_some (on_sides value value op (sides_of (pair_of p)) t) (sym e ∙ g.0.values t k) }, ⊎_elim (λ m. m.0) (λ m. none_some F1 m.1) g.1)
 
-    pub given_passes : (p : Pair C C) (f : Formula) → returns p (Err (Passed f)) → ((f ≡ F1) × (¬ AllFit (piece_parts parts (pair_of p)))) ⊎ AllFit (piece_parts parts (pair_of p))
-    given_passes p f h = ⊎_elim (λ m. inr m.0) (λ m. inl (same_some m.1, m.0)) (gives p (Err (Passed f)) h)
+    pub given_passes : (p : Pair C C) (f : Formula) → returns p (Err (Because f)) → ((f ≡ F1) × (¬ AllFit (piece_parts parts (pair_of p)))) ⊎ AllFit (piece_parts parts (pair_of p))
+    given_passes p f h = ⊎_elim (λ m. inr m.0) (λ m. inl (same_some m.1, m.0)) (gives p (Err (Because f)) h)
 
--- the same of all of two values
-pub given_value : {C B V : Type 0} (value : C → Ratio → Ratio → Ratio → B) (start end : C → B) (parts : C → Ratio → Ratio → Ratio → List Ratio) (items : V → List (Slice C)) (returns : Pair C C → Result V OpFault → Type 0) (v w slices r : List (Slice C)) → AreTaken value start end parts items returns v w slices → ((t : Ratio) → value_at value r t ≡ value_at value slices t)
-    → (op : B → B → B) (others : PieceOf (SideOf C B) (SideOf C B) → List Entry) → ((p : Pair C C) (r : Result V OpFault) → returns p r → IsGiven value start end items (on_sides value value op (sides_of (pair_of p))) p.span (with_cuts value start end parts items returns op others (sides_of (pair_of p))) r) → AreUnited value op v w r
+-- the same for two whole values
+pub given_value : {C B V : Type 0} (value : C → Ratio → Ratio → Ratio → B) (start end : C → B) (parts : C → Ratio → Ratio → Ratio → List Ratio) (items : V → List (Slice C)) (returns : Pair C C → Result V (Fault Formula) → Type 0) (v w slices r : List (Slice C)) → AreTaken value start end parts items returns v w slices → ((t : Ratio) → value_at value r t ≡ value_at value slices t)
+    → (op : B → B → B) (others : PieceOf (SideOf C B) (SideOf C B) → List Entry) → ((p : Pair C C) (r : Result V (Fault Formula)) → returns p r → IsGiven value start end items (on_sides value value op (sides_of (pair_of p))) p.span (with_cuts value start end parts items returns op others (sides_of (pair_of p))) r) → AreUnited value op v w r
 given_value value start end parts items returns v w slices r h e op others gives t = e t ∙ given_united value start end parts items returns op others gives v w t (value_at value slices t) (h.values t)
 
--- where calls give a step on each shared piece, from the values there
-pub step_value : {B V : Type 0} (items : V → List (Slice (Steady B))) (returns : Pair (Steady B) (Steady B) → Result V OpFault → Type 0) (v w r : List (Slice (Steady B))) → AreTaken steady_value steady_limit steady_limit steady_parts items returns v w r
+-- if calls return a step on each shared piece, from the values there
+pub step_value : {B V : Type 0} (items : V → List (Slice (Steady B))) (returns : Pair (Steady B) (Steady B) → Result V (Fault Formula) → Type 0) (v w r : List (Slice (Steady B))) → AreTaken steady_value steady_limit steady_limit steady_parts items returns v w r
     → (op : B → B → B) → ((p : Pair (Steady B) (Steady B)) (x : V) → returns p (Ok x) → items x ≡ record { span = p.span; course = record { value = op p.left.now.course.value p.right.now.course.value } } ∷ []) → AreUnited steady_value op v w r
 step_value {B} {V} items returns v w r h op gives t = united_at steady_value steady_limit steady_limit steady_parts items returns op each v w t (value_at steady_value r t) (h.values t)
   where
@@ -204,8 +205,8 @@ ones_end given v o i e n h =
     let none : drop i given ≡ [] = drop_all i given (omega (arith, n)) in
     sym (append-nil o) ∙ ap (λ z. o ++ map one_slice z) (sym none) ∙ h ∙ ap (map one_slice) e
 
--- the same with a relation in place of an operation
-module _ {C B V : Type 0} (value : C → Ratio → Ratio → Ratio → B) (start end : C → B) (parts : C → Ratio → Ratio → Ratio → List Ratio) (items : V → List (Slice C)) (returns : Pair C C → Result V OpFault → Type 0) (R : Ratio → B → B → B → Type 0)
+-- the same with a relation instead of an operation
+module _ {C B V : Type 0} (value : C → Ratio → Ratio → Ratio → B) (start end : C → B) (parts : C → Ratio → Ratio → Ratio → List Ratio) (items : V → List (Slice C)) (returns : Pair C C → Result V (Fault Formula) → Type 0) (R : Ratio → B → B → B → Type 0)
     (each : (p : Pair C C) (x : V) (t : Ratio) → IsPairFit start end start end p → returns p (Ok x) → has p.span t ≡ true → (z : B) × (value_at value (items x) t ≡ Some z) × R t (slice_value value p.left.now t) (slice_value value p.right.now t) z) where
   pub met_at : (v w : List (Slice C)) (t : Ratio) (o : Option B) → IsTakenAt value start end items returns v w t o → IsUnitedAt R t (value_at value v t) (value_at value w t) o
   met_at v w t o h =

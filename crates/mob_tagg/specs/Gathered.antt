@@ -1,4 +1,4 @@
--- Values taken together two by two.
+-- Values united two by two.
 use Rattle.std.specs.Prelude.{◌≡◌, List, [], ◌∷◌, Option, Some, None}
 use Rattle.mob_ratio.specs.Ratio.{Ratio}
 use Rattle.mob_slice.specs.Slices.{value_at}
@@ -9,17 +9,17 @@ use Rattle.mob_tagg.specs.declared.parts.Part.{Part}
 abbrev pub IsAssociative : {B : Type 0} → (B → B → B) → Type 0
 IsAssociative {B} op = (x y z : B) → op (op x y) z ≡ op x (op y z)
 
--- all that is there, united from the front
+-- all values that exist, united from the front
 abbrev pub united_all : {B : Type 0} → (B → B → B) → List (Option B) → Option B
 united_all op [] = None
 united_all op (o ∷ os) = united_by op o (united_all op os)
 
--- what the parts have at the instant t, in order
+-- the values of the parts at the instant t, in order
 abbrev pub parts_at : {C B : Type 0} → (C → Ratio → Ratio → Ratio → B) → List (Part C B) → Ratio → List (Option B)
 parts_at value [] t = []
 parts_at value (p ∷ ps) t = value_at value p.value t ∷ parts_at value ps t
 
--- and what that is, united
+-- and their union
 abbrev pub united_parts : {C B : Type 0} → (B → B → B) → (C → Ratio → Ratio → Ratio → B) → List (Part C B) → Ratio → Option B
 united_parts op value ps t = united_all op (parts_at value ps t)
 

@@ -1,4 +1,4 @@
--- What is known of the piece that came last.
+-- Results of the last piece.
 use Rattle.std.specs.Prelude.{◌≡◌, List}
 use Rattle.mob_ratio.specs.Ratio.{Ratio}
 use Rattle.mob_frac.specs.Formula.{AllFit, sum_parts}

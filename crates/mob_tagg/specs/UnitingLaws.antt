@@ -1,4 +1,4 @@
--- Of three numbers or truth values it does not matter which two are taken together first.
+-- Uniting numbers or booleans is associative.
 use Rattle.std.specs.Prelude.{true, false, refl}
 use Rattle.mob_ratio.proofs.Field.{add_assoc}
 use Rattle.mob_arith.specs.Operations.{sum_of, both_hold, one_holds}

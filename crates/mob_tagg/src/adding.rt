@@ -1,4 +1,4 @@
-//! What is added to an aggregate over time.
+//! Adding values to an aggregate over time.
 
 ghost use Rattle.std.specs.Prelude.{◌≡◌, [], ◌∷◌, IfOk, MatchResult, option_map, pos};
 ghost use Rattle.std.specs.List.{flat_map};
@@ -19,17 +19,17 @@ use crate::taking::{either, merged, normal_of};
 use mob_arith::Summed;
 use mob_frac::Frac;
 use mob_lift::single;
-use mob_slice::{Course, Moving, OpFault, Pair, Slice, Steady, cut, operator_fault};
+use mob_list::fault::Fault;
+use mob_slice::{Course, Formula, Moving, Pair, Slice, Steady, cut};
 use std::alloc::{AllocError, Global};
 use std::cell::Cell;
 
-// The sum on a piece that two values share. What the piece before it made at its end is not made
-// twice.
+// The sum on a piece that two values share. It reuses the results at the end of the piece before.
 fn sum_on<C: Summed + Drop>(
     alloc: Global,
     pair: &Pair<'_, C, C>,
     memo: &Cell<Option<Last<C>>>,
-) -> Result<Slice<C>, OpFault>
+) -> Result<Slice<C>, Fault<Formula>>
 where
     C::Base: Drop,
     requires fit { IsPairFit C.start_of C.end_of C.start_of C.end_of pair.now }
@@ -38,11 +38,11 @@ where
     let last = memo.replace(None);
     let left = match cut(alloc, pair.left, &pair.span) {
         Ok(left) => left,
-        Err(fault) => return Err(operator_fault(fault)),
+        Err(fault) => return Err(fault),
     };
     let right = match cut_again(alloc, pair.right, &pair.span, &last) {
         Ok(right) => right,
-        Err(fault) => return Err(operator_fault(fault)),
+        Err(fault) => return Err(fault),
     };
     let from = match summed_again(alloc, left.course.start(), right.course.start(), &last) {
         Ok(from) => from,
@@ -53,7 +53,7 @@ where
         Err(fault) => return Err(fault),
     };
     keep(alloc, memo, pair.right, left, right, &to);
-    // A call of a method tells the proof what holds of every span.
+    // A method call gives the proof the invariant of a span.
     let _ = pair.span.lower();
     Ok(Slice {
         span: pair.span,
@@ -61,15 +61,15 @@ where
     })
 }
 
-/// The sum of two values where both are defined, and the one that is where one is.
+/// The sum of two values if both are defined, or else the one that is.
 ///
-/// `Passed` names the formula of the first entry of the sum of the two that has a part that does
+/// The fault names the formula of the first entry of the sum of the two that has a part that does
 /// not fit: on each piece that they share, F1 at its ends, then F2 there.
 pub fn add_in<C: Summed + Drop>(
     alloc: Global,
     total: &Moving<C>,
     v: &Moving<C>,
-) -> Result<Moving<C>, OpFault>
+) -> Result<Moving<C>, Fault<Formula>>
 where
     C::Base: Drop,
     ensures value { IfOk result (λ r. AreUnited C.value_of C.added total.now v.now r) }
@@ -80,7 +80,7 @@ where
         alloc,
         total,
         v,
-        |pair: &Pair<'_, C, C>| -> Result<Slice<C>, OpFault>
+        |pair: &Pair<'_, C, C>| -> Result<Slice<C>, Fault<Formula>>
             requires fit { IsPairFit C.start_of C.end_of C.start_of C.end_of pair.now }
             ensures given { IsSumGiven C.value_of C.start_of C.end_of C.parts_of C.number C.added pair.now result }
         { sum_on::<C>(alloc, pair, &memo) },
@@ -101,7 +101,7 @@ pub fn one() -> Frac
     }
 }
 
-/// 1 where a value is defined.
+/// 1 at each instant at which a value is defined. The only error is a failed allocation.
 pub fn ones_of<C: Course>(alloc: Global, a: &Moving<C>) -> Result<Moving<Steady<Frac>>, AllocError>
     ensures value { IfOk result (λ r. (t : Ratio) → value_at steady_value r t ≡ option_map (λ x. whole (pos 1)) (value_at C.value_of a.now t)) }
 {
@@ -123,14 +123,15 @@ pub fn ones_of<C: Course>(alloc: Global, a: &Moving<C>) -> Result<Moving<Steady<
 fn and_on(
     alloc: Global,
     pair: &Pair<'_, Steady<bool>, Steady<bool>>,
-) -> Result<Vec<Slice<Steady<bool>>>, OpFault>
-    ensures one { MatchResult result (λ v. v.items ≡ steady_on both_hold pair.now ∷ []) (λ e. e ≡ OpFault.NoMemory) }
+) -> Result<Vec<Slice<Steady<bool>>>, Fault<Formula>>
+    ensures one { MatchResult result (λ v. v.items ≡ steady_on both_hold pair.now ∷ []) (λ e. e ≡ Fault.NoMemory) }
 {
     let value = pair.left.course.value && pair.right.course.value;
     single(alloc, pair.span, value)
 }
 
-/// Whether both are true where both are defined, and the one that is where one is.
+/// The conjunction of two values if both are defined, or else the one that is. The only error is a
+/// failed allocation.
 pub fn and_in(
     alloc: Global,
     total: &Moving<Steady<bool>>,
@@ -142,8 +143,11 @@ pub fn and_in(
         alloc,
         total,
         v,
-        |pair: &Pair<'_, Steady<bool>, Steady<bool>>| -> Result<Vec<Slice<Steady<bool>>>, OpFault>
-            ensures one { MatchResult result (λ v. v.items ≡ steady_on both_hold pair.now ∷ []) (λ e. e ≡ OpFault.NoMemory) }
+        |pair: &Pair<'_, Steady<bool>, Steady<bool>>| -> Result<
+            Vec<Slice<Steady<bool>>>,
+            Fault<Formula>,
+        >
+            ensures one { MatchResult result (λ v. v.items ≡ steady_on both_hold pair.now ∷ []) (λ e. e ≡ Fault.NoMemory) }
         { and_on(alloc, pair) },
     ) {
         Ok(value) => Ok(value),
@@ -155,14 +159,15 @@ pub fn and_in(
 fn or_on(
     alloc: Global,
     pair: &Pair<'_, Steady<bool>, Steady<bool>>,
-) -> Result<Vec<Slice<Steady<bool>>>, OpFault>
-    ensures one { MatchResult result (λ v. v.items ≡ steady_on one_holds pair.now ∷ []) (λ e. e ≡ OpFault.NoMemory) }
+) -> Result<Vec<Slice<Steady<bool>>>, Fault<Formula>>
+    ensures one { MatchResult result (λ v. v.items ≡ steady_on one_holds pair.now ∷ []) (λ e. e ≡ Fault.NoMemory) }
 {
     let value = pair.left.course.value || pair.right.course.value;
     single(alloc, pair.span, value)
 }
 
-/// Whether one is true where both are defined, and the one that is where one is.
+/// The disjunction of two values if both are defined, or else the one that is. The only error is a
+/// failed allocation.
 pub fn or_in(
     alloc: Global,
     total: &Moving<Steady<bool>>,
@@ -174,8 +179,11 @@ pub fn or_in(
         alloc,
         total,
         v,
-        |pair: &Pair<'_, Steady<bool>, Steady<bool>>| -> Result<Vec<Slice<Steady<bool>>>, OpFault>
-            ensures one { MatchResult result (λ v. v.items ≡ steady_on one_holds pair.now ∷ []) (λ e. e ≡ OpFault.NoMemory) }
+        |pair: &Pair<'_, Steady<bool>, Steady<bool>>| -> Result<
+            Vec<Slice<Steady<bool>>>,
+            Fault<Formula>,
+        >
+            ensures one { MatchResult result (λ v. v.items ≡ steady_on one_holds pair.now ∷ []) (λ e. e ≡ Fault.NoMemory) }
         { or_on(alloc, pair) },
     ) {
         Ok(value) => Ok(value),

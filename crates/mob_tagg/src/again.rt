@@ -1,4 +1,4 @@
-//! A piece begins where the one before it ends: what was made there is not made twice.
+//! Reuses the results at the end of a piece for the piece that begins there.
 
 ghost use Rattle.std.specs.Prelude.{◌≡◌, true, IfSome};
 ghost use Rattle.mob_ratio.specs.Order.{up_to};
@@ -14,15 +14,16 @@ ghost use Rattle.mob_tagg.specs.Sums.{IsSumOf};
 
 use mob_arith::Summed;
 use mob_frac::Frac;
-use mob_slice::{Course, LookFault, OpFault, Slice, cut_from, limit};
+use mob_list::fault::Fault;
+use mob_slice::{Course, Formula, Slice, cut_from, limit};
 use mob_span::Span;
 use mob_sync::are_alike;
 use std::alloc::Global;
 use std::cell::Cell;
 use std::marker::Model;
 
-/// A piece of two values: the slice of the second there, what the two are on the piece, and a
-/// course that ends with their sum.
+/// A piece of two values: the slice of the second there, the two on the piece, and a course that
+/// ends with their sum.
 #[derive(Drop)]
 pub struct Ends<C> {
     pub(crate) of: Slice<C>,
@@ -31,7 +32,7 @@ pub struct Ends<C> {
     pub(crate) sum: C,
 }
 
-/// The piece that came last.
+/// The last piece.
 #[derive(Drop)]
 pub struct Last<C: Summed> {
     ends: Ends<C>,
@@ -49,7 +50,7 @@ impl<C: Summed> Model for Last<C> {
 }
 
 impl<C: Summed> Last<C> {
-    /// The piece, where the second value and the sum are right.
+    /// The piece, whose second value and sum are right.
     pub fn new(ends: Ends<C>) -> Self
         requires last { IsLast C.value_of C.end_of C.parts_of C.number C.added ends }
     {
@@ -74,13 +75,13 @@ fn is_of<C: Course>(ends: &Ends<C>, slice: &Slice<C>, t: &Frac) -> bool
     are_alike(slice, &ends.of)
 }
 
-// The value of a slice at an instant, as `limit` gives it.
+// The value of a slice at an instant, as `limit` returns it.
 fn limit_from<C: Summed + Drop>(
     alloc: Global,
     slice: &Slice<C>,
     t: &Frac,
     ends: &Ends<C>,
-) -> Result<C::Base, LookFault>
+) -> Result<C::Base, Fault<Formula>>
 where
     C::Base: Drop,
     requires after { up_to slice.now.span.lower t.now ≡ true }
@@ -91,19 +92,16 @@ where
     if !is_of(ends, slice, t) {
         return limit(alloc, slice, t);
     }
-    match C::copy_base(alloc, ends.right.course.end()) {
-        Ok(value) => Ok(value),
-        Err(_) => Err(LookFault::NoMemory),
-    }
+    Ok(C::copy_base(alloc, ends.right.course.end())?)
 }
 
-// The value of a slice at an instant, as `limit` gives it, where a piece may have come before.
+// The value of a slice at an instant, as `limit` returns it, after a piece or none.
 fn limit_again<C: Summed + Drop>(
     alloc: Global,
     slice: &Slice<C>,
     t: &Frac,
     last: &Option<Last<C>>,
-) -> Result<C::Base, LookFault>
+) -> Result<C::Base, Fault<Formula>>
 where
     C::Base: Drop,
     requires after { up_to slice.now.span.lower t.now ≡ true }
@@ -116,13 +114,13 @@ where
     }
 }
 
-/// The slice on a part of its span, as `cut` gives it.
+/// The slice on a part of its span, as `cut` returns it and with the same errors.
 pub fn cut_again<C: Summed + Drop>(
     alloc: Global,
     slice: &Slice<C>,
     span: &Span,
     last: &Option<Last<C>>,
-) -> Result<Slice<C>, LookFault>
+) -> Result<Slice<C>, Fault<Formula>>
 where
     C::Base: Drop,
     requires holds { IsSound C.start_of C.end_of slice.now × (is_inside slice.now.span span.now ≡ true) }
@@ -134,25 +132,23 @@ where
     }
 }
 
-/// The sum of two values.
-pub fn summed<C: Summed>(x: &C::Base, y: &C::Base) -> Result<C::Base, OpFault>
+/// The sum of two values. The fault is F2, exactly if a part of F2 does not fit.
+pub fn summed<C: Summed>(x: &C::Base, y: &C::Base) -> Result<C::Base, Fault<Formula>>
     ensures sum { IsSumOf C.added C.number x.now y.now result }
 {
     match C::sum(x, y) {
         Ok(sum) => Ok(sum),
-        Err(passed) => Err(OpFault::Passed {
-            formula: passed.formula,
-        }),
+        Err(passed) => Err(Fault::Because(passed)),
     }
 }
 
-// The sum of two values, which may be the one at the end of the last piece.
+// The sum of two values, which may be that at the end of the last piece.
 fn summed_from<C: Summed>(
     alloc: Global,
     x: &C::Base,
     y: &C::Base,
     ends: &Ends<C>,
-) -> Result<C::Base, OpFault>
+) -> Result<C::Base, Fault<Formula>>
 where
     requires last { IsLast C.value_of C.end_of C.parts_of C.number C.added ends.now }
     ensures sum { IsSumOf C.added C.number x.now y.now result }
@@ -163,19 +159,17 @@ where
     if !C::same(y, ends.right.course.end()) {
         return summed::<C>(x, y);
     }
-    match C::copy_base(alloc, ends.sum.end()) {
-        Ok(sum) => Ok(sum),
-        Err(_) => Err(OpFault::NoMemory),
-    }
+    Ok(C::copy_base(alloc, ends.sum.end())?)
 }
 
-/// The sum of two values, where a piece may have come before.
+/// The sum of two values, after a piece or none. The fault is F2, exactly if a part of F2 does not
+/// fit.
 pub fn summed_again<C: Summed>(
     alloc: Global,
     x: &C::Base,
     y: &C::Base,
     last: &Option<Last<C>>,
-) -> Result<C::Base, OpFault>
+) -> Result<C::Base, Fault<Formula>>
     ensures sum { IsSumOf C.added C.number x.now y.now result }
 {
     match last {
@@ -201,7 +195,7 @@ where
     Some(C::of(from, to))
 }
 
-/// Keeps a piece for the next one. Nothing is kept where memory is refused.
+/// Keeps a piece for the next one. If an allocation fails, nothing is kept.
 pub fn keep<C: Summed + Drop>(
     alloc: Global,
     memo: &Cell<Option<Last<C>>>,
@@ -223,7 +217,7 @@ where
     let Some(sum) = copied::<C>(alloc, to, to) else {
         return;
     };
-    // The piece that was kept before is dropped.
+    // This drops the piece kept before.
     let _old = memo.replace(Some(Last::new(Ends {
         of: Slice {
             span: of.span,

@@ -1,5 +1,5 @@
-//! Temporal values taken together: at each instant what one of two has, or what is made of both;
-//! and many values, two by two. What the aggregate of a list is, is in `specs/Aggregates.antt`.
+//! Temporal values merged: at each instant the value of whichever is defined, or a combination of
+//! both; and many values, two by two. `specs/Aggregates.antt` defines the aggregate of a list.
 #![tactic(auto)]
 
 mod adding;

@@ -1,3 +1,4 @@
+//! Many values, united two by two.
 ghost use Rattle.std.specs.Prelude.{◌≡◌, IfOk};
 ghost use Rattle.mob_ratio.specs.Ratio.{Ratio};
 ghost use Rattle.mob_slice.specs.Slices.{value_at};
@@ -7,27 +8,26 @@ ghost use Rattle.mob_tagg.specs.Gathered.{IsAssociative, united_parts, whole_at}
 use mob_slice::{Course, Moving};
 use std::alloc::{AllocError, Global};
 
-/// An operation by which two values of a course are taken together. Of three it does not matter
-/// which two come first.
+/// An associative operation that unites two values of a course.
 pub trait Uniting<C: Course> {
     ghost op: { C.Base → C.Base → C.Base };
 
-    /// The two together.
+    /// The union of two values. The only error is a failed allocation.
     fn unite(alloc: Global, a: &Moving<C>, b: &Moving<C>) -> Result<Moving<C>, AllocError>
         ensures united { IfOk result (λ r. AreUnited C.value_of op a.now b.now r) };
 
     ghost law: { IsAssociative op };
 }
 
-/// So many values, taken together.
+/// The union of `count` values.
 #[derive(Drop)]
 pub struct Part<C: Course> {
     count: u32,
     value: Moving<C>,
 }
 
-/// One more value behind those of the parts: parts of as many values are taken together, so that
-/// few are left.
+/// Adds a part of `count` values after the others. Parts of equally many values are united, so that
+/// few are left. The only error is a failed allocation.
 pub fn with_value<C: Course + Drop, U: Uniting<C>>(
     alloc: Global,
     parts: Vec<Part<C>>,
@@ -50,7 +50,8 @@ pub fn with_value<C: Course + Drop, U: Uniting<C>>(
     with_value::<C, U>(alloc, parts, count.saturating_add(count), both)
 }
 
-/// All parts together. None exactly where there is none.
+/// The union of all parts and of `last`. `None` exactly if both are missing. The only error is a
+/// failed allocation.
 pub fn gathered<C: Course + Drop, U: Uniting<C>>(
     alloc: Global,
     parts: Vec<Part<C>>,

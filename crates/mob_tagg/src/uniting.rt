@@ -1,4 +1,4 @@
-//! How counts, conjunctions and disjunctions over time are taken together.
+//! The union of counts, conjunctions and disjunctions over time.
 
 use crate::adding::{add_in, and_in, or_in};
 use crate::parts::Uniting;
@@ -6,8 +6,8 @@ use mob_frac::Frac;
 use mob_slice::{Moving, Steady};
 use std::alloc::{AllocError, Global};
 
-/// Counts are added. A sum that does not fit is refused as memory is: no list of values is so long
-/// (`no_count_passes` of `mob_tail`).
+/// The sum of counts. A sum that does not fit is reported as out of memory: no list of values is
+/// long enough to get there (`no_count_passes` of `mob_tail`).
 pub struct Counts;
 
 impl Uniting<Steady<Frac>> for Counts {
@@ -30,7 +30,7 @@ impl Uniting<Steady<Frac>> for Counts {
     ghost law = { sums_associate };
 }
 
-/// Both are true.
+/// The conjunction.
 pub struct Conjunctions;
 
 impl Uniting<Steady<bool>> for Conjunctions {
@@ -50,7 +50,7 @@ impl Uniting<Steady<bool>> for Conjunctions {
     ghost law = { both_associate };
 }
 
-/// One is true.
+/// The disjunction.
 pub struct Disjunctions;
 
 impl Uniting<Steady<bool>> for Disjunctions {

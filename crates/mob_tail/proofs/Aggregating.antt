@@ -11,12 +11,13 @@ use Rattle.mob_slice.specs.CourseOf.{CourseOf, steady_course, line_course}
 use Rattle.mob_slice.specs.Lines.{line_value_of}
 use Rattle.mob_slice.specs.Operands.{steady_value, steady_limit}
 use Rattle.mob_slice.specs.declared.line.Line.{Line}
-use Rattle.mob_slice.specs.Entries.{Entry, IsFirst, OnFormula}
+use Rattle.mob_list.specs.Faults.{OnCause}
+use Rattle.mob_slice.specs.Entries.{Entry, IsFirst}
 use Rattle.mob_slice.specs.Slices.{value_at}
 use Rattle.mob_slice.specs.declared.slice.Slice.{Slice}
 use Rattle.mob_slice.specs.declared.formula.Formula.{Formula}
-use Rattle.mob_slice.specs.declared.formula.OpFault.{OpFault}
-use Rattle.mob_slice.specs.declared.formula.OpFault.TheVariants.{Passed, NoMemory}
+use Rattle.mob_list.specs.declared.fault.Fault.{Fault}
+use Rattle.mob_list.specs.declared.fault.Fault.TheVariants.{Because, NoMemory}
 use Rattle.mob_ast.specs.declared.types.SqlType.{SqlType}
 use Rattle.mob_ast.specs.declared.types.SqlType.TheVariants as sql
 use Rattle.mob_operators.specs.declared.aggregate.AggKind.{AggKind}
@@ -129,22 +130,22 @@ no_count ty before v r h = λ vs e. no_number before (length vs) h e
 pub no_count_known : (ty : SqlType) (before v r : Value) → number_in before ≡ None → IsAggregateWith false Count ty before v (Ok r)
 no_count_known ty before v r h = λ vs e. no_number before (length (known_of vs)) h e
 
-pub count_with : (ty : SqlType) (before v : Value) (m : Ratio) (r : Result Value OpFault) → number_in before ≡ Some m → IfOk r (λ x. x ≡ Number (sum_of m (whole (pos 1)))) → IfOk r (λ _. IsFirst (arithmetic_entries Added sql.Numeric (Number m) (Number (whole (pos 1)))) None) → IfErr r (OnFormula (λ f. IsFirst (arithmetic_entries Added sql.Numeric (Number m) (Number (whole (pos 1)))) (Some f)))
+pub count_with : (ty : SqlType) (before v : Value) (m : Ratio) (r : Result Value (Fault Formula)) → number_in before ≡ Some m → IfOk r (λ x. x ≡ Number (sum_of m (whole (pos 1)))) → IfOk r (λ _. IsFirst (arithmetic_entries Added sql.Numeric (Number m) (Number (whole (pos 1)))) None) → IfErr r (OnCause (λ f. IsFirst (arithmetic_entries Added sql.Numeric (Number m) (Number (whole (pos 1)))) (Some f)))
     → IsAggregateWith false CountAll ty before v r
 count_with ty before v m (Ok x) n h k l = λ vs e.
     let is = number_is before m (length vs) n e in
     (h ∙ count_same (length vs) m is ∙ ap counted (sym (length_more vs v)), (before, e, (counted 1, refl, entries_same (length vs) m before None is e k)))
-count_with ty before v m (Err (Passed f)) n h k l = λ vs e.
+count_with ty before v m (Err (Because f)) n h k l = λ vs e.
     let is = number_is before m (length vs) n e in
     (before, e, (counted 1, refl, entries_same (length vs) m before (Some f) is e l))
 count_with ty before v m (Err NoMemory) n h k l = tt
 
-pub count_known_with : (ty : SqlType) (before v : Value) (m : Ratio) (r : Result Value OpFault) → is_null v ≡ false → number_in before ≡ Some m → IfOk r (λ x. x ≡ Number (sum_of m (whole (pos 1)))) → IfOk r (λ _. IsFirst (arithmetic_entries Added sql.Numeric (Number m) (Number (whole (pos 1)))) None) → IfErr r (OnFormula (λ f. IsFirst (arithmetic_entries Added sql.Numeric (Number m) (Number (whole (pos 1)))) (Some f)))
+pub count_known_with : (ty : SqlType) (before v : Value) (m : Ratio) (r : Result Value (Fault Formula)) → is_null v ≡ false → number_in before ≡ Some m → IfOk r (λ x. x ≡ Number (sum_of m (whole (pos 1)))) → IfOk r (λ _. IsFirst (arithmetic_entries Added sql.Numeric (Number m) (Number (whole (pos 1)))) None) → IfErr r (OnCause (λ f. IsFirst (arithmetic_entries Added sql.Numeric (Number m) (Number (whole (pos 1)))) (Some f)))
     → IsAggregateWith false Count ty before v r
 count_known_with ty before v m (Ok x) u n h k l = λ vs e.
     let is = number_is before m (length (known_of vs)) n e in
     (h ∙ count_same (length (known_of vs)) m is ∙ ap counted (sym (length_more (known_of vs) v)) ∙ ap (λ z. counted (length z)) (sym (known_more vs v u)), (before, e, (counted 1, ap (λ z. counted (length z)) (sym (known_more [] v u)), entries_same (length (known_of vs)) m before None is e k)))
-count_known_with ty before v m (Err (Passed f)) u n h k l = λ vs e.
+count_known_with ty before v m (Err (Because f)) u n h k l = λ vs e.
     let is = number_is before m (length (known_of vs)) n e in
     (before, e, (counted 1, ap (λ z. counted (length z)) (sym (known_more [] v u)), entries_same (length (known_of vs)) m before (Some f) is e l))
 count_known_with ty before v m (Err NoMemory) u n h k l = tt
@@ -197,9 +198,9 @@ module _ (ty : SqlType) (before v : Value) (b : Ratio) (is : number_in v ≡ Som
   sum_err : (a : Ratio) (f : Formula) → number_in before ≡ Some a → IsFirst (NumberEntries (Number a)) (Some f) → (vs : List Value) → IsAggregated Sum ty vs before → AddingPasses false Sum ty vs v (Some f)
   sum_err a f n l vs e = sum_is a n vs e (λ c ns i same there. (before, e, (Number b, alone v b is, subst (λ z. IsFirst (NumberEntries z) (Some f)) (sym there) l)))
 
-  pub sum_next : (a : Ratio) (r : Result Value OpFault) → number_in before ≡ Some a → IfOk r (λ x. x ≡ Number (sum_of a b)) → IfOk r (λ _. IsFirst (NumberEntries (Number a)) None) → IfErr r (OnFormula (λ f. IsFirst (NumberEntries (Number a)) (Some f))) → IsAggregateWith false Sum ty before v r
+  pub sum_next : (a : Ratio) (r : Result Value (Fault Formula)) → number_in before ≡ Some a → IfOk r (λ x. x ≡ Number (sum_of a b)) → IfOk r (λ _. IsFirst (NumberEntries (Number a)) None) → IfErr r (OnCause (λ f. IsFirst (NumberEntries (Number a)) (Some f))) → IsAggregateWith false Sum ty before v r
   sum_next a (Ok x) n h k l = λ vs e. sum_ok a x n h k vs e
-  sum_next a (Err (Passed f)) n h k l = λ vs e. sum_err a f n l vs e
+  sum_next a (Err (Because f)) n h k l = λ vs e. sum_err a f n l vs e
   sum_next a (Err NoMemory) n h k l = tt
 
 -- NULL adds nothing to a number
@@ -301,20 +302,20 @@ IntEntries a b = arithmetic_entries Added sql.TInt a b
 abbrev FracEntries : Value → Value → List Entry
 FracEntries a b = arithmetic_entries Added sql.TFrac a b
 
-pub int_sum_with : (before v : Value) (r : Result Value OpFault) → MatchOption (steps_of v) (Unit {0}) (AreNormalBy (steady_course same)) → IfOk r (λ x. IsUnion (steady_course same) MovingInt sum_of (steps_of before) (steps_of v) before x) → IfOk r (λ _. IsFirst (IntEntries (or_nothing MovingInt (steps_of before)) (or_nothing MovingInt (steps_of v))) None) → IfErr r (OnFormula (λ f. IsFirst (IntEntries (or_nothing MovingInt (steps_of before)) (or_nothing MovingInt (steps_of v))) (Some f))) → IsAggregateWith false TSum sql.TInt before v r
+pub int_sum_with : (before v : Value) (r : Result Value (Fault Formula)) → MatchOption (steps_of v) (Unit {0}) (AreNormalBy (steady_course same)) → IfOk r (λ x. IsUnion (steady_course same) MovingInt sum_of (steps_of before) (steps_of v) before x) → IfOk r (λ _. IsFirst (IntEntries (or_nothing MovingInt (steps_of before)) (or_nothing MovingInt (steps_of v))) None) → IfErr r (OnCause (λ f. IsFirst (IntEntries (or_nothing MovingInt (steps_of before)) (or_nothing MovingInt (steps_of v))) (Some f))) → IsAggregateWith false TSum sql.TInt before v r
 int_sum_with before v (Ok x) n u k l = λ vs e. (
   over_more (steady_course same) MovingInt steps_of seen_steps sum_of total total_joins step_there vs before v x (steps_of v) e (int_alone v n) u,
   (before, e, (or_nothing MovingInt (steps_of v), (steps_of v, int_alone v n, refl), subst (λ z. IsFirst (IntEntries z (or_nothing MovingInt (steps_of v))) None) (before_is (steady_course same) MovingInt steps_of seen_steps total step_there vs before e) k)),
 )
-int_sum_with before v (Err (Passed f)) n u k l = λ vs e. (before, e, (or_nothing MovingInt (steps_of v), (steps_of v, int_alone v n, refl), subst (λ z. IsFirst (IntEntries z (or_nothing MovingInt (steps_of v))) (Some f)) (before_is (steady_course same) MovingInt steps_of seen_steps total step_there vs before e) l))
+int_sum_with before v (Err (Because f)) n u k l = λ vs e. (before, e, (or_nothing MovingInt (steps_of v), (steps_of v, int_alone v n, refl), subst (λ z. IsFirst (IntEntries z (or_nothing MovingInt (steps_of v))) (Some f)) (before_is (steady_course same) MovingInt steps_of seen_steps total step_there vs before e) l))
 int_sum_with before v (Err NoMemory) n u k l = tt
 
-pub frac_sum_with : (before v : Value) (r : Result Value OpFault) → MatchOption (lines_of v) (Unit {0}) (AreNormalBy line_course) → IfOk r (λ x. IsUnion line_course MovingFrac sum_of (lines_of before) (lines_of v) before x) → IfOk r (λ _. IsFirst (FracEntries (or_nothing MovingFrac (lines_of before)) (or_nothing MovingFrac (lines_of v))) None) → IfErr r (OnFormula (λ f. IsFirst (FracEntries (or_nothing MovingFrac (lines_of before)) (or_nothing MovingFrac (lines_of v))) (Some f))) → IsAggregateWith false TSum sql.TFrac before v r
+pub frac_sum_with : (before v : Value) (r : Result Value (Fault Formula)) → MatchOption (lines_of v) (Unit {0}) (AreNormalBy line_course) → IfOk r (λ x. IsUnion line_course MovingFrac sum_of (lines_of before) (lines_of v) before x) → IfOk r (λ _. IsFirst (FracEntries (or_nothing MovingFrac (lines_of before)) (or_nothing MovingFrac (lines_of v))) None) → IfErr r (OnCause (λ f. IsFirst (FracEntries (or_nothing MovingFrac (lines_of before)) (or_nothing MovingFrac (lines_of v))) (Some f))) → IsAggregateWith false TSum sql.TFrac before v r
 frac_sum_with before v (Ok x) n u k l = λ vs e. (
   over_more line_course MovingFrac lines_of seen_lines sum_of total total_joins line_there vs before v x (lines_of v) e (frac_alone v n) u,
   (before, e, (or_nothing MovingFrac (lines_of v), (lines_of v, frac_alone v n, refl), subst (λ z. IsFirst (FracEntries z (or_nothing MovingFrac (lines_of v))) None) (before_is line_course MovingFrac lines_of seen_lines total line_there vs before e) k)),
 )
-frac_sum_with before v (Err (Passed f)) n u k l = λ vs e. (before, e, (or_nothing MovingFrac (lines_of v), (lines_of v, frac_alone v n, refl), subst (λ z. IsFirst (FracEntries z (or_nothing MovingFrac (lines_of v))) (Some f)) (before_is line_course MovingFrac lines_of seen_lines total line_there vs before e) l))
+frac_sum_with before v (Err (Because f)) n u k l = λ vs e. (before, e, (or_nothing MovingFrac (lines_of v), (lines_of v, frac_alone v n, refl), subst (λ z. IsFirst (FracEntries z (or_nothing MovingFrac (lines_of v))) (Some f)) (before_is line_course MovingFrac lines_of seen_lines total line_there vs before e) l))
 frac_sum_with before v (Err NoMemory) n u k l = tt
 
 -- the ones of a value are its count
@@ -389,5 +390,5 @@ left_out_with kind ty before v h =
 
 -- what holds of a value of one kind holds of it where the kind is that one and the value is not
 -- left out
-pub at_kind : (kind one : AggKind) (ty : SqlType) (before v : Value) (r : Result Value OpFault) → kind ≡ one → false ≡ leaves_out kind v → IsAggregateWith false one ty before v r → IsAggregateWith (leaves_out kind v) kind ty before v r
+pub at_kind : (kind one : AggKind) (ty : SqlType) (before v : Value) (r : Result Value (Fault Formula)) → kind ≡ one → false ≡ leaves_out kind v → IsAggregateWith false one ty before v r → IsAggregateWith (leaves_out kind v) kind ty before v r
 at_kind kind one ty before v r e f h = subst (λ b. IsAggregateWith b kind ty before v r) f (subst (λ k. IsAggregateWith false k ty before v r) (sym e) h)

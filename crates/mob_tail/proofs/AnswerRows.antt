@@ -7,7 +7,7 @@ use Rattle.mob_typed.specs.Selects.{Output, TypedSelectParts}
 use Rattle.mob_value.specs.declared.value.Value.{Value}
 use Rattle.mob_literal.specs.Fields.{field_text}
 use Rattle.mob_meaning.specs.Scene.{Scene}
-use Rattle.mob_meaning.specs.Evaluation.{Fault, TreeEvaluatesTo}
+use Rattle.mob_meaning.specs.Evaluation.{PlacedFormula, TreeEvaluatesTo}
 use Rattle.mob_tail.specs.IsMadeOfEach.{IsMadeOfEach}
 use Rattle.mob_tail.specs.Answers.{IsField, IsKey, IsRowOf}
 use Rattle.mob_tail.specs.Evaluated.{AreEvaluated}
@@ -42,7 +42,7 @@ module _ (s : Scene) where
   fields_made [] values h = ap (map (field_text s.day)) h
   fields_made (x ∷ xs) values h = (field_text s.day h.0, (h.0, h.1, refl), (map (field_text s.day) h.2.0, ap (map (field_text s.day)) h.2.1, fields_made xs h.2.0 h.2.2))
 
-  fields_fail : (items : List Output) (f : Fault) → IsMadeOfEach (TreeEvaluatesTo s) (map (λ (item : Output). item.0) items) (Err f) → IsMadeOfEach (IsField s) items (Err f)
+  fields_fail : (items : List Output) (f : PlacedFormula) → IsMadeOfEach (TreeEvaluatesTo s) (map (λ (item : Output). item.0) items) (Err f) → IsMadeOfEach (IsField s) items (Err f)
   fields_fail [] f h = h
   fields_fail (x ∷ xs) f (inl h) = inl h
   fields_fail (x ∷ xs) f (inr h) = inr (field_text s.day h.0, (h.0, h.1, refl), fields_fail xs f h.2)
@@ -51,12 +51,12 @@ module _ (s : Scene) where
   keys_made [] values h = h
   keys_made (x ∷ xs) values h = (h.0, h.1, (h.2.0, h.2.1, keys_made xs h.2.0 h.2.2))
 
-  keys_fail : (keys : List (TypedTree × Bool)) (f : Fault) → IsMadeOfEach (TreeEvaluatesTo s) (map (λ (key : TypedTree × Bool). key.0) keys) (Err f) → IsMadeOfEach (IsKey s) keys (Err f)
+  keys_fail : (keys : List (TypedTree × Bool)) (f : PlacedFormula) → IsMadeOfEach (TreeEvaluatesTo s) (map (λ (key : TypedTree × Bool). key.0) keys) (Err f) → IsMadeOfEach (IsKey s) keys (Err f)
   keys_fail [] f h = h
   keys_fail (x ∷ xs) f (inl h) = inl h
   keys_fail (x ∷ xs) f (inr h) = inr (h.0, h.1, keys_fail xs f h.2)
 
-  evaluated_fault : (select : TypedSelectParts) (f : Fault) → AreEvaluated s (item_trees select) (key_trees select) (Err f) → IsRowOf select s (Err f)
+  evaluated_fault : (select : TypedSelectParts) (f : PlacedFormula) → AreEvaluated s (item_trees select) (key_trees select) (Err f) → IsRowOf select s (Err f)
   evaluated_fault select f (inl h) = inl (fields_fail select.items f h)
   evaluated_fault select f (inr h) = inr (map (field_text s.day) h.0, fields_made select.items h.0 h.1, keys_fail select.keys f h.2)
 
@@ -66,7 +66,7 @@ module _ (s : Scene) where
         row_evaluated select s front fields row (fields_made select.items fields (subst (λ es. IsMadeOfEach (TreeEvaluatesTo s) es (Ok fields)) these made))
         (keys_made select.keys front (subst (λ es. IsMadeOfEach (TreeEvaluatesTo s) es (Ok front)) those kept)) is
 
-    pub row_fails : (f : Fault) → AreEvaluated s items keys (Err f) → IsRowOf select s (Err f)
+    pub row_fails : (f : PlacedFormula) → AreEvaluated s items keys (Err f) → IsRowOf select s (Err f)
     row_fails f h = evaluated_fault select f (subst (λ es. AreEvaluated s es (key_trees select) (Err f)) these (subst (λ es. AreEvaluated s items es (Err f)) those h))
 
 keys_counted : (select : TypedSelectParts) (store : Store) (day : ℤ) (group : List (List ℕ)) (values : List Value) (n : ℕ) (keys : List (TypedTree × Bool)) → length (keys_from select store day group values n keys) ≡ length keys

@@ -13,7 +13,7 @@ use Rattle.mob_value.specs.declared.value.Value.{Value}
 use Rattle.mob_value.specs.declared.value.Value.TheVariants.{Null}
 use Rattle.mob_meaning.specs.Scene.{Scene, leaf_value}
 use Rattle.mob_meaning.specs.Operators.{OperatorGives, IsFirstFormula}
-use Rattle.mob_meaning.specs.Evaluation.{Fault, TreeEvaluatesTo}
+use Rattle.mob_meaning.specs.Evaluation.{PlacedFormula, TreeEvaluatesTo}
 use Rattle.mob_list.proofs.Entries.{drop_read}
 use Rattle.mob_tail.specs.Groups.{is_bare, column_on}
 use Rattle.mob_tail.specs.GroupedAnswers.{Column, agg_at, columns_from}
@@ -22,7 +22,7 @@ module _ (s : Scene) (o : Op) (ty : SqlType) (place : ℕ) where
   leaf_is : (v : Value) → TreeEvaluatesTo s (typed o ty place none) (Ok v) → v ≡ leaf_value s o ty
   leaf_is v h = subst (λ z. OperatorGives s o ty [] z v) h.1 h.3
 
-  leaf_fits : (f : Fault) → TreeEvaluatesTo s (typed o ty place none) (Err f) → ⊥
+  leaf_fits : (f : PlacedFormula) → TreeEvaluatesTo s (typed o ty place none) (Err f) → ⊥
   leaf_fits f (inl h) = h
   leaf_fits f (inr h) = let k : Some f.1 ≡ None = subst (λ z. IsFirstFormula o ty [] z (Some f.1)) h.1 h.2 in absurd cc
 
@@ -38,7 +38,7 @@ module _ (s : Scene) (e : TExpr) where
   pub no_operands : (v : Value) → is_bare (out-TExpr e).args.items ≡ true → TreeEvaluatesTo s (typed_of e) (Ok v) → v ≡ column_on s (typed_of e)
   no_operands v h k = leaf_is s (out-TExpr e).op (out-TExpr e).ty (out-TExpr e).place v (subst (λ z. TreeEvaluatesTo s z (Ok v)) (bare e h) k) ∙ sym (ap (column_on s) (bare e h))
 
-  pub never_fails : (f : Fault) → is_bare (out-TExpr e).args.items ≡ true → TreeEvaluatesTo s (typed_of e) (Err f) → ⊥
+  pub never_fails : (f : PlacedFormula) → is_bare (out-TExpr e).args.items ≡ true → TreeEvaluatesTo s (typed_of e) (Err f) → ⊥
   never_fails f h k = leaf_fits s (out-TExpr e).op (out-TExpr e).ty (out-TExpr e).place f (subst (λ z. TreeEvaluatesTo s z (Err f)) (bare e h) k)
 
   pub some_operands : is_bare (out-TExpr e).args.items ≡ false → Null ≡ column_on s (typed_of e)

@@ -11,7 +11,7 @@ use Rattle.mob_typed.specs.Selects.{TypedSelectParts}
 use Rattle.mob_typed.specs.declared.typed.Agg.{Agg}
 use Rattle.mob_value.specs.declared.value.Value.{Value}
 use Rattle.mob_value.specs.declared.store.Store.{Store}
-use Rattle.mob_meaning.specs.Evaluation.{Fault}
+use Rattle.mob_meaning.specs.Evaluation.{PlacedFormula}
 use Rattle.mob_tagg.specs.Rows.{earlier}
 use Rattle.mob_tail.specs.Aggregated.{leaves_out, adding_entries, AddingPasses}
 use Rattle.mob_tail.specs.Groups.{same_group}
@@ -26,7 +26,7 @@ passes_none : (b : Bool) (kind : AggKind) (ty : SqlType) (vs : List Value) (v : 
 passes_none true kind ty vs v g is few h = none_some g (sym h)
 passes_none false kind ty vs v g is few h = none_some g (one_first (adding_entries kind ty h.0 h.2.0) None (Some g) (count_fits kind ty vs v h.0 h.2.0 is few h.1 h.2.1) h.2.2)
 
-pub no_count_passes : (select : TypedSelectParts) (store : Store) (day : ℤ) (before : List (List ℕ)) (tuple : List ℕ) (e : TypedTree) (agg : Agg) (f : Fault) → is_count agg.kind ≡ true → length before + 1 < 2 ^ 62 → AddingFails select store day before tuple (e, Some agg) f → ⊥
+pub no_count_passes : (select : TypedSelectParts) (store : Store) (day : ℤ) (before : List (List ℕ)) (tuple : List ℕ) (e : TypedTree) (agg : Agg) (f : PlacedFormula) → is_count agg.kind ≡ true → length before + 1 < 2 ^ 62 → AddingFails select store day before tuple (e, Some agg) f → ⊥
 no_count_passes select store day before tuple e agg f is few h =
     let vs = h.2.0 in
     let long : length vs ≡ length (earlier (same_group select store day) before tuple) = AllZip-long _ (earlier (same_group select store day) before tuple) vs h.2.1 in

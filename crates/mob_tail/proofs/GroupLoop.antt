@@ -9,7 +9,7 @@ use Rattle.mob_value.specs.declared.value.Value.{Value}
 use Rattle.mob_value.specs.declared.value.Value.TheVariants.{Null}
 use Rattle.mob_value.specs.declared.store.Store.{Store}
 use Rattle.mob_meaning.specs.Scene.{Scene, scene}
-use Rattle.mob_meaning.specs.Evaluation.{Fault}
+use Rattle.mob_meaning.specs.Evaluation.{PlacedFormula}
 use Rattle.mob_list.proofs.Entries.{drop_read}
 use Rattle.mob_groups.specs.Groups.{first_keys, group_number}
 use Rattle.mob_tagg.specs.Rows.{IsTuple}
@@ -71,7 +71,7 @@ module _ (select : TypedSelectParts) (store : Store) (day : ℤ) where
       let both = cells_ok select store day group t (columns_of select) old.cells.items new.cells.items (is_none old.first) (ap is_none h.first) few with_ h.cells in
       (record { first = first group h.first; cells = both.0 }, both.1)
 
-  group_err : (group : List (List ℕ)) (t : List ℕ) (old : Group) (f : Fault) → length group + 1 < 2 ^ 62 → IsGroupOf select store day group old → FailsInCells (There t) (is_none old.first) old.cells.items f → IsTuple (IsArgumentOn select store day) IsAddingTo group t (columns_of select) (Some f)
+  group_err : (group : List (List ℕ)) (t : List ℕ) (old : Group) (f : PlacedFormula) → length group + 1 < 2 ^ 62 → IsGroupOf select store day group old → FailsInCells (There t) (is_none old.first) old.cells.items f → IsTuple (IsArgumentOn select store day) IsAddingTo group t (columns_of select) (Some f)
   group_err group t old f few h fails = cells_err select store day group t (columns_of select) old.cells.items (is_none old.first) f (ap is_none h.first) few fails h.cells
 
   -- a group has no more tuples than there are
@@ -131,7 +131,7 @@ module _ (select : TypedSelectParts) (store : Store) (day : ℤ) where
               (none_more (IsArgumentOn select store day) IsAddingTo (same_group select store day) (columns_of select) [] (take i kept) t so_far.fits (subst (λ z. IsTuple (IsArgumentOn select store day) IsAddingTo z t (columns_of select) None) (with_earlier select store day mine.0 (take i kept) t mine.1) tuple));
         }
 
-    pub fault_grouped : (f : Fault) → FailsInCells (There t) (is_none old.first) old.cells.items f → IsGroupedFault select store day kept (Some (t, f))
+    pub fault_grouped : (f : PlacedFormula) → FailsInCells (There t) (is_none old.first) old.cells.items f → IsGroupedFault select store day kept (Some (t, f))
     fault_grouped f fails =
         let mine = (group_there select store day (IsGroupOf select store day) (keys_on select store day kept) all (take i kept) t old (key_there kept i t lt is) so_far.held at).1 in
         let tuple = group_err (With select store day mine.0 (take i kept)) t old f (few_before kept i mine.0 lt few) mine.2 fails in

@@ -1,10 +1,6 @@
 -- How far a loop is that makes something of each entry of a list.
 use Rattle.std.proofs.Common.{◌≡◌, inl, inr, ℕ, ◌+◌, ◌<◌, List, [], ◌∷◌, ◌++◌, Result, Ok, Err, length, map, take, drop, get_or, ◌≤◌, refl, sym, ap, subst, ◌∙◌, arith}
 use Rattle.std.proofs.lemmas.List.{take_more, take_all, take-append-drop}
-use Rattle.mob_meaning.specs.Evaluation.{Fault}
-use Rattle.mob_outcome.specs.Faults.{OnPassed}
-use Rattle.mob_outcome.specs.declared.fault.EvalFault.{EvalFault}
-use Rattle.mob_outcome.specs.declared.fault.EvalFault.TheVariants.{Passed, NoMemory}
 use Rattle.mob_tail.specs.IsMadeOfEach.{IsMadeOfEach}
 use Rattle.mob_list.proofs.Entries.{drop_read}
 
@@ -46,8 +42,3 @@ module _ {W X Y F : Type 0} (R : X → Result Y F → Type 0) (see : W → X) wh
   fault_seen [] f h = h
   fault_seen (w ∷ ws) f (inl h) = inl h
   fault_seen (w ∷ ws) f (inr h) = inr (h.0, h.1, fault_seen ws f h.2)
-
--- a fault that is one in other words
-pub on_passed : (P Q : Fault → Type 0) → ((f : Fault) → P f → Q f) → (e : EvalFault) → OnPassed P e → OnPassed Q e
-on_passed P Q step (Passed place formula) h = step (place, formula) h
-on_passed P Q step NoMemory h = h

@@ -7,7 +7,7 @@ use Rattle.mob_value.specs.declared.store.Store.{Store}
 use Rattle.mob_literal.specs.Fields.{field_text}
 use Rattle.mob_meaning.specs.Scene.{Scene, scene}
 use Rattle.mob_meaning.specs.Outcomes.{HasOneOutcome, IsOne}
-use Rattle.mob_meaning.specs.Evaluation.{Fault}
+use Rattle.mob_meaning.specs.Evaluation.{PlacedFormula}
 use Rattle.mob_arrange.specs.Keyed.{Keyed}
 use Rattle.mob_tail.specs.IsMadeOfEach.{IsMadeOfEach}
 use Rattle.mob_arrange.specs.Order.{IsOrderedByKeys, compare_rows}
@@ -82,11 +82,11 @@ module _ (one : HasOneOutcome) where
         let keys : a.keys ≡ b.keys = each_value (IsKey s) (key_once s) select.keys a.keys b.keys h.1 k.1 in
         λ i. record { fields = fields i; keys = keys i }
 
-    row_told : (a : Keyed) (f : Fault) → IsRowOf select s (Ok a) → IsRowOf select s (Err f) → ⊥
+    row_told : (a : Keyed) (f : PlacedFormula) → IsRowOf select s (Ok a) → IsRowOf select s (Err f) → ⊥
     row_told a f h (inl k) = each_told (IsField s) (field_once s) select.items a.fields f h.0 k
     row_told a f h (inr k) = each_told (IsKey s) (key_once s) select.keys a.keys f h.1 k.2
 
-    row_fault : (f g : Fault) → IsRowOf select s (Err f) → IsRowOf select s (Err g) → f ≡ g
+    row_fault : (f g : PlacedFormula) → IsRowOf select s (Err f) → IsRowOf select s (Err g) → f ≡ g
     row_fault f g (inl h) (inl k) = each_fault_one (IsField s) (field_once s) select.items f g h k
     row_fault f g (inl h) (inr k) = absurd (each_told (IsField s) (field_once s) select.items k.0 f k.1 h)
     row_fault f g (inr h) (inl k) = absurd (each_told (IsField s) (field_once s) select.items h.0 g h.1 k)

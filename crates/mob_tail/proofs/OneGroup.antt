@@ -26,7 +26,7 @@ use Rattle.mob_ordinary.specs.Moving.{or_nothing}
 use Rattle.mob_ordinary.proofs.Functions.{one_of_steps, one_of_lines}
 use Rattle.mob_meaning.specs.Scene.{Scene, scene}
 use Rattle.mob_meaning.specs.Outcomes.{HasOneOutcome, IsOne}
-use Rattle.mob_meaning.specs.Evaluation.{Fault}
+use Rattle.mob_meaning.specs.Evaluation.{PlacedFormula}
 use Rattle.mob_eval.specs.QueryFaults.{TupleFault}
 use Rattle.mob_tagg.specs.Aggregates.{total, count, all_hold, some_holds}
 use Rattle.mob_tagg.proofs.Joining.{one_aggregate}
@@ -73,7 +73,7 @@ passes_once false kind ty vs v f g h k =
     let a = aggregated_once kind ty (v ∷ []) h.2.0 k.2.0 h.2.1 k.2.1 in
     one_first (adding_entries kind ty k.0 k.2.0) f g (subst (λ z. IsFirst (adding_entries kind ty z k.2.0) f) r (subst (λ z. IsFirst (adding_entries kind ty h.0 z) f) a h.2.2)) k.2.2
 
-adding_once : (c : Column) (vs : List Value) (v : Value) (f g : Option Fault) → IsAddingTo c vs v f → IsAddingTo c vs v g → f ≡ g
+adding_once : (c : Column) (vs : List Value) (v : Value) (f g : Option PlacedFormula) → IsAddingTo c vs v f → IsAddingTo c vs v g → f ≡ g
 adding_once (e, None) vs v f g h k = h ∙ sym k
 adding_once (e, Some agg) vs v f g h k = h.2 ∙ ap (option_map (λ formula. (agg.place, formula))) (passes_once (leaves_out agg.kind v) agg.kind agg.ty vs v h.0 k.0 h.1 k.1) ∙ sym k.2
 

@@ -10,8 +10,8 @@ use Rattle.mob_span.specs.Flags.{same_bool, same_bool_exact}
 use Rattle.mob_slice.specs.CourseOf.{steady_course}
 use Rattle.mob_slice.specs.Operands.{steady_value, steady_limit}
 use Rattle.mob_slice.specs.Slices.{value_at}
-use Rattle.mob_slice.specs.declared.formula.OpFault.{OpFault}
-use Rattle.mob_slice.specs.declared.formula.OpFault.TheVariants.{Passed, NoMemory}
+use Rattle.mob_list.specs.declared.fault.Fault.{Fault}
+use Rattle.mob_list.specs.declared.fault.Fault.TheVariants.{Because, NoMemory}
 use Rattle.mob_slice.specs.declared.steady.Steady.{Steady}
 use Rattle.mob_ast.specs.declared.types.SqlType.{SqlType}
 use Rattle.mob_operators.specs.declared.aggregate.AggKind.{AggKind}
@@ -33,6 +33,7 @@ use Rattle.mob_tail.specs.Made.{made_in}
 use Rattle.mob_tail.specs.States.{AreTogether, AreTruthsWith, IsOneMore, is_in_parts, IsHeld, IsStartState, IsStateWith}
 use Rattle.mob_tail.proofs.Aggregating.{over_more, seen_steps, seen_truths, all_alone, some_alone, left_out_with}
 use Rattle.mob_tail.proofs.CountsFit.{count_fits}
+use Rattle.mob_slice.specs.declared.formula.Formula.{Formula}
 
 none_some : {A R : Type 0} (x : A) → None ≡ Some x → R
 none_some x e = cc
@@ -128,14 +129,14 @@ whole_ok left_out kind ty before v w f = λ r held vs h few.
     let both = f is.0 vs (subst (λ z. IsAggregated kind ty vs z) (sym is.1) h) in
     (w, whole_held kind w is.0, both.0, both.1)
 
-whole_err : (left_out : Bool) (kind : AggKind) (ty : SqlType) (before v : Value) (e : OpFault) → (is_in_parts kind ≡ false → IsAggregateWith left_out kind ty before v (Err e)) → IsStateWith left_out kind ty (Whole before) v (Err e)
-whole_err left_out kind ty before v (Passed g) f = λ r held vs h.
+whole_err : (left_out : Bool) (kind : AggKind) (ty : SqlType) (before v : Value) (e : Fault Formula) → (is_in_parts kind ≡ false → IsAggregateWith left_out kind ty before v (Err e)) → IsStateWith left_out kind ty (Whole before) v (Err e)
+whole_err left_out kind ty before v (Because g) f = λ r held vs h.
     let is = held_whole kind before r held in
     f is.0 vs (subst (λ z. IsAggregated kind ty vs z) (sym is.1) h)
 whole_err left_out kind ty before v NoMemory f = tt
 
 -- one value more of what is held as it is
-pub whole_in : (left_out : Bool) (kind : AggKind) (ty : SqlType) (before new v : Value) (r : Result (Unit {0}) OpFault) → (is_in_parts kind ≡ false → IsAggregateWith left_out kind ty before v (made_in r new)) → IsStateWith left_out kind ty (Whole before) v (made_in r (Whole new))
+pub whole_in : (left_out : Bool) (kind : AggKind) (ty : SqlType) (before new v : Value) (r : Result (Unit {0}) (Fault Formula)) → (is_in_parts kind ≡ false → IsAggregateWith left_out kind ty before v (made_in r new)) → IsStateWith left_out kind ty (Whole before) v (made_in r (Whole new))
 whole_in left_out kind ty before new v (Ok u) f = whole_ok left_out kind ty before v new f
 whole_in left_out kind ty before new v (Err e) f = whole_err left_out kind ty before v e f
 
@@ -145,9 +146,9 @@ left_out_state kind ty s v e = λ r held vs h few. let both = left_out_with kind
 
 -- ---- what is held in parts
 
-not_held : (left_out : Bool) (kind : AggKind) (ty : SqlType) (s : State) (v : Value) (r : Result State OpFault) → ((x : Value) → IsHeld kind s x → ⊥) → IsStateWith left_out kind ty s v r
+not_held : (left_out : Bool) (kind : AggKind) (ty : SqlType) (s : State) (v : Value) (r : Result State (Fault Formula)) → ((x : Value) → IsHeld kind s x → ⊥) → IsStateWith left_out kind ty s v r
 not_held left_out kind ty s v (Ok x) never = λ r held. absurd (never r held)
-not_held left_out kind ty s v (Err (Passed f)) never = λ r held. absurd (never r held)
+not_held left_out kind ty s v (Err (Because f)) never = λ r held. absurd (never r held)
 not_held left_out kind ty s v (Err NoMemory) never = tt
 
 abbrev CountParts : Type 0
@@ -184,7 +185,7 @@ any_held TCount parts r h = absurd h
 any_held TAnd parts r h = absurd h
 
 -- what holds of the one kind that is held so holds of every kind
-pub counts_at : (kind : AggKind) (ty : SqlType) (parts : CountParts) (v : Value) (r : Result State OpFault) → false ≡ leaves_out kind v → IsStateWith false TCount ty (Counts parts) v r → IsStateWith (leaves_out kind v) kind ty (Counts parts) v r
+pub counts_at : (kind : AggKind) (ty : SqlType) (parts : CountParts) (v : Value) (r : Result State (Fault Formula)) → false ≡ leaves_out kind v → IsStateWith false TCount ty (Counts parts) v r → IsStateWith (leaves_out kind v) kind ty (Counts parts) v r
 counts_at TCount ty parts v r e h = subst (λ b. IsStateWith b TCount ty (Counts parts) v r) e h
 counts_at CountAll ty parts v r e h = not_held (leaves_out CountAll v) CountAll ty (Counts parts) v r (λ x k. k)
 counts_at Count ty parts v r e h = not_held (leaves_out Count v) Count ty (Counts parts) v r (λ x k. k)
@@ -193,7 +194,7 @@ counts_at TSum ty parts v r e h = not_held (leaves_out TSum v) TSum ty (Counts p
 counts_at TAnd ty parts v r e h = not_held (leaves_out TAnd v) TAnd ty (Counts parts) v r (λ x k. k)
 counts_at TOr ty parts v r e h = not_held (leaves_out TOr v) TOr ty (Counts parts) v r (λ x k. k)
 
-all_at : (kind : AggKind) (ty : SqlType) (parts : TruthParts) (v : Value) (r : Result State OpFault) → false ≡ leaves_out kind v → IsStateWith false TAnd ty (All parts) v r → IsStateWith (leaves_out kind v) kind ty (All parts) v r
+all_at : (kind : AggKind) (ty : SqlType) (parts : TruthParts) (v : Value) (r : Result State (Fault Formula)) → false ≡ leaves_out kind v → IsStateWith false TAnd ty (All parts) v r → IsStateWith (leaves_out kind v) kind ty (All parts) v r
 all_at TAnd ty parts v r e h = subst (λ b. IsStateWith b TAnd ty (All parts) v r) e h
 all_at CountAll ty parts v r e h = not_held (leaves_out CountAll v) CountAll ty (All parts) v r (λ x k. k)
 all_at Count ty parts v r e h = not_held (leaves_out Count v) Count ty (All parts) v r (λ x k. k)
@@ -202,7 +203,7 @@ all_at TSum ty parts v r e h = not_held (leaves_out TSum v) TSum ty (All parts) 
 all_at TCount ty parts v r e h = not_held (leaves_out TCount v) TCount ty (All parts) v r (λ x k. k)
 all_at TOr ty parts v r e h = not_held (leaves_out TOr v) TOr ty (All parts) v r (λ x k. k)
 
-any_at : (kind : AggKind) (ty : SqlType) (parts : TruthParts) (v : Value) (r : Result State OpFault) → false ≡ leaves_out kind v → IsStateWith false TOr ty (Any parts) v r → IsStateWith (leaves_out kind v) kind ty (Any parts) v r
+any_at : (kind : AggKind) (ty : SqlType) (parts : TruthParts) (v : Value) (r : Result State (Fault Formula)) → false ≡ leaves_out kind v → IsStateWith false TOr ty (Any parts) v r → IsStateWith (leaves_out kind v) kind ty (Any parts) v r
 any_at TOr ty parts v r e h = subst (λ b. IsStateWith b TOr ty (Any parts) v r) e h
 any_at CountAll ty parts v r e h = not_held (leaves_out CountAll v) CountAll ty (Any parts) v r (λ x k. k)
 any_at Count ty parts v r e h = not_held (leaves_out Count v) Count ty (Any parts) v r (λ x k. k)
@@ -249,22 +250,22 @@ any_same ty parts v is = λ r held vs h few.
     (r, held, same_together same_bool same_bool_exact MovingBool truths_of seen_truths one_holds some_holds some_joins truth_there vs r v h (subst (λ z. IsAggregate truth_there steady_value steady_limit steady_limit (steady_course same_bool).continues some_holds (v ∷ []) z) is one), (r, h, (or_nothing MovingBool (truths_of v), (truths_of v, one, refl), refl)))
 
 -- what a step of each of these makes of the parts
-pub counts_step : (ty : SqlType) (parts new : CountParts) (v : Value) (w : StepSlices Ratio) (r : Result (Unit {0}) OpFault) → IsAggregated TCount ty (v ∷ []) (MovingInt w) → OnOk r (IsOneMore sum_of parts new w) → IfErr r (λ e. e ≡ NoMemory) → IsStateWith false TCount ty (Counts parts) v (made_in r (Counts new))
+pub counts_step : (ty : SqlType) (parts new : CountParts) (v : Value) (w : StepSlices Ratio) (r : Result (Unit {0}) (Fault Formula)) → IsAggregated TCount ty (v ∷ []) (MovingInt w) → OnOk r (IsOneMore sum_of parts new w) → IfErr r (λ e. e ≡ NoMemory) → IsStateWith false TCount ty (Counts parts) v (made_in r (Counts new))
 counts_step ty parts new v w (Ok u) a h m = counts_more ty parts new v w a h
 counts_step ty parts new v w (Err e) a h m = subst (λ z. IsStateWith false TCount ty (Counts parts) v (Err z)) (sym m) tt
 
-pub all_step : (kind : AggKind) (ty : SqlType) (parts new : TruthParts) (v : Value) (r : Result (Unit {0}) OpFault) → false ≡ leaves_out kind v → OnOk r (AreTruthsWith both_hold parts (truths_of v) new) → IfErr r (λ e. e ≡ NoMemory) → IsStateWith (leaves_out kind v) kind ty (All parts) v (made_in r (All new))
+pub all_step : (kind : AggKind) (ty : SqlType) (parts new : TruthParts) (v : Value) (r : Result (Unit {0}) (Fault Formula)) → false ≡ leaves_out kind v → OnOk r (AreTruthsWith both_hold parts (truths_of v) new) → IfErr r (λ e. e ≡ NoMemory) → IsStateWith (leaves_out kind v) kind ty (All parts) v (made_in r (All new))
 all_step kind ty parts new v r e h m = all_at kind ty parts v (made_in r (All new)) e (by r (truths_of v) refl h m)
   where
-    by : (r : Result (Unit {0}) OpFault) (o : Option (StepSlices Bool)) → truths_of v ≡ o → OnOk r (AreTruthsWith both_hold parts o new) → IfErr r (λ e. e ≡ NoMemory) → IsStateWith false TAnd ty (All parts) v (made_in r (All new))
+    by : (r : Result (Unit {0}) (Fault Formula)) (o : Option (StepSlices Bool)) → truths_of v ≡ o → OnOk r (AreTruthsWith both_hold parts o new) → IfErr r (λ e. e ≡ NoMemory) → IsStateWith false TAnd ty (All parts) v (made_in r (All new))
     by (Ok u) None is h m = subst (λ z. IsStateWith false TAnd ty (All parts) v (Ok (All z))) (sym h) (all_same ty parts v is)
     by (Ok u) (Some w) is h m = all_more ty parts new v w is h.0 h.1
     by (Err e) o is h m = subst (λ z. IsStateWith false TAnd ty (All parts) v (Err z)) (sym m) tt
 
-pub any_step : (kind : AggKind) (ty : SqlType) (parts new : TruthParts) (v : Value) (r : Result (Unit {0}) OpFault) → false ≡ leaves_out kind v → OnOk r (AreTruthsWith one_holds parts (truths_of v) new) → IfErr r (λ e. e ≡ NoMemory) → IsStateWith (leaves_out kind v) kind ty (Any parts) v (made_in r (Any new))
+pub any_step : (kind : AggKind) (ty : SqlType) (parts new : TruthParts) (v : Value) (r : Result (Unit {0}) (Fault Formula)) → false ≡ leaves_out kind v → OnOk r (AreTruthsWith one_holds parts (truths_of v) new) → IfErr r (λ e. e ≡ NoMemory) → IsStateWith (leaves_out kind v) kind ty (Any parts) v (made_in r (Any new))
 any_step kind ty parts new v r e h m = any_at kind ty parts v (made_in r (Any new)) e (by r (truths_of v) refl h m)
   where
-    by : (r : Result (Unit {0}) OpFault) (o : Option (StepSlices Bool)) → truths_of v ≡ o → OnOk r (AreTruthsWith one_holds parts o new) → IfErr r (λ e. e ≡ NoMemory) → IsStateWith false TOr ty (Any parts) v (made_in r (Any new))
+    by : (r : Result (Unit {0}) (Fault Formula)) (o : Option (StepSlices Bool)) → truths_of v ≡ o → OnOk r (AreTruthsWith one_holds parts o new) → IfErr r (λ e. e ≡ NoMemory) → IsStateWith false TOr ty (Any parts) v (made_in r (Any new))
     by (Ok u) None is h m = subst (λ z. IsStateWith false TOr ty (Any parts) v (Ok (Any z))) (sym h) (any_same ty parts v is)
     by (Ok u) (Some w) is h m = any_more ty parts new v w is h.0 h.1
     by (Err e) o is h m = subst (λ z. IsStateWith false TOr ty (Any parts) v (Err z)) (sym m) tt

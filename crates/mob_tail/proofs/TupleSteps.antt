@@ -9,10 +9,7 @@ use Rattle.mob_value.specs.declared.value.Value.{Value}
 use Rattle.mob_value.specs.declared.value.Value.TheVariants.{Null}
 use Rattle.mob_value.specs.declared.store.Store.{Store}
 use Rattle.mob_meaning.specs.Scene.{Scene, scene}
-use Rattle.mob_meaning.specs.Evaluation.{Fault}
-use Rattle.mob_outcome.specs.Faults.{OnPassed}
-use Rattle.mob_outcome.specs.declared.fault.EvalFault.{EvalFault}
-use Rattle.mob_outcome.specs.declared.fault.EvalFault.TheVariants.{Passed, NoMemory}
+use Rattle.mob_meaning.specs.Evaluation.{PlacedFormula}
 use Rattle.mob_list.proofs.Changing.{AreChanged}
 use Rattle.mob_tagg.specs.Rows.{AreValues, IsItem, IsTuple}
 use Rattle.mob_tail.specs.declared.group_cells.GroupCell.{GroupCell}
@@ -48,11 +45,6 @@ got_map f [] i x d lt is = absurd (omega (arith, lt))
 got_map f (y ∷ xs) zero x d lt is = ap f (sym is)
 got_map f (y ∷ xs) (suc i) x d lt is = got_map f xs i x d (omega (arith, lt)) is
 
--- what a fault says, said of more
-pub passed_weaker : (P Q : Fault → Type 0) → ((f : Fault) → P f → Q f) → (e : EvalFault) → OnPassed P e → OnPassed Q e
-passed_weaker P Q step (Passed place formula) h = step (place, formula) h
-passed_weaker P Q step NoMemory h = tt
-
 module _ (select : TypedSelectParts) (store : Store) (day : ℤ) where
   -- a column that is no aggregate has no argument
   abbrev nulls : List (List ℕ) → List Value
@@ -76,7 +68,7 @@ module _ (select : TypedSelectParts) (store : Store) (day : ℤ) where
       let both = h.2 k.0 k.1 vs k.2.2 (omega (arith, few, long)) in
       ((both.0, both.1, (vs ++ h.0 ∷ [], zip_more _ group vs t h.0 k.2.1 h.1, both.2)), (h.0, h.1, (vs, k.2.1, (None, both.3, refl))))
 
-  column_err : (group : List (List ℕ)) (t : List ℕ) (c : Column) (before : State) (first : Bool) (f : Fault) → IsColumnWith (scene store select.from t day) c before first (Err f) → IsStateOf select store day group c before → IsItem (IsArgumentOn select store day) IsAddingTo group t c (Some f)
+  column_err : (group : List (List ℕ)) (t : List ℕ) (c : Column) (before : State) (first : Bool) (f : PlacedFormula) → IsColumnWith (scene store select.from t day) c before first (Err f) → IsStateOf select store day group c before → IsItem (IsArgumentOn select store day) IsAddingTo group t c (Some f)
   column_err group t (e, None) before first f h k = absurd h
   column_err group t (e, Some agg) before first f (inl h) k = inl h
   column_err group t (e, Some agg) before first f (inr h) k = inr (h.0, h.1, (k.2.0, k.2.1, (Some f.1, h.3 k.0 k.1 k.2.0 k.2.2, ap (λ p. Some (p, f.1)) h.2)))
@@ -93,7 +85,7 @@ module _ (select : TypedSelectParts) (store : Store) (day : ℤ) where
       let rest = cells_ok group t columns old new first i few h.1 k.1 in
       (((h.0.column ∙ k.0.0, here.0), rest.0), inr (here.1, rest.1))
 
-  pub cells_err : (group : List (List ℕ)) (t : List ℕ) (columns : List Column) (old : List GroupCell) (first : Bool) (f : Fault) → first ≡ is_none (first_of group) → length group + 1 < 2 ^ 62 → FailsInCells (scene store select.from t day) first old f → AllZip (IsCellOf select store day group) columns old → IsTuple (IsArgumentOn select store day) IsAddingTo group t columns (Some f)
+  pub cells_err : (group : List (List ℕ)) (t : List ℕ) (columns : List Column) (old : List GroupCell) (first : Bool) (f : PlacedFormula) → first ≡ is_none (first_of group) → length group + 1 < 2 ^ 62 → FailsInCells (scene store select.from t day) first old f → AllZip (IsCellOf select store day group) columns old → IsTuple (IsArgumentOn select store day) IsAddingTo group t columns (Some f)
   cells_err group t [] [] first f i few h k = absurd h
   cells_err group t [] (c ∷ old) first f i few h k = absurd k
   cells_err group t (column ∷ columns) [] first f i few h k = absurd k
@@ -102,7 +94,7 @@ module _ (select : TypedSelectParts) (store : Store) (day : ℤ) where
       inr ((column_ok group t column c.state h.0 first i few (subst (λ z. IsColumnWith (scene store select.from t day) z c.state first (Ok h.0)) k.0.0 h.1) k.0.1).1, cells_err group t columns old first f i few h.2 k.1)
 
 -- a fault in a cell behind cells that have none
-pub fails_at : (s : Scene) (first : Bool) (n : ℕ) (old now : List GroupCell) (c : GroupCell) (f : Fault) → n < length now → c ≡ get_or now n c → AreChanged (IsCellWith s first) n old now → IsColumnWith s (column_seen c.column) c.state first (Err f) → FailsInCells s first old f
+pub fails_at : (s : Scene) (first : Bool) (n : ℕ) (old now : List GroupCell) (c : GroupCell) (f : PlacedFormula) → n < length now → c ≡ get_or now n c → AreChanged (IsCellWith s first) n old now → IsColumnWith s (column_seen c.column) c.state first (Err f) → FailsInCells s first old f
 fails_at s first n [] [] c f lt is h k = absurd (omega (arith, lt))
 fails_at s first n [] (b ∷ now) c f lt is h k = absurd h
 fails_at s first n (a ∷ old) [] c f lt is h k = absurd h

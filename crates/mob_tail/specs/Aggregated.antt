@@ -11,8 +11,8 @@ use Rattle.mob_slice.specs.Operands.{steady_value}
 use Rattle.mob_slice.specs.Slices.{value_at}
 use Rattle.mob_slice.specs.declared.slice.Slice.{Slice}
 use Rattle.mob_slice.specs.declared.formula.Formula.{Formula}
-use Rattle.mob_slice.specs.declared.formula.OpFault.{OpFault}
-use Rattle.mob_slice.specs.declared.formula.OpFault.TheVariants.{Passed, NoMemory}
+use Rattle.mob_list.specs.declared.fault.Fault.{Fault}
+use Rattle.mob_list.specs.declared.fault.Fault.TheVariants.{Because, NoMemory}
 use Rattle.mob_slice.specs.declared.line.Line.{Line}
 use Rattle.mob_ast.specs.declared.types.SqlType.{SqlType}
 use Rattle.mob_ast.specs.declared.types.SqlType.TheVariants as sql
@@ -148,7 +148,7 @@ IsUnion course make op t None before r = r ≡ before
 -- What holds of the aggregate of values with one more, where `before` is that of the values without
 -- it; or of the formula that adding it passes. The first argument says whether the value is left
 -- out.
-abbrev pub IsAggregateWith : Bool → AggKind → SqlType → Value → Value → Result Value OpFault → Type 0
+abbrev pub IsAggregateWith : Bool → AggKind → SqlType → Value → Value → Result Value (Fault Formula) → Type 0
 IsAggregateWith left_out kind ty before v (Ok r) = (vs : List Value) → IsAggregated kind ty vs before → IsAggregated kind ty (vs ++ v ∷ []) r × AddingPasses left_out kind ty vs v None
-IsAggregateWith left_out kind ty before v (Err (Passed f)) = (vs : List Value) → IsAggregated kind ty vs before → AddingPasses left_out kind ty vs v (Some f)
+IsAggregateWith left_out kind ty before v (Err (Because f)) = (vs : List Value) → IsAggregated kind ty vs before → AddingPasses left_out kind ty vs v (Some f)
 IsAggregateWith left_out kind ty before v (Err NoMemory) = Unit {0}

@@ -6,7 +6,7 @@ use Rattle.mob_value.specs.declared.value.Value.{Value}
 use Rattle.mob_value.specs.declared.store.Store.{Store}
 use Rattle.mob_literal.specs.Fields.{field_text}
 use Rattle.mob_meaning.specs.Scene.{Scene, scene}
-use Rattle.mob_meaning.specs.Evaluation.{Fault, TreeEvaluatesTo}
+use Rattle.mob_meaning.specs.Evaluation.{PlacedFormula, TreeEvaluatesTo}
 use Rattle.mob_eval.specs.QueryFaults.{TupleFault}
 use Rattle.mob_arrange.specs.Keyed.{Keyed}
 use Rattle.mob_tail.specs.IsMadeOfEach.{IsMadeOfEach}
@@ -14,16 +14,16 @@ use Rattle.mob_tail.specs.GroupedAnswers.{IsGroupedAnswer}
 use Rattle.mob_arrange.specs.Rows.{AreArranged}
 
 -- the printed field of an entry of the select list
-abbrev pub IsField : Scene → TypedTree × List ℕ → Result (List ℕ) Fault → Type 0
+abbrev pub IsField : Scene → TypedTree × List ℕ → Result (List ℕ) PlacedFormula → Type 0
 IsField s item (Ok field) = (v : Value) × TreeEvaluatesTo s item.0 (Ok v) × (field ≡ field_text s.day v)
 IsField s item (Err f) = TreeEvaluatesTo s item.0 (Err f)
 
 -- the value of a key
-abbrev pub IsKey : Scene → TypedTree × Bool → Result Value Fault → Type 0
+abbrev pub IsKey : Scene → TypedTree × Bool → Result Value PlacedFormula → Type 0
 IsKey s key r = TreeEvaluatesTo s key.0 r
 
 -- The fields of the select list on a tuple, and then the keys; or the first fault in this order.
-abbrev pub IsRowOf : TypedSelectParts → Scene → Result Keyed Fault → Type 0
+abbrev pub IsRowOf : TypedSelectParts → Scene → Result Keyed PlacedFormula → Type 0
 IsRowOf select s (Ok row) = IsMadeOfEach (IsField s) select.items (Ok row.fields) × IsMadeOfEach (IsKey s) select.keys (Ok row.keys)
 IsRowOf select s (Err f) = IsMadeOfEach (IsField s) select.items (Err f) ⊎ ((fields : List (List ℕ)) × IsMadeOfEach (IsField s) select.items (Ok fields) × IsMadeOfEach (IsKey s) select.keys (Err f))
 

@@ -3,11 +3,11 @@ use Rattle.std.specs.Prelude.{◌≡◌, ◌⊎◌, ◌++◌, List, Result, Ok, 
 use Rattle.mob_typed.specs.Trees.{TypedTree}
 use Rattle.mob_value.specs.declared.value.Value.{Value}
 use Rattle.mob_meaning.specs.Scene.{Scene}
-use Rattle.mob_meaning.specs.Evaluation.{Fault, TreeEvaluatesTo}
+use Rattle.mob_meaning.specs.Evaluation.{PlacedFormula, TreeEvaluatesTo}
 use Rattle.mob_tail.specs.IsMadeOfEach.{IsMadeOfEach}
 
 -- The values of the items, evaluated first, behind those of the keys; or the first fault.
-abbrev pub AreEvaluated : Scene → List TypedTree → List TypedTree → Result (List Value) Fault → Type 0
+abbrev pub AreEvaluated : Scene → List TypedTree → List TypedTree → Result (List Value) PlacedFormula → Type 0
 AreEvaluated s items keys (Ok row) =
     (fields : List Value) × (front : List Value) × IsMadeOfEach (TreeEvaluatesTo s) items (Ok fields) × IsMadeOfEach (TreeEvaluatesTo s) keys (Ok front) × (row ≡ front ++ fields)
 AreEvaluated s items keys (Err f) =

@@ -6,7 +6,7 @@ use Rattle.mob_value.specs.declared.value.Value.{Value}
 use Rattle.mob_value.specs.declared.value.Value.TheVariants.{Null}
 use Rattle.mob_literal.specs.Fields.{field_text}
 use Rattle.mob_literal.specs.SqlReadable.{IsReadableAs}
-use Rattle.mob_meaning.specs.Evaluation.{Fault}
+use Rattle.mob_meaning.specs.Evaluation.{PlacedFormula}
 use Rattle.mob_meaning.specs.Scene.{scene}
 use Rattle.mob_typed.specs.declared.typed.Agg.{Agg}
 use Rattle.mob_typed.specs.Trees.{TypedTree, type_of}
@@ -45,4 +45,4 @@ GroupsAreOfValues = (select : TypedSelectParts) (store : Store) (day : ℤ) (t u
 -- Adding to a count of fewer than 2^62 - 1 values passes no formula. So no count has a fault of
 -- adding, over all tuples that a memory holds, and counts may be taken together in any order.
 abbrev pub NoCountPasses : Type 0
-NoCountPasses = (select : TypedSelectParts) (store : Store) (day : ℤ) (before : List (List ℕ)) (tuple : List ℕ) (e : TypedTree) (agg : Agg) (f : Fault) → is_count agg.kind ≡ true → length before + 1 < 2 ^ 62 → AddingFails select store day before tuple (e, Some agg) f → ⊥
+NoCountPasses = (select : TypedSelectParts) (store : Store) (day : ℤ) (before : List (List ℕ)) (tuple : List ℕ) (e : TypedTree) (agg : Agg) (f : PlacedFormula) → is_count agg.kind ≡ true → length before + 1 < 2 ^ 62 → AddingFails select store day before tuple (e, Some agg) f → ⊥

@@ -1,7 +1,7 @@
 -- A group with one more tuple.
 use Rattle.std.specs.Prelude.{◌≡◌, ◌⊎◌, Bool, true, false, ℕ, ℤ, List, [], ◌∷◌, Option, Some, None, Result, Ok, Err, cond, map}
 use Rattle.std.specs.List.{AllZip, position_or_len}
-use Rattle.mob_slice.specs.declared.formula.OpFault.TheVariants.{Passed}
+use Rattle.mob_list.specs.declared.fault.Fault.TheVariants.{Because}
 use Rattle.mob_typed.specs.declared.typed.Agg.{Agg}
 use Rattle.mob_typed.specs.Selects.{TypedSelectParts}
 use Rattle.mob_typed.specs.Trees.{TypedTree, typed_of}
@@ -9,7 +9,7 @@ use Rattle.mob_value.specs.declared.value.Value.{Value}
 use Rattle.mob_value.specs.declared.value.Value.TheVariants.{Null}
 use Rattle.mob_value.specs.declared.store.Store.{Store}
 use Rattle.mob_meaning.specs.Scene.{Scene}
-use Rattle.mob_meaning.specs.Evaluation.{Fault}
+use Rattle.mob_meaning.specs.Evaluation.{PlacedFormula}
 use Rattle.mob_groups.specs.Groups.{first_keys, members}
 use Rattle.mob_tail.specs.declared.columns.Column.{Column as ColumnOf}
 use Rattle.mob_tail.specs.declared.group_cells.GroupCell.{GroupCell}
@@ -26,9 +26,9 @@ abbrev pub column_seen : ColumnOf → Column
 column_seen c = (typed_of c.expression.now, c.agg)
 
 -- an aggregate with one more tuple, or its fault there
-abbrev pub IsAggregateOn : Scene → TypedTree → Agg → State → Result State Fault → Type 0
+abbrev pub IsAggregateOn : Scene → TypedTree → Agg → State → Result State PlacedFormula → Type 0
 IsAggregateOn s e agg before (Ok x) = (w : Value) × IsArgumentOf agg.kind s e (Ok w) × IsStateWith (leaves_out agg.kind w) agg.kind agg.ty before w (Ok x)
-IsAggregateOn s e agg before (Err f) = IsArgumentOf agg.kind s e (Err f) ⊎ ((w : Value) × IsArgumentOf agg.kind s e (Ok w) × (f.0 ≡ agg.place) × IsStateWith (leaves_out agg.kind w) agg.kind agg.ty before w (Err (Passed f.1)))
+IsAggregateOn s e agg before (Err f) = IsArgumentOf agg.kind s e (Err f) ⊎ ((w : Value) × IsArgumentOf agg.kind s e (Ok w) × (f.0 ≡ agg.place) × IsStateWith (leaves_out agg.kind w) agg.kind agg.ty before w (Err (Because f.1)))
 
 -- a column that is no aggregate with one more tuple: its value on the first tuple, and then what
 -- was held before
@@ -38,7 +38,7 @@ IsPlainOn s e false before x = x ≡ before
 
 -- a column of the answer with one more tuple, or its fault there; the fourth argument says whether
 -- the tuple is the first of its group
-abbrev pub IsColumnWith : Scene → Column → State → Bool → Result State Fault → Type 0
+abbrev pub IsColumnWith : Scene → Column → State → Bool → Result State PlacedFormula → Type 0
 IsColumnWith s (e, Some agg) before first r = IsAggregateOn s e agg before r
 IsColumnWith s (e, None) before first (Ok x) = IsPlainOn s e first before x
 IsColumnWith s (e, None) before first (Err f) = ⊥
@@ -49,7 +49,7 @@ pub record IsCellWith (s : Scene) (first : Bool) (old new : GroupCell) : Type 0 
   pub state : IsColumnWith s (column_seen old.column) old.state first (Ok new.state)
 
 -- a fault in a cell, where those before it have none
-abbrev pub FailsInCells : Scene → Bool → List GroupCell → Fault → Type 0
+abbrev pub FailsInCells : Scene → Bool → List GroupCell → PlacedFormula → Type 0
 FailsInCells s first [] f = ⊥
 FailsInCells s first (c ∷ cells) f = IsColumnWith s (column_seen c.column) c.state first (Err f) ⊎ ((x : State) × IsColumnWith s (column_seen c.column) c.state first (Ok x) × FailsInCells s first cells f)
 

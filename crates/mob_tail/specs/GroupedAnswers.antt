@@ -13,7 +13,7 @@ use Rattle.mob_value.specs.declared.store.Store.{Store}
 use Rattle.mob_value.specs.Null.{value_or_null}
 use Rattle.mob_literal.specs.Fields.{field_text}
 use Rattle.mob_meaning.specs.Scene.{Scene, scene}
-use Rattle.mob_meaning.specs.Evaluation.{Fault, TreeEvaluatesTo}
+use Rattle.mob_meaning.specs.Evaluation.{PlacedFormula, TreeEvaluatesTo}
 use Rattle.mob_eval.specs.QueryFaults.{TupleFault}
 use Rattle.mob_tagg.specs.Rows.{IsRowFault, Adds}
 use Rattle.mob_arrange.specs.Keyed.{Keyed}
@@ -38,23 +38,23 @@ abbrev pub columns_of : TypedSelectParts → List Column
 columns_of select = columns_from select.aggs 0 select.items
 
 -- the argument of an aggregate on a tuple; that of count(*) is not evaluated
-abbrev pub IsArgumentOf : AggKind → Scene → TypedTree → Result Value Fault → Type 0
+abbrev pub IsArgumentOf : AggKind → Scene → TypedTree → Result Value PlacedFormula → Type 0
 IsArgumentOf CountAll s e r = r ≡ Ok Null
 IsArgumentOf _ s e r = TreeEvaluatesTo s e r
 
 -- that of a column; a column that is no aggregate has none
-abbrev pub IsArgument : Scene → Column → Result Value Fault → Type 0
+abbrev pub IsArgument : Scene → Column → Result Value PlacedFormula → Type 0
 IsArgument s (e, None) r = r ≡ Ok Null
 IsArgument s (e, Some agg) r = IsArgumentOf agg.kind s e r
 
 -- the fault of adding a value to those before it in a column, at the place of the aggregate, or
 -- none
-abbrev pub IsAddingTo : Column → List Value → Value → Option Fault → Type 0
+abbrev pub IsAddingTo : Column → List Value → Value → Option PlacedFormula → Type 0
 IsAddingTo (e, None) before v f = f ≡ None
 IsAddingTo (e, Some agg) before v f = (g : Option Formula) × IsAdding agg before v g × (f ≡ option_map (λ formula. (agg.place, formula)) g)
 
 -- the argument of a column on a tuple
-abbrev pub IsArgumentOn : TypedSelectParts → Store → ℤ → List ℕ → Column → Result Value Fault → Type 0
+abbrev pub IsArgumentOn : TypedSelectParts → Store → ℤ → List ℕ → Column → Result Value PlacedFormula → Type 0
 IsArgumentOn select store day tuple column r = IsArgument (scene store select.from tuple day) column r
 
 -- The first fault on the tuples that are kept, or none: tuple by tuple and column by column that of
@@ -65,7 +65,7 @@ IsGroupedFault select store day kept f = IsRowFault (IsArgumentOn select store d
 
 -- Adding the value of a column on that tuple, behind these, passes a formula, whether or not it is
 -- the first fault.
-abbrev pub AddingFails : TypedSelectParts → Store → ℤ → List (List ℕ) → List ℕ → Column → Fault → Type 0
+abbrev pub AddingFails : TypedSelectParts → Store → ℤ → List (List ℕ) → List ℕ → Column → PlacedFormula → Type 0
 AddingFails select store day before tuple column f = Adds (IsArgumentOn select store day) IsAddingTo (same_group select store day) before tuple column f
 
 -- The value of a column for a group: the aggregate of its argument over the tuples of the group in

@@ -7,8 +7,8 @@ use Rattle.mob_arith.specs.Operations.{sum_of, both_hold, one_holds}
 use Rattle.mob_slice.specs.CourseOf.{steady_course}
 use Rattle.mob_slice.specs.Operands.{steady_value}
 use Rattle.mob_slice.specs.Slices.{value_at}
-use Rattle.mob_slice.specs.declared.formula.OpFault.{OpFault}
-use Rattle.mob_slice.specs.declared.formula.OpFault.TheVariants.{Passed, NoMemory}
+use Rattle.mob_list.specs.declared.fault.Fault.{Fault}
+use Rattle.mob_list.specs.declared.fault.Fault.TheVariants.{Because, NoMemory}
 use Rattle.mob_slice.specs.declared.steady.Steady.{Steady}
 use Rattle.mob_ast.specs.declared.types.SqlType.{SqlType}
 use Rattle.mob_operators.specs.declared.aggregate.AggKind.{AggKind}
@@ -22,6 +22,7 @@ use Rattle.mob_tagg.specs.declared.parts.Part.{Part}
 use Rattle.mob_tail.specs.declared.state.State.{State}
 use Rattle.mob_tail.specs.declared.state.State.TheVariants.{Whole, Counts, All, Any}
 use Rattle.mob_tail.specs.Aggregated.{steps_of, truths_of, slices_there, IsAggregated, AddingPasses}
+use Rattle.mob_slice.specs.declared.formula.Formula.{Formula}
 
 -- The parts are together, by the operation, the value r: at each instant they have what it has. It
 -- is a normal value or NULL.
@@ -71,9 +72,9 @@ IsStartState kind s = (ty : SqlType) → (r : Value) × IsHeld kind s r × IsAgg
 -- What holds of the state of an aggregate of some values with one more, fewer than 2^62 with the
 -- new one, where `before` is that of the values without it; or of the formula that adding it
 -- passes. The first argument says whether the value is left out.
-abbrev pub IsStateWith : Bool → AggKind → SqlType → State → Value → Result State OpFault → Type 0
+abbrev pub IsStateWith : Bool → AggKind → SqlType → State → Value → Result State (Fault Formula) → Type 0
 IsStateWith left_out kind ty before v (Ok s) =
     (r : Value) → IsHeld kind before r → (vs : List Value) → IsAggregated kind ty vs r → length vs + 1 < 2 ^ 62
     → (u : Value) × IsHeld kind s u × IsAggregated kind ty (vs ++ v ∷ []) u × AddingPasses left_out kind ty vs v None
-IsStateWith left_out kind ty before v (Err (Passed f)) = (r : Value) → IsHeld kind before r → (vs : List Value) → IsAggregated kind ty vs r → AddingPasses left_out kind ty vs v (Some f)
+IsStateWith left_out kind ty before v (Err (Because f)) = (r : Value) → IsHeld kind before r → (vs : List Value) → IsAggregated kind ty vs r → AddingPasses left_out kind ty vs v (Some f)
 IsStateWith left_out kind ty before v (Err NoMemory) = Unit {0}

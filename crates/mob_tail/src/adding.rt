@@ -3,7 +3,8 @@ ghost use Rattle.std.specs.Prelude.{◌≡◌, [], ◌∷◌, IfOk, IfErr, Match
 ghost use Rattle.mob_ratio.specs.Order.{same};
 ghost use Rattle.mob_arith.specs.Operations.{sum_of};
 ghost use Rattle.mob_slice.specs.CourseOf.{steady_course, line_course};
-ghost use Rattle.mob_slice.specs.Entries.{IsFirst, OnFormula};
+ghost use Rattle.mob_list.specs.Faults.{OnCause};
+ghost use Rattle.mob_slice.specs.Entries.{IsFirst};
 ghost use Rattle.mob_slice.specs.Slices.{value_at};
 ghost use Rattle.mob_value.specs.declared.value.Value.TheVariants.{Number, MovingInt, MovingFrac};
 ghost use Rattle.mob_meaning.specs.Arithmetic.{arithmetic_entries};
@@ -15,9 +16,10 @@ ghost use Rattle.mob_tail.specs.States.{is_in_parts};
 
 use mob_ast::SqlType;
 use mob_frac::Frac;
+use mob_list::fault::Fault;
 use mob_meaning::Calculation;
 use mob_operators::AggKind;
-use mob_slice::{Course, Formula, Line, Moving, OpFault, Steady};
+use mob_slice::{Course, Formula, Line, Moving, Steady};
 use mob_tagg::{add_in, one, ones_of};
 use mob_typed::Agg;
 use mob_value::Value;
@@ -71,37 +73,35 @@ fn lines_of(value: &Value) -> Option<&Moving<Line>>
 }
 
 // Puts the sum of two numbers in the place of what is held.
-fn sum_in(before: &mut Value, a: &Frac, b: &Frac) -> Result<(), OpFault>
+fn sum_in(before: &mut Value, a: &Frac, b: &Frac) -> Result<(), Fault<Formula>>
     ensures value { IfOk (made_in result before.new) (λ r. r ≡ Number (sum_of a.now b.now)) }
     ensures fits { IfOk (made_in result before.new) (λ _. IsFirst (arithmetic_entries Calculation.Sum SqlType.Numeric (Number a.now) (Number b.now)) None) }
-    ensures fault { IfErr (made_in result before.new) (OnFormula (λ f. IsFirst (arithmetic_entries Calculation.Sum SqlType.Numeric (Number a.now) (Number b.now)) (Some f))) }
+    ensures fault { IfErr (made_in result before.new) (OnCause (λ f. IsFirst (arithmetic_entries Calculation.Sum SqlType.Numeric (Number a.now) (Number b.now)) (Some f))) }
 {
     match a.add(b) {
         Ok(sum) => {
             put(before, Value::Number(sum));
             Ok(())
         }
-        Err(_) => Err(OpFault::Passed {
-            formula: Formula::F2,
-        }),
+        Err(_) => Err(Fault::Because(Formula::F2)),
     }
 }
 
 // Puts a copy of a value in the place of what is held.
-fn copy_in(alloc: Global, before: &mut Value, value: &Value) -> Result<(), OpFault>
-    ensures copy { MatchResult (made_in result before.new) (λ r. r ≡ value.now) (λ e. e ≡ OpFault.NoMemory) }
+fn copy_in(alloc: Global, before: &mut Value, value: &Value) -> Result<(), Fault<Formula>>
+    ensures copy { MatchResult (made_in result before.new) (λ r. r ≡ value.now) (λ e. e ≡ Fault.NoMemory) }
 {
     match value.copy(alloc) {
         Ok(copy) => {
             put(before, copy);
             Ok(())
         }
-        Err(_) => Err(OpFault::NoMemory),
+        Err(_) => Err(Fault::NoMemory),
     }
 }
 
 // Counts one more.
-fn one_more(before: &mut Value) -> Result<(), OpFault>
+fn one_more(before: &mut Value) -> Result<(), Fault<Formula>>
     ensures with { (ty : _) (v : _) → IsAggregateWith false AggKind.CountAll ty before.old v (made_in result before.new) }
     ensures known { (ty : _) (v : _) → is_null v ≡ false → IsAggregateWith false AggKind.Count ty before.old v (made_in result before.new) }
 {
@@ -113,7 +113,7 @@ fn one_more(before: &mut Value) -> Result<(), OpFault>
 }
 
 // Brings one more into the sum of numbers, or NULL where there is none.
-fn number_more(before: &mut Value, value: &Value) -> Result<(), OpFault>
+fn number_more(before: &mut Value, value: &Value) -> Result<(), Fault<Formula>>
     ensures with { (ty : _) → IsAggregateWith false AggKind.Sum ty before.old value.now (made_in result before.new) }
 {
     let Some(number) = number_in(value) else {
@@ -149,11 +149,11 @@ fn frac_value(moving: Moving<Line>) -> Value
 }
 
 // Brings one more into a sum of tints, or NULL where there is none.
-fn steps_more(alloc: Global, before: &mut Value, value: &Value) -> Result<(), OpFault>
+fn steps_more(alloc: Global, before: &mut Value, value: &Value) -> Result<(), Fault<Formula>>
     ensures union { IfOk (made_in result before.new) (λ r. IsUnion (steady_course same) MovingInt sum_of (steps_of before.old) (steps_of value.now) before.old r) }
     ensures normal { MatchOption (steps_of value.now) (Unit {0}) (AreNormalBy (steady_course same)) }
     ensures fits { IfOk (made_in result before.new) (λ _. IsFirst (arithmetic_entries Calculation.Sum SqlType.TInt (or_nothing MovingInt (steps_of before.old)) (or_nothing MovingInt (steps_of value.now))) None) }
-    ensures fault { IfErr (made_in result before.new) (OnFormula (λ f. IsFirst (arithmetic_entries Calculation.Sum SqlType.TInt (or_nothing MovingInt (steps_of before.old)) (or_nothing MovingInt (steps_of value.now))) (Some f))) }
+    ensures fault { IfErr (made_in result before.new) (OnCause (λ f. IsFirst (arithmetic_entries Calculation.Sum SqlType.TInt (or_nothing MovingInt (steps_of before.old)) (or_nothing MovingInt (steps_of value.now))) (Some f))) }
 {
     let Some(moving) = steps_of(value) else {
         return Ok(());
@@ -173,11 +173,11 @@ fn steps_more(alloc: Global, before: &mut Value, value: &Value) -> Result<(), Op
 }
 
 // Brings one more into a sum of tfracs, or NULL where there is none.
-fn lines_more(alloc: Global, before: &mut Value, value: &Value) -> Result<(), OpFault>
+fn lines_more(alloc: Global, before: &mut Value, value: &Value) -> Result<(), Fault<Formula>>
     ensures union { IfOk (made_in result before.new) (λ r. IsUnion line_course MovingFrac sum_of (lines_of before.old) (lines_of value.now) before.old r) }
     ensures normal { MatchOption (lines_of value.now) (Unit {0}) (AreNormalBy line_course) }
     ensures fits { IfOk (made_in result before.new) (λ _. IsFirst (arithmetic_entries Calculation.Sum SqlType.TFrac (or_nothing MovingFrac (lines_of before.old)) (or_nothing MovingFrac (lines_of value.now))) None) }
-    ensures fault { IfErr (made_in result before.new) (OnFormula (λ f. IsFirst (arithmetic_entries Calculation.Sum SqlType.TFrac (or_nothing MovingFrac (lines_of before.old)) (or_nothing MovingFrac (lines_of value.now))) (Some f))) }
+    ensures fault { IfErr (made_in result before.new) (OnCause (λ f. IsFirst (arithmetic_entries Calculation.Sum SqlType.TFrac (or_nothing MovingFrac (lines_of before.old)) (or_nothing MovingFrac (lines_of value.now))) (Some f))) }
 {
     let Some(moving) = lines_of(value) else {
         return Ok(());
@@ -225,7 +225,12 @@ pub fn ones_on(alloc: Global, value: &Value) -> Result<Option<Moving<Steady<Frac
 }
 
 // Brings one more value into a sum over time of this type.
-fn sum_more(alloc: Global, ty: SqlType, before: &mut Value, value: &Value) -> Result<(), OpFault>
+fn sum_more(
+    alloc: Global,
+    ty: SqlType,
+    before: &mut Value,
+    value: &Value,
+) -> Result<(), Fault<Formula>>
     ensures with { IsAggregateWith false AggKind.TSum ty before.old value.now (made_in result before.new) }
 {
     match ty {
@@ -242,7 +247,7 @@ pub fn aggregate_in(
     agg: Agg,
     before: &mut Value,
     value: &Value,
-) -> Result<(), OpFault>
+) -> Result<(), Fault<Formula>>
     ensures with { is_in_parts agg.kind ≡ false → false ≡ leaves_out agg.kind value.now → IsAggregateWith (leaves_out agg.kind value.now) agg.kind agg.ty before.old value.now (made_in result before.new) }
     ensures parts { is_in_parts agg.kind ≡ true → before.new ≡ before.old }
 {

@@ -1,7 +1,7 @@
 // What a query answers.
 ghost use Rattle.std.specs.Prelude.{◌≡◌, ◌++◌, Ok, Err, IfOk, IfErr, map};
 ghost use Rattle.mob_typed.specs.Selects.{select_seen, output_of, key_seen};
-ghost use Rattle.mob_eval.specs.QueryFaults.{OnTuple};
+ghost use Rattle.mob_list.specs.Faults.{OnCause};
 ghost use Rattle.mob_arrange.specs.RowsText.{IsTextOfArranged};
 ghost use Rattle.mob_tail.specs.AnswerRows.{falls_of, answer_row};
 ghost use Rattle.mob_tail.specs.AnswerTexts.{answer_names, IsAnswerText};
@@ -15,6 +15,7 @@ use crate::grouping::grouped_rows;
 use crate::roots::roots_of;
 use mob_arrange::{Row, arranged_text};
 use mob_eval::{Memory, QueryFault, Remembering, memory_of};
+use mob_list::fault::Fault;
 use mob_list::items::Items;
 use mob_list::text::Text;
 use mob_scalar::Epoch;
@@ -82,7 +83,7 @@ fn answer_on<K: Remembering>(
     requires roots { map root_seen roots.now ≡ item_trees (select_seen select.now) ++ key_trees (select_seen select.now) }
     requires fits { AnswerFits K.recollection (select_seen select.now) store.now epoch.now }
     ensures text { IfOk result (λ text. IsAnswerText (select_seen select.now) (IsPlainAnswer (select_seen select.now) store.now epoch.now kept.now) text.items) }
-    ensures fault { IfErr result (OnTuple (λ f. IsPlainAnswer (select_seen select.now) store.now epoch.now kept.now (Err f))) }
+    ensures fault { IfErr result (OnCause (λ f. IsPlainAnswer (select_seen select.now) store.now epoch.now kept.now (Err f))) }
 {
     let (items, keys) = roots.split_at(select.items.len());
     match rows_on(
@@ -95,10 +96,7 @@ fn answer_on<K: Remembering>(
         epoch,
         memory.in_use(),
     ) {
-        Ok(rows) => match text_of(alloc, select, rows, epoch) {
-            Ok(text) => Ok(text),
-            Err(_) => Err(QueryFault::NoMemory),
-        },
+        Ok(rows) => Ok(text_of(alloc, select, rows, epoch)?),
         Err(fault) => Err(fault),
     }
 }
@@ -113,10 +111,10 @@ fn answer_with<K: Remembering>(
 ) -> Result<Vec<u8>, QueryFault>
     requires recollection { K.recollection ≡ answer_recollection (select_seen select.now) store.now epoch.now }
     ensures text { IfOk result (λ text. IsAnswerText (select_seen select.now) (IsPlainAnswer (select_seen select.now) store.now epoch.now kept.now) text.items) }
-    ensures fault { IfErr result (OnTuple (λ f. IsPlainAnswer (select_seen select.now) store.now epoch.now kept.now (Err f))) }
+    ensures fault { IfErr result (OnCause (λ f. IsPlainAnswer (select_seen select.now) store.now epoch.now kept.now (Err f))) }
 {
     let Ok(all) = roots_of(alloc, select) else {
-        return Err(QueryFault::NoMemory);
+        return Err(Fault::NoMemory);
     };
     let roots = all.as_slice();
     let memory = memory_of::<K>(alloc, store, select.from.as_slice(), roots);
@@ -132,7 +130,7 @@ fn plain_answer(
     epoch: &Epoch,
 ) -> Result<Vec<u8>, QueryFault>
     ensures text { IfOk result (λ text. IsAnswerText (select_seen select.now) (IsPlainAnswer (select_seen select.now) store.now epoch.now kept.now) text.items) }
-    ensures fault { IfErr result (OnTuple (λ f. IsPlainAnswer (select_seen select.now) store.now epoch.now kept.now (Err f))) }
+    ensures fault { IfErr result (OnCause (λ f. IsPlainAnswer (select_seen select.now) store.now epoch.now kept.now (Err f))) }
 {
     answer_with::<Brand>(alloc, select, store, kept, epoch)
 }
@@ -146,13 +144,10 @@ fn grouped_answer(
     epoch: &Epoch,
 ) -> Result<Vec<u8>, QueryFault>
     ensures text { IfOk result (λ text. IsAnswerText (select_seen select.now) (IsGroupedAnswer (select_seen select.now) store.now epoch.now kept.now) text.items) }
-    ensures fault { IfErr result (OnTuple (λ f. IsGroupedAnswer (select_seen select.now) store.now epoch.now kept.now (Err f))) }
+    ensures fault { IfErr result (OnCause (λ f. IsGroupedAnswer (select_seen select.now) store.now epoch.now kept.now (Err f))) }
 {
     match grouped_rows(alloc, select, store, kept, epoch) {
-        Ok(rows) => match text_of(alloc, select, rows, epoch) {
-            Ok(text) => Ok(text),
-            Err(_) => Err(QueryFault::NoMemory),
-        },
+        Ok(rows) => Ok(text_of(alloc, select, rows, epoch)?),
         Err(fault) => Err(fault),
     }
 }
@@ -176,7 +171,7 @@ pub fn answered_text(
     epoch: &Epoch,
 ) -> Result<Vec<u8>, QueryFault>
     ensures text { IfOk result (λ text. IsAnswerText (select_seen select.now) (IsAnswerOnKept (select_seen select.now) store.now epoch.now kept.now) text.items) }
-    ensures fault { IfErr result (OnTuple (λ f. IsAnswerOnKept (select_seen select.now) store.now epoch.now kept.now (Err f))) }
+    ensures fault { IfErr result (OnCause (λ f. IsAnswerOnKept (select_seen select.now) store.now epoch.now kept.now (Err f))) }
 {
     if select.grouped {
         grouped_answer(alloc, select, store, kept, epoch)

@@ -3,13 +3,14 @@ ghost use Rattle.std.specs.Prelude.{◌≡◌, Ok, Err, IfOk, IfErr, map};
 ghost use Rattle.mob_typed.specs.Trees.{typed_of};
 ghost use Rattle.mob_typed.specs.Selects.{output_of};
 ghost use Rattle.mob_eval.specs.Views.{scene_of};
-ghost use Rattle.mob_outcome.specs.Faults.{OnPassed};
+ghost use Rattle.mob_list.specs.Faults.{OnCause};
 ghost use Rattle.mob_value.specs.Held.{held};
 ghost use Rattle.mob_tail.specs.Groups.{is_bare, column_on};
 ghost use Rattle.mob_tail.specs.GroupedAnswers.{agg_at, columns_from, IsArgumentOf};
 ghost use Rattle.mob_tail.specs.GroupSteps.{column_seen};
 
 use mob_eval::{Held, View, held_value};
+use mob_list::fault::Fault;
 use mob_list::text::Text;
 use mob_operators::AggKind;
 use mob_outcome::fault::EvalFault;
@@ -72,8 +73,8 @@ pub fn column_on<'a>(alloc: Global, e: &TExpr, view: &View<'a>) -> Result<Held<'
     }
     match held_value(alloc, e, view) {
         Ok(held) => Ok(held),
-        Err(EvalFault::NoMemory) => Err(AllocError),
-        Err(EvalFault::Passed { .. }) => unreachable!(),
+        Err(Fault::NoMemory) => Err(AllocError),
+        Err(Fault::Because(_)) => unreachable!(),
     }
 }
 
@@ -85,7 +86,7 @@ pub fn argument_on<'a>(
     view: &View<'a>,
 ) -> Result<Held<'a>, EvalFault>
     ensures value { IfOk result (λ h. IsArgumentOf kind (scene_of view.now) (typed_of e.now) (Ok (held h))) }
-    ensures fault { IfErr result (OnPassed (λ f. IsArgumentOf kind (scene_of view.now) (typed_of e.now) (Err f))) }
+    ensures fault { IfErr result (OnCause (λ f. IsArgumentOf kind (scene_of view.now) (typed_of e.now) (Err f))) }
 {
     match kind {
         AggKind::CountAll => Ok(Held::Made(Value::Null)),

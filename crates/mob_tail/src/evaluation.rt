@@ -6,8 +6,7 @@ ghost use Rattle.mob_meaning.specs.Scene.{scene};
 ghost use Rattle.mob_eval.specs.Views.{scene_of};
 ghost use Rattle.mob_value.specs.declared.value.Value.{Value as ValueOf};
 ghost use Rattle.mob_value.specs.Held.{held};
-ghost use Rattle.mob_outcome.specs.Faults.{OnPassed};
-ghost use Rattle.mob_eval.specs.QueryFaults.{OnTuple};
+ghost use Rattle.mob_list.specs.Faults.{OnCause};
 ghost use Rattle.mob_eval.specs.Remembered.{Fits, root_seen};
 ghost use Rattle.mob_meaning.specs.Evaluation.{TreeEvaluatesTo};
 ghost use Rattle.mob_typed.specs.Trees.{typed_of};
@@ -19,7 +18,8 @@ ghost use Rattle.mob_tail.specs.Evaluated.{AreEvaluated};
 ghost use Rattle.mob_tail.specs.Recalling.{AnswerFits, SelectFits, item_trees, key_trees};
 
 use mob_arrange::{Row, RowValue};
-use mob_eval::{Held, Memory, QueryFault, Remembering, View, value_with};
+use mob_eval::{Held, Memory, QueryFault, Remembering, View, fault_on, value_with};
+use mob_list::fault::Fault;
 use mob_list::items::Items;
 use mob_outcome::fault::EvalFault;
 use mob_scalar::Epoch;
@@ -30,14 +30,11 @@ use std::alloc::Global;
 
 // A value, where it stands or made.
 fn lent<'a>(alloc: Global, found: Held<'a>) -> Result<RowValue<'a>, EvalFault>
-    ensures value { MatchResult result (λ v. row_value v ≡ held found.entry) (λ e. e ≡ EvalFault.NoMemory) }
+    ensures value { MatchResult result (λ v. row_value v ≡ held found.entry) (λ e. e ≡ Fault.NoMemory) }
 {
     match found {
         Held::Stored(value) => Ok(RowValue::Stored(value)),
-        Held::Made(value) => match RowValue::made(alloc, value) {
-            Ok(value) => Ok(value),
-            Err(_) => Err(EvalFault::NoMemory),
-        },
+        Held::Made(value) => Ok(RowValue::made(alloc, value)?),
     }
 }
 
@@ -50,7 +47,7 @@ fn value_of<'a, K: Remembering>(
 ) -> Result<RowValue<'a>, EvalFault>
     requires fits { Fits K.recollection (scene_of view.now) (typed_of e.now) }
     ensures value { IfOk result (λ v. TreeEvaluatesTo (scene_of view.now) (typed_of e.now) (Ok (row_value v))) }
-    ensures fault { IfErr result (OnPassed (λ f. TreeEvaluatesTo (scene_of view.now) (typed_of e.now) (Err f))) }
+    ensures fault { IfErr result (OnCause (λ f. TreeEvaluatesTo (scene_of view.now) (typed_of e.now) (Err f))) }
 {
     match value_with(alloc, e, view, memory) {
         Ok(found) => lent(alloc, found),
@@ -67,10 +64,10 @@ fn values_on<'a, K: Remembering>(
 ) -> Result<Items<RowValue<'a>>, EvalFault>
     requires fit { AllByRecursion (Fits K.recollection (scene_of view.now)) (map root_seen roots.now) }
     ensures values { IfOk result (λ vs. IsMadeOfEach (TreeEvaluatesTo (scene_of view.now)) (map root_seen roots.now) (Ok (map row_value vs))) }
-    ensures fault { IfErr result (OnPassed (λ f. IsMadeOfEach (TreeEvaluatesTo (scene_of view.now)) (map root_seen roots.now) (Err f))) }
+    ensures fault { IfErr result (OnCause (λ f. IsMadeOfEach (TreeEvaluatesTo (scene_of view.now)) (map root_seen roots.now) (Err f))) }
 {
     let Ok(mut made) = Vec::with_capacity(alloc, roots.len()) else {
-        return Err(EvalFault::NoMemory);
+        return Err(Fault::NoMemory);
     };
     for root in roots {
         let value = match value_of(alloc, *root, view, memory) {
@@ -78,7 +75,7 @@ fn values_on<'a, K: Remembering>(
             Err(fault) => return Err(fault),
         };
         if made.push(value).is_err() {
-            return Err(EvalFault::NoMemory);
+            return Err(Fault::NoMemory);
         }
     }
     Ok(Items::from_vec(made))
@@ -94,13 +91,10 @@ fn row_before<'a, K: Remembering>(
 ) -> Result<Row<'a>, EvalFault>
     requires fit { AllByRecursion (Fits K.recollection (scene_of view.now)) (map root_seen keys.now) }
     ensures row { IfOk result (λ row. (front : List ValueOf) × IsMadeOfEach (TreeEvaluatesTo (scene_of view.now)) (map root_seen keys.now) (Ok front) × (row ≡ front ++ map row_value fields.entry)) }
-    ensures fault { IfErr result (OnPassed (λ f. IsMadeOfEach (TreeEvaluatesTo (scene_of view.now)) (map root_seen keys.now) (Err f))) }
+    ensures fault { IfErr result (OnCause (λ f. IsMadeOfEach (TreeEvaluatesTo (scene_of view.now)) (map root_seen keys.now) (Err f))) }
 {
     match values_on(alloc, keys, view, memory) {
-        Ok(front) => match Row::new(front, fields) {
-            Ok(row) => Ok(row),
-            Err(_) => Err(EvalFault::NoMemory),
-        },
+        Ok(front) => Ok(Row::new(front, fields)?),
         Err(fault) => Err(fault),
     }
 }
@@ -116,7 +110,7 @@ fn row_on<'a, K: Remembering>(
     requires fit { AllByRecursion (Fits K.recollection (scene_of view.now)) (map root_seen items.now) }
     requires fit_too { AllByRecursion (Fits K.recollection (scene_of view.now)) (map root_seen keys.now) }
     ensures row { IfOk result (λ row. AreEvaluated (scene_of view.now) (map root_seen items.now) (map root_seen keys.now) (Ok row)) }
-    ensures fault { IfErr result (OnPassed (λ f. AreEvaluated (scene_of view.now) (map root_seen items.now) (map root_seen keys.now) (Err f))) }
+    ensures fault { IfErr result (OnCause (λ f. AreEvaluated (scene_of view.now) (map root_seen items.now) (map root_seen keys.now) (Err f))) }
 {
     match values_on(alloc, items, view, memory) {
         Ok(fields) => row_before(alloc, keys, view, memory, fields),
@@ -139,7 +133,7 @@ fn row_of<'a, K: Remembering>(
     requires keys { map root_seen keys.now ≡ key_trees (select_seen select.now) }
     requires fits { SelectFits K.recollection (select_seen select.now) (scene store.now select.now.from tuple.now epoch.now) }
     ensures row { IfOk result (λ row. IsRowOf (select_seen select.now) (scene store.now select.now.from tuple.now epoch.now) (Ok (answer_row (select_seen select.now) epoch.now row))) }
-    ensures fault { IfErr result (OnPassed (λ f. IsRowOf (select_seen select.now) (scene store.now select.now.from tuple.now epoch.now) (Err f))) }
+    ensures fault { IfErr result (OnCause (λ f. IsRowOf (select_seen select.now) (scene store.now select.now.from tuple.now epoch.now) (Err f))) }
 {
     let view = View {
         store,
@@ -167,10 +161,10 @@ pub fn rows_on<'a, K: Remembering>(
     requires keys { map root_seen keys.now ≡ key_trees (select_seen select.now) }
     requires fits { AnswerFits K.recollection (select_seen select.now) store.now epoch.now }
     ensures rows { IfOk result (λ rows. IsMadeOfEach (IsTupleRow (select_seen select.now) store.now epoch.now) kept.now (Ok (map (answer_row (select_seen select.now) epoch.now) rows.items))) }
-    ensures fault { IfErr result (OnTuple (λ f. IsMadeOfEach (IsTupleRow (select_seen select.now) store.now epoch.now) kept.now (Err f))) }
+    ensures fault { IfErr result (OnCause (λ f. IsMadeOfEach (IsTupleRow (select_seen select.now) store.now epoch.now) kept.now (Err f))) }
 {
     let Ok(mut rows) = Vec::with_capacity(alloc, kept.len()) else {
-        return Err(QueryFault::NoMemory);
+        return Err(Fault::NoMemory);
     };
     for tuple in kept {
         let row = match row_of(
@@ -184,10 +178,10 @@ pub fn rows_on<'a, K: Remembering>(
             memory,
         ) {
             Ok(row) => row,
-            Err(fault) => return Err(QueryFault::on(tuple, fault)),
+            Err(fault) => return Err(fault_on(tuple, fault)),
         };
         if rows.push(row).is_err() {
-            return Err(QueryFault::NoMemory);
+            return Err(Fault::NoMemory);
         }
     }
     Ok(rows)

@@ -3,7 +3,7 @@ ghost use Rattle.std.specs.Prelude.{◌≡◌, Ok, Err, Some, IfOk, IfErr, is_no
 ghost use Rattle.std.specs.List.{AllByRecursion, AllZip};
 ghost use Rattle.mob_typed.specs.Trees.{typed_of};
 ghost use Rattle.mob_eval.specs.Views.{scene_of};
-ghost use Rattle.mob_outcome.specs.Faults.{OnPassed};
+ghost use Rattle.mob_list.specs.Faults.{OnCause};
 ghost use Rattle.mob_value.specs.Held.{held};
 ghost use Rattle.mob_tail.specs.Aggregated.{leaves_out};
 ghost use Rattle.mob_tail.specs.Groups.{column_on};
@@ -13,9 +13,9 @@ ghost use Rattle.mob_tail.specs.GroupSteps.{column_seen, IsAggregateOn, IsColumn
 use crate::adding::put;
 use crate::columns::{Column, argument_on, column_on};
 use crate::state::{State, nothing_yet, state_in, value_of};
-use mob_eval::{Held, View, fault_at};
+use mob_eval::{Held, View};
+use mob_list::fault::{Fault, fault_at};
 use mob_outcome::fault::EvalFault;
-use mob_slice::OpFault;
 use mob_tuples::Tuple;
 use mob_typed::{Agg, TExpr};
 use mob_value::Value;
@@ -45,7 +45,7 @@ fn argument_in(
     state: &mut State,
 ) -> Result<(), EvalFault>
     ensures value { IfOk result (λ _. IsStateWith (leaves_out agg.kind (held argument.entry)) agg.kind agg.ty state.old (held argument.entry) (Ok state.new)) }
-    ensures fault { IfErr result (OnPassed (λ f. (f.0 ≡ agg.place) × IsStateWith (leaves_out agg.kind (held argument.entry)) agg.kind agg.ty state.old (held argument.entry) (Err (OpFault.Passed f.1)))) }
+    ensures fault { IfErr result (OnCause (λ f. (f.0 ≡ agg.place) × IsStateWith (leaves_out agg.kind (held argument.entry)) agg.kind agg.ty state.old (held argument.entry) (Err (Fault.Because f.1)))) }
 {
     let more = state_in(alloc, agg, state, argument.get());
     drop(argument);
@@ -64,7 +64,7 @@ fn aggregate_on(
     state: &mut State,
 ) -> Result<(), EvalFault>
     ensures value { IfOk result (λ _. IsAggregateOn (scene_of view.now) (typed_of e.now) agg state.old (Ok state.new)) }
-    ensures fault { IfErr result (OnPassed (λ f. IsAggregateOn (scene_of view.now) (typed_of e.now) agg state.old (Err f))) }
+    ensures fault { IfErr result (OnCause (λ f. IsAggregateOn (scene_of view.now) (typed_of e.now) agg state.old (Err f))) }
 {
     match argument_on(alloc, agg.kind, e, view) {
         Ok(argument) => argument_in(alloc, agg, argument, state),
@@ -75,7 +75,7 @@ fn aggregate_on(
 // Puts the value of a column on a tuple in the place of what is held of it.
 fn plain_on(alloc: Global, e: &TExpr, view: &View<'_>, state: &mut State) -> Result<(), EvalFault>
     ensures value { IfOk result (λ _. state.new ≡ State.Whole (column_on (scene_of view.now) (typed_of e.now))) }
-    ensures memory { IfErr result (λ e. e ≡ EvalFault.NoMemory) }
+    ensures memory { IfErr result (λ e. e ≡ Fault.NoMemory) }
 {
     match column_on(alloc, e, view) {
         Ok(held) => match held.own(alloc) {
@@ -83,9 +83,9 @@ fn plain_on(alloc: Global, e: &TExpr, view: &View<'_>, state: &mut State) -> Res
                 put(state, State::Whole(value));
                 Ok(())
             }
-            Err(_) => Err(EvalFault::NoMemory),
+            Err(_) => Err(Fault::NoMemory),
         },
-        Err(_) => Err(EvalFault::NoMemory),
+        Err(_) => Err(Fault::NoMemory),
     }
 }
 
@@ -97,7 +97,7 @@ fn cell_with(
     is_first: bool,
 ) -> Result<(), EvalFault>
     ensures with { IfOk result (λ _. IsCellWith (scene_of view.now) is_first cell.old cell.new) }
-    ensures fault { IfErr result (OnPassed (λ f. IsColumnWith (scene_of view.now) (column_seen cell.old.column) cell.old.state is_first (Err f))) }
+    ensures fault { IfErr result (OnCause (λ f. IsColumnWith (scene_of view.now) (column_seen cell.old.column) cell.old.state is_first (Err f))) }
 {
     let column = cell.column;
     match column.agg {
@@ -120,7 +120,7 @@ fn cells_with(
     is_first: bool,
 ) -> Result<(), EvalFault>
     ensures with { IfOk result (λ _. AllZip (IsCellWith (scene_of view.now) is_first) cells.old.items cells.new.items) }
-    ensures fault { IfErr result (OnPassed (λ f. FailsInCells (scene_of view.now) is_first cells.old.items f)) }
+    ensures fault { IfErr result (OnCause (λ f. FailsInCells (scene_of view.now) is_first cells.old.items f)) }
 {
     for number in 0..cells.len() {
         match cell_with(alloc, &mut cells[number], view, is_first) {
@@ -150,7 +150,7 @@ pub fn group_with(
 ) -> Result<(), EvalFault>
     ensures first { (tuples : _) → group.old.first ≡ first_of tuples → group.new.first ≡ first_of (tuples ++ tuple.now ∷ []) }
     ensures with { IfOk result (λ _. AllZip (IsCellWith (scene_of view.now) (is_none group.old.first)) group.old.cells.items group.new.cells.items) }
-    ensures fault { IfErr result (OnPassed (λ f. FailsInCells (scene_of view.now) (is_none group.old.first) group.old.cells.items f)) }
+    ensures fault { IfErr result (OnCause (λ f. FailsInCells (scene_of view.now) (is_none group.old.first) group.old.cells.items f)) }
 {
     let is_first = group.first.is_none();
     group.first = Some(first_with(&group.first, tuple));

@@ -6,7 +6,7 @@ ghost use Rattle.mob_typed.specs.Selects.{select_seen};
 ghost use Rattle.mob_literal.specs.Fields.{field_text};
 ghost use Rattle.mob_groups.specs.Groups.{first_keys, group_number};
 ghost use Rattle.mob_eval.specs.Views.{scene_of};
-ghost use Rattle.mob_eval.specs.QueryFaults.{OnTuple};
+ghost use Rattle.mob_list.specs.Faults.{OnCause};
 ghost use Rattle.mob_tail.specs.Groups.{column_on, same_texts, group_fields, has_groups, groups_on, first_value};
 ghost use Rattle.mob_value.specs.Null.{value_or_null};
 ghost use Rattle.mob_tail.specs.GroupedAnswers.{columns_of, item_of, key_value, keys_from, IsColumnValue, IsGroupedFault};
@@ -18,8 +18,9 @@ ghost use Rattle.mob_tail.specs.GroupSteps.{first_of, IsGroupOf, AreGroupsOf, ke
 use crate::columns::{column_on, columns_of, is_bare};
 use crate::group_cells::{Group, group_with, no_groups, values_of};
 use mob_arrange::{Row, RowValue};
-use mob_eval::{QueryFault, View};
+use mob_eval::{QueryFault, View, fault_on};
 use mob_groups::{Groups, numbered};
+use mob_list::fault::Fault;
 use mob_list::items::Items;
 use mob_list::text::Text;
 use mob_literal::write_field;
@@ -134,7 +135,7 @@ fn grouped_tuples(
     requires start { AreGroupsOf (select_seen select.now) store.now epoch.now (keys_on (select_seen select.now) store.now epoch.now kept.now) [] groups.old.items }
     ensures groups { IfOk result (λ _. AreGroupsOf (select_seen select.now) store.now epoch.now (keys_on (select_seen select.now) store.now epoch.now kept.now) kept.now groups.new.items) }
     ensures fits { IfOk result (λ _. IsGroupedFault (select_seen select.now) store.now epoch.now kept.now None) }
-    ensures fault { IfErr result (OnTuple (λ f. IsGroupedFault (select_seen select.now) store.now epoch.now kept.now (Some f))) }
+    ensures fault { IfErr result (OnCause (λ f. IsGroupedFault (select_seen select.now) store.now epoch.now kept.now (Some f))) }
 {
     for (place, tuple) in kept.iter().enumerate() {
         let view = View {
@@ -145,7 +146,7 @@ fn grouped_tuples(
         };
         match group_with(alloc, &mut groups[numbers[place]], tuple, &view) {
             Ok(()) => {}
-            Err(fault) => return Err(QueryFault::on(tuple, fault)),
+            Err(fault) => return Err(fault_on(tuple, fault)),
         }
     }
     Ok(())
@@ -340,12 +341,12 @@ pub fn grouped_rows<'a>(
 ) -> Result<Vec<Row<'a>>, QueryFault>
     ensures rows { IfOk result (λ rows. AllZip (IsGroupRowOf (select_seen select.now) store.now epoch.now) (groups_on (select_seen select.now) store.now epoch.now kept.now) rows.items) }
     ensures fits { IfOk result (λ _. IsGroupedFault (select_seen select.now) store.now epoch.now kept.now None) }
-    ensures fault { IfErr result (OnTuple (λ f. IsGroupedFault (select_seen select.now) store.now epoch.now kept.now (Some f))) }
+    ensures fault { IfErr result (OnCause (λ f. IsGroupedFault (select_seen select.now) store.now epoch.now kept.now (Some f))) }
 {
     let Ok((numbers, mut groups)) = begun(alloc, select, store, kept, epoch) else {
-        return Err(QueryFault::NoMemory);
+        return Err(Fault::NoMemory);
     };
-    match grouped_tuples(
+    grouped_tuples(
         alloc,
         select,
         store,
@@ -353,12 +354,6 @@ pub fn grouped_rows<'a>(
         epoch,
         numbers.as_slice(),
         &mut groups,
-    ) {
-        Ok(()) => {}
-        Err(fault) => return Err(fault),
-    }
-    match rows_of(alloc, select, store, groups, epoch) {
-        Ok(rows) => Ok(rows),
-        Err(_) => Err(QueryFault::NoMemory),
-    }
+    )?;
+    Ok(rows_of(alloc, select, store, groups, epoch)?)
 }

@@ -11,10 +11,11 @@ ghost use Rattle.mob_tail.specs.States.{AreTruthsWith, IsHeld, IsStartState, IsS
 
 use crate::adding::{aggregate_in, leaves_out, ones_on, put};
 use mob_frac::Frac;
+use mob_list::fault::Fault;
 use mob_list::items::Items;
 use mob_operators::AggKind;
 use mob_ordinary::kinds::{bool_or_null, int_or_null};
-use mob_slice::{Course, Moving, OpFault, Steady};
+use mob_slice::{Course, Formula, Moving, Steady};
 use mob_tagg::{Conjunctions, Counts, Disjunctions, Part, Uniting, gathered, with_value};
 use mob_typed::Agg;
 use mob_value::Value;
@@ -58,9 +59,9 @@ fn part_in<C: Course + Drop, U: Uniting<C>>(
     alloc: Global,
     parts: &mut Items<Part<C>>,
     value: Moving<C>,
-) -> Result<(), OpFault>
+) -> Result<(), Fault<Formula>>
     ensures more { OnOk result ((t : Ratio) → united_parts U.op C.value_of parts.new t ≡ united_by U.op (united_parts U.op C.value_of parts.old t) (value_at C.value_of value t)) }
-    ensures memory { IfErr result (λ e. e ≡ OpFault.NoMemory) }
+    ensures memory { IfErr result (λ e. e ≡ Fault.NoMemory) }
 {
     let before = mem::replace(parts, Items::new(alloc));
     match with_value::<C, U>(alloc, before.into_vec(), 1, value) {
@@ -68,7 +69,7 @@ fn part_in<C: Course + Drop, U: Uniting<C>>(
             put(parts, Items::from_vec(more));
             Ok(())
         }
-        Err(_) => Err(OpFault::NoMemory),
+        Err(_) => Err(Fault::NoMemory),
     }
 }
 
@@ -77,13 +78,13 @@ fn counts_in(
     alloc: Global,
     parts: &mut Items<Part<Steady<Frac>>>,
     value: &Value,
-) -> Result<(), OpFault>
+) -> Result<(), Fault<Formula>>
     ensures with { (ty : _) → IsStateWith false AggKind.TCount ty (State.Counts parts.old) value.now (made_in result (State.Counts parts.new)) }
 {
     match ones_on(alloc, value) {
         Ok(Some(ones)) => part_in::<Steady<Frac>, Counts>(alloc, parts, ones),
         Ok(None) => Ok(()),
-        Err(_) => Err(OpFault::NoMemory),
+        Err(_) => Err(Fault::NoMemory),
     }
 }
 
@@ -105,9 +106,9 @@ fn truths_in<U: Uniting<Steady<bool>>>(
     alloc: Global,
     parts: &mut Items<Part<Steady<bool>>>,
     value: &Value,
-) -> Result<(), OpFault>
+) -> Result<(), Fault<Formula>>
     ensures more { OnOk result (AreTruthsWith U.op parts.old (truths_of value.now) parts.new) }
-    ensures memory { IfErr result (λ e. e ≡ OpFault.NoMemory) }
+    ensures memory { IfErr result (λ e. e ≡ Fault.NoMemory) }
 {
     match truths_copy(alloc, value) {
         Ok(Some(moving)) => {
@@ -116,15 +117,21 @@ fn truths_in<U: Uniting<Steady<bool>>>(
             part_in::<Steady<bool>, U>(alloc, parts, moving)
         }
         Ok(None) => Ok(()),
-        Err(_) => Err(OpFault::NoMemory),
+        Err(_) => Err(Fault::NoMemory),
     }
 }
 
 /// Brings one more value into an aggregate, where `state` is that of the values without it.
 ///
-/// `Passed` names the formula that adding the value passes: F2 of `+` for a count or a sum, and for
-/// a sum over time the first formula of `+` at each instant. NULL is left out but by `count(*)`.
-pub fn state_in(alloc: Global, agg: Agg, state: &mut State, value: &Value) -> Result<(), OpFault>
+/// The fault names the formula that adding the value passes: F2 of `+` for a count or a sum, and
+/// for a sum over time the first formula of `+` at each instant. NULL is left out but by
+/// `count(*)`.
+pub fn state_in(
+    alloc: Global,
+    agg: Agg,
+    state: &mut State,
+    value: &Value,
+) -> Result<(), Fault<Formula>>
     ensures with { IsStateWith (leaves_out agg.kind value.now) agg.kind agg.ty state.old value.now (made_in result state.new) }
 {
     if leaves_out(agg.kind, value) {

@@ -8,12 +8,12 @@ use Rattle.csv.specs.Records.{AllText}
 use Rattle.mob_cells.proofs.Making.{list_read}
 use Rattle.mob_list.proofs.Each.{each_both}
 use Rattle.mob_ratio.specs.Ratio.{Ratio}
-use Rattle.mob_slice.specs.Entries.{IsFirst, OnFormula}
+use Rattle.mob_list.specs.Faults.{OnCause, fault_at}
+use Rattle.mob_slice.specs.Entries.{IsFirst}
 use Rattle.mob_slice.specs.declared.formula.Formula.{Formula}
 use Rattle.mob_value.specs.declared.value.Value.{Value}
-use Rattle.mob_slice.specs.declared.formula.OpFault.{OpFault}
-use Rattle.mob_slice.specs.declared.formula.OpFault.TheVariants.{Passed, NoMemory}
-use Rattle.mob_thin_run.specs.RowFaults.{OnRowFault, thin_row_fault}
+use Rattle.mob_list.specs.declared.fault.Fault.{Fault}
+use Rattle.mob_list.specs.declared.fault.Fault.TheVariants.{Because, NoMemory}
 use Rattle.mob_literal.specs.Fields.{field_text}
 use Rattle.mob_records.specs.AnswerText.{record_line}
 use Rattle.mob_thin_run.specs.ThinRows.{HasText, IsThinRecord, IsThinText, AreThinRows, OnTests, RowTestsFit, RowTestPasses, PassesFirst}
@@ -68,12 +68,12 @@ first_at d rows i row n f lt is e h k = record {
 
 -- the fault of a value behind values that fit is that of the row: a part that passes, or memory
 -- that is refused
-pub fault_at : (d : Ratio) (xs : List Value) (i : ℕ) (x : Value) (e : OpFault) → i < length xs → x ≡ get_or xs i x → RowTestsFit d (take i xs) → OnTests d x (λ tests. OnFormula (λ f. IsFirst tests (Some f)) e) → OnFormula (RowTestPasses d xs) e
-fault_at d xs i x (Passed f) lt is h k = passes_at d xs i x f lt is h k
-fault_at d xs i x NoMemory lt is h k = tt
+pub test_fault_at : (d : Ratio) (xs : List Value) (i : ℕ) (x : Value) (e : Fault Formula) → i < length xs → x ≡ get_or xs i x → RowTestsFit d (take i xs) → OnTests d x (λ tests. OnCause (λ f. IsFirst tests (Some f)) e) → OnCause (RowTestPasses d xs) e
+test_fault_at d xs i x (Because f) lt is h k = passes_at d xs i x f lt is h k
+test_fault_at d xs i x NoMemory lt is h k = tt
 
-pub row_fault_at : (d : Ratio) (rows : List (List Value)) (i : ℕ) (row : List Value) (n : ℕ) (e : OpFault) → i < length rows → row ≡ get_or rows i row → n ≡ i → AllByRecursion (RowTestsFit d) (take i rows) → OnFormula (RowTestPasses d row) e → OnRowFault (PassesFirst d rows) (thin_row_fault n e)
-row_fault_at d rows i row n (Passed f) lt is e h k = first_at d rows i row n f lt is e h k
+pub row_fault_at : (d : Ratio) (rows : List (List Value)) (i : ℕ) (row : List Value) (n : ℕ) (e : Fault Formula) → i < length rows → row ≡ get_or rows i row → n ≡ i → AllByRecursion (RowTestsFit d) (take i rows) → OnCause (RowTestPasses d row) e → OnCause (λ f. PassesFirst d rows f.0 f.1) (fault_at n e)
+row_fault_at d rows i row n (Because f) lt is e h k = first_at d rows i row n f lt is e h k
 row_fault_at d rows i row n NoMemory lt is e h k = tt
 
 -- ---- rows and their records

@@ -8,6 +8,7 @@ ghost use Rattle.mob_thin_run.specs.RowFaults.{EndsWith};
 
 use crate::command::settings;
 use crate::rows::{RowFault, thin_text};
+use mob_list::fault::Fault;
 use mob_outside::{Sink, Source};
 use mob_trips::{Ending, put_text, read_trips};
 use mob_tuples::Tuple;
@@ -18,11 +19,11 @@ fn ending_of(fault: RowFault) -> Ending
     ensures ending { EndsWith fault result }
 {
     match fault {
-        RowFault::Passed { row, formula } => Ending::Overflow {
+        Fault::Because((row, formula)) => Ending::Overflow {
             rows: Tuple::new().with(row),
             formula,
         },
-        RowFault::NoMemory => Ending::NoMemory,
+        Fault::NoMemory => Ending::NoMemory,
     }
 }
 

@@ -4,74 +4,51 @@ ghost use Rattle.std.specs.List.{AllZip, AllByRecursion};
 ghost use Rattle.csv.specs.Records.{AllText};
 ghost use Rattle.mob_ratio.specs.Order.{up_to};
 ghost use Rattle.mob_ratio.specs.Sign.{nil};
-ghost use Rattle.mob_slice.specs.Entries.{IsJudged, OnFormula};
+ghost use Rattle.mob_list.specs.Faults.{OnCause};
+ghost use Rattle.mob_slice.specs.Entries.{IsJudged};
 ghost use Rattle.mob_literal.specs.Fields.{field_text};
 ghost use Rattle.mob_thin_run.specs.ThinRows.{IsThinValue, IsThinRecord, IsThinText, OnTests, PassesFirst, RowTestsFit, RowTestPasses};
-ghost use Rattle.mob_thin_run.specs.RowFaults.{OnRowFault, thin_row_fault};
 
 use mob_frac::Frac;
+use mob_list::fault::{Fault, fault_at};
 use mob_list::items::Items;
 use mob_list::text::Text;
 use mob_literal::write_field;
 use mob_records::records_text;
 use mob_scalar::Epoch;
 use mob_simplify::thin;
-use mob_slice::{Formula, OpFault};
+use mob_slice::Formula;
 use mob_value::{Rows, Value};
 use std::alloc::{AllocError, Global};
 
-/// Why the rows have no text.
-#[derive(Drop)]
-pub enum RowFault {
-    /// A part of this formula does not fit, in a test of the row of this number, from 0.
-    Passed {
-        /// The number of the row.
-        row: u32,
-        /// The formula.
-        formula: Formula,
-    },
-    /// Out of memory.
-    NoMemory,
-}
-
-impl From<AllocError> for RowFault {
-    ghost use Rattle.std.specs.Prelude.{◌≡◌};
-    ghost use Rattle.mob_thin_run.specs.declared.rows.RowFault.TheVariants.{NoMemory};
-
-    ghost from_gives = { λ _ e. e ≡ NoMemory };
-
-    fn from(_: AllocError) -> RowFault {
-        RowFault::NoMemory
-    }
-}
+/// Why the rows have no text: the number of a row, from 0, with the formula that has a part that
+/// does not fit in a test of it, or out of memory.
+pub type RowFault = Fault<(u32, Formula)>;
 
 // The value with a trip simplified.
-fn thinned(alloc: Global, value: &Value, d: &Frac) -> Result<Value, OpFault>
+fn thinned(alloc: Global, value: &Value, d: &Frac) -> Result<Value, Fault<Formula>>
     requires not_negative { up_to nil d.now ≡ true }
     ensures thin { IfOk result (λ thin. IsThinValue d.now value.now thin) }
     ensures first { OnTests d.now value.now (λ tests. IsJudged tests result) }
 {
     match value {
         Value::MovingPoint(trip) => Ok(Value::MovingPoint(thin(alloc, trip, d)?)),
-        _ => match value.copy(alloc) {
-            Ok(copy) => Ok(copy),
-            Err(_) => Err(OpFault::NoMemory),
-        },
+        _ => Ok(value.copy(alloc)?),
     }
 }
 
 // The row with each trip simplified.
-fn thinned_row(alloc: Global, row: &[Value], d: &Frac) -> Result<Items<Value>, OpFault>
+fn thinned_row(alloc: Global, row: &[Value], d: &Frac) -> Result<Items<Value>, Fault<Formula>>
     requires not_negative { up_to nil d.now ≡ true }
     ensures thin { IfOk result (AllZip (IsThinValue d.now) row.now) }
     ensures fit { IfOk result (λ thin. RowTestsFit d.now row.now) }
-    ensures first { IfErr result (OnFormula (RowTestPasses d.now row.now)) }
+    ensures first { IfErr result (OnCause (RowTestPasses d.now row.now)) }
 {
     let mut thin = Items::new(alloc);
     for value in row {
         let next = thinned(alloc, value, d)?;
         if thin.push(next).is_err() {
-            return Err(OpFault::NoMemory);
+            return Err(Fault::NoMemory);
         }
     }
     Ok(thin)
@@ -105,27 +82,14 @@ fn thin_fields(
     row: &[Value],
     d: &Frac,
     epoch: &Epoch,
-) -> Result<Items<Text>, OpFault>
+) -> Result<Items<Text>, Fault<Formula>>
     requires not_negative { up_to nil d.now ≡ true }
     ensures fields { IfOk result (IsThinRecord d.now epoch.now row.now) }
     ensures fit { IfOk result (λ fields. RowTestsFit d.now row.now) }
-    ensures first { IfErr result (OnFormula (RowTestPasses d.now row.now)) }
+    ensures first { IfErr result (OnCause (RowTestPasses d.now row.now)) }
 {
     let thin = thinned_row(alloc, row, d)?;
-    match fields_of(alloc, thin.as_slice(), epoch) {
-        Ok(fields) => Ok(fields),
-        Err(_) => Err(OpFault::NoMemory),
-    }
-}
-
-// The fault of a row with so many rows before it.
-fn thin_row_fault(row: u32, fault: OpFault) -> RowFault
-    ensures same { result ≡ thin_row_fault row fault }
-{
-    match fault {
-        OpFault::Passed { formula } => RowFault::Passed { row, formula },
-        OpFault::NoMemory => RowFault::NoMemory,
-    }
+    Ok(fields_of(alloc, thin.as_slice(), epoch)?)
 }
 
 // The fields of all rows with each trip simplified, a row at a time.
@@ -139,14 +103,14 @@ fn thin_records(
     requires few { length rows.now ≤ 1000000 }
     ensures records { IfOk result (AllZip (IsThinRecord d.now epoch.now) rows.now) }
     ensures fit { IfOk result (λ records. AllByRecursion (RowTestsFit d.now) rows.now) }
-    ensures first { IfErr result (OnRowFault (PassesFirst d.now rows.now)) }
+    ensures first { IfErr result (OnCause (λ f. PassesFirst d.now rows.now f.0 f.1)) }
 {
     let mut records = Items::new(alloc);
     let mut number: u32 = 0;
     while let Some(row) = rows.get(number as usize) {
         let fields = match thin_fields(alloc, row, d, epoch) {
             Ok(fields) => fields,
-            Err(fault) => return Err(thin_row_fault(number, fault)),
+            Err(fault) => return Err(fault_at(number, fault)),
         };
         records.push(fields)?;
         number += 1;
@@ -178,7 +142,7 @@ pub fn thin_text(
     requires few { length rows.now ≤ 1000000 }
     ensures text { IfOk result (λ v. IsThinText d.now epoch.now rows.now v.items) }
     ensures fit { IfOk result (λ v. AllByRecursion (RowTestsFit d.now) rows.now) }
-    ensures first { IfErr result (OnRowFault (PassesFirst d.now rows.now)) }
+    ensures first { IfErr result (OnCause (λ f. PassesFirst d.now rows.now f.0 f.1)) }
 {
     let records = thin_records(alloc, rows, d, epoch)?;
     let names = names(alloc)?;

@@ -12,10 +12,11 @@ use Rattle.mob_slice.specs.Cut.{slice_value, slice_parts}
 use Rattle.mob_slice.specs.Sides.{HasValues, at_ends}
 use Rattle.mob_slice.specs.Lines.{plane_value_of, plane_parts_of}
 use Rattle.mob_slice.specs.PlaneLaws.{plane_laws}
-use Rattle.mob_slice.specs.Entries.{IsFirst, OnFormula, IsPartFault}
+use Rattle.mob_list.specs.Faults.{OnCause}
+use Rattle.mob_slice.specs.Entries.{IsFirst, IsPartFault}
 use Rattle.mob_slice.specs.declared.slice.Slice.{Slice}
 use Rattle.mob_slice.specs.declared.line.PlaneLine.{PlaneLine}
-use Rattle.mob_slice.specs.declared.formula.OpFault.{OpFault}
+use Rattle.mob_list.specs.declared.fault.Fault.{Fault}
 use Rattle.mob_slice.proofs.Cuts.{all_both, all_first, all_second}
 use Rattle.mob_list.proofs.Each.{each_both}
 use Rattle.mob_cells.specs.Cells.{IsIn, IsCut, IsSomeEnd}
@@ -30,6 +31,7 @@ use Rattle.mob_grid.specs.declared.tile.TileRange.{TileRange}
 use Rattle.mob_tile.specs.declared.pieces.Piece.{Piece}
 use Rattle.mob_tile.specs.Edges.{cuts_of, entry_of_values, entries_of_slice}
 use Rattle.mob_tile.specs.Pieces.{slices_of, IsInItsTile, HasOneTile, tile_on, least_of, AreTileCells, ArePiecesOf, ArePieces, IsPushed, Reaches}
+use Rattle.mob_slice.specs.declared.formula.Formula.{Formula}
 
 abbrev start : PlaneLine → Point
 start c = c.from
@@ -122,7 +124,7 @@ module _ (g : GridOf) (s : Slice PlaneLine) where
     inside = (subst (AllByRecursion (λ c. is_inside s.span c ≡ true)) e m.inside).1;
   }
 
-  pub piecing_fails : (cells rest later : List SpanOf) (c : SpanOf) (out : List Piece) (f : OpFault) → rest ≡ c ∷ later → IsPartFault F1 (at_ends (slice_parts plane_parts_of s) c) f → AreTileCells g s (cuts_of g s) cells → IsPiecing g s cells rest out → OnFormula (λ z. IsFirst (entry_of_values g s ∷ []) (Some z)) f
+  pub piecing_fails : (cells rest later : List SpanOf) (c : SpanOf) (out : List Piece) (f : Fault Formula) → rest ≡ c ∷ later → IsPartFault F1 (at_ends (slice_parts plane_parts_of s) c) f → AreTileCells g s (cuts_of g s) cells → IsPiecing g s cells rest out → OnCause (λ z. IsFirst (entry_of_values g s ∷ []) (Some z)) f
   piecing_fails cells rest later c out f e h k m =
       kept_fault (at_ends (slice_parts plane_parts_of s) c) (flat_map (slice_parts plane_parts_of s) (cuts_of g s)) f h (λ n z. n (subst (AllByRecursion (EndsFit s)) e (m.fail (cells_fit s (cuts_of g s) cells z k.cut.only))).0)
 
@@ -157,7 +159,7 @@ module _ (g : GridOf) (range : TileRange) (all : List (Slice PlaneLine)) where
     reach = (subst (AllByRecursion (Reaches g range)) e m.reach).1;
   }
 
-  pub gathering_fails : (rest later : List (Slice PlaneLine)) (s : Slice PlaneLine) (out : List Piece) (f : OpFault) → rest ≡ s ∷ later → OnFormula (λ z. IsFirst (entries_of_slice g s) (Some z)) f → IsGathering g range all rest out → OnFormula (λ z. IsFirst (flat_map (entries_of_slice g) all) (Some z)) f
+  pub gathering_fails : (rest later : List (Slice PlaneLine)) (s : Slice PlaneLine) (out : List Piece) (f : Fault Formula) → rest ≡ s ∷ later → OnCause (λ z. IsFirst (entries_of_slice g s) (Some z)) f → IsGathering g range all rest out → OnCause (λ z. IsFirst (flat_map (entries_of_slice g) all) (Some z)) f
   gathering_fails rest later s out f e h m = fitting_fails (entries_of_slice g) all rest later s f e m.fits h
 
   pub gathering_end : (rest : List (Slice PlaneLine)) (out : List Piece) → rest ≡ [] → IsOrdered start end all → IsGathering g range all rest out → ArePieces g all out × IsFirst (flat_map (entries_of_slice g) all) None

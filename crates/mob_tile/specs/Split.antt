@@ -19,9 +19,11 @@ use Rattle.mob_value.specs.ValueBoxes.{IsBoxOf}
 use Rattle.mob_grid.specs.Tiles.{GridOf, in_tile, tile_of, compare_tiles, range_of, range_parts, HasMany}
 use Rattle.mob_grid.specs.declared.tile.Tile.{Tile}
 use Rattle.mob_grid.specs.declared.tile.TileRange.{TileRange}
-use Rattle.mob_tile.specs.declared.splitting.SplitFault.{SplitFault}
-use Rattle.mob_tile.specs.declared.splitting.SplitFault.TheVariants.{Passed, Limit, NoMemory}
+use Rattle.mob_list.specs.declared.fault.Fault.{Fault}
+use Rattle.mob_tile.specs.declared.splitting.SplitCause.{SplitCause}
+use Rattle.mob_tile.specs.declared.splitting.SplitCause.TheVariants.{Passed, Limit}
 use Rattle.mob_tile.specs.Edges.{entries_of_slice}
+use Rattle.mob_list.specs.declared.fault.Fault.TheVariants.{Because, NoMemory}
 
 -- The part of the value a in a tile: it is normal, and has at each instant at which a is in the
 -- tile the value of a, and none elsewhere.
@@ -55,13 +57,13 @@ pub record OnRange (g : GridOf) (a : List (Slice PlaneLine)) (P : List Ratio →
 -- The refusals of the split, in their order: a quotient of the range of the box of a does not fit;
 -- else the range has more than 10,000 tiles; else the first entry of a slice that has a part that
 -- does not fit, slice by slice. An answer is given only where there is none of them.
-abbrev pub SplitAnswer : {V : Type 0} → GridOf → List (Slice PlaneLine) → List Ratio → TileRange → Result V SplitFault → Type 0
+abbrev pub SplitAnswer : {V : Type 0} → GridOf → List (Slice PlaneLine) → List Ratio → TileRange → Result V (Fault SplitCause) → Type 0
 SplitAnswer g a quotients range (Ok v) = AllFit quotients × (¬ HasMany range) × IsFirst (flat_map (entries_of_slice g) a) None
-SplitAnswer g a quotients range (Err (Passed f)) = ((f ≡ F2) × (¬ AllFit quotients)) ⊎ (AllFit quotients × (¬ HasMany range) × IsFirst (flat_map (entries_of_slice g) a) (Some f))
-SplitAnswer g a quotients range (Err Limit) = AllFit quotients × HasMany range
+SplitAnswer g a quotients range (Err (Because (Passed f))) = ((f ≡ F2) × (¬ AllFit quotients)) ⊎ (AllFit quotients × (¬ HasMany range) × IsFirst (flat_map (entries_of_slice g) a) (Some f))
+SplitAnswer g a quotients range (Err (Because Limit)) = AllFit quotients × HasMany range
 SplitAnswer g a quotients range (Err NoMemory) = Unit {0}
 
 -- The quotients and the limit are judged before memory is asked for.
-pub record IsLimited {V : Type 0} (quotients : List Ratio) (range : TileRange) (r : Result V SplitFault) : Type 0 where
-  pub quotients_first : (¬ AllFit quotients) → r ≡ Err (Passed F2)
-  pub limit_then : (AllFit quotients × HasMany range) → r ≡ Err Limit
+pub record IsLimited {V : Type 0} (quotients : List Ratio) (range : TileRange) (r : Result V (Fault SplitCause)) : Type 0 where
+  pub quotients_first : (¬ AllFit quotients) → r ≡ Err (Because (Passed F2))
+  pub limit_then : (AllFit quotients × HasMany range) → r ≡ Err (Because Limit)

@@ -10,7 +10,8 @@ ghost use Rattle.mob_tile.specs.Edges.{numbers_between, edge_of, edge_parts, edg
 use mob_cells::{Ends, root};
 use mob_frac::{Frac, Overflow};
 use mob_grid::edge;
-use mob_slice::{Formula, OpFault};
+use mob_list::fault::Fault;
+use mob_slice::Formula;
 use mob_span::Span;
 use std::alloc::{AllocError, Global};
 
@@ -40,7 +41,7 @@ pub fn differences(
     y: &Frac,
     low: i64,
     high: i64,
-) -> Result<Vec<Ends>, OpFault>
+) -> Result<Vec<Ends>, Fault<Formula>>
     ensures made { IsMadeBy F2 (flat_map (edge_parts c.now x.now y.now) (numbers_between low high)) (λ v. v.items ≡ map (edge_ends c.now x.now y.now) (numbers_between low high)) result }
 {
     let mut out = Vec::new(alloc);
@@ -48,20 +49,18 @@ pub fn differences(
         let next = match difference(c, x, y, m + 1) {
             Ok(next) => next,
             Err(_) => {
-                return Err(OpFault::Passed {
-                    formula: Formula::F2,
-                });
+                return Err(Fault::Because(Formula::F2));
             }
         };
         if add(&mut out, next).is_err() {
-            return Err(OpFault::NoMemory);
+            return Err(Fault::NoMemory);
         }
     }
     Ok(out)
 }
 
 /// The edges of time above one number and up to another.
-pub fn times(alloc: Global, c: &Frac, low: i64, high: i64) -> Result<Vec<Frac>, OpFault>
+pub fn times(alloc: Global, c: &Frac, low: i64, high: i64) -> Result<Vec<Frac>, Fault<Formula>>
     ensures made { IsMadeBy F2 (flat_map (time_parts c.now) (numbers_between low high)) (λ v. v.items ≡ map (edge_of c.now) (numbers_between low high)) result }
 {
     let mut out = Vec::new(alloc);
@@ -69,37 +68,30 @@ pub fn times(alloc: Global, c: &Frac, low: i64, high: i64) -> Result<Vec<Frac>, 
         let next = match edge(c, m + 1) {
             Ok(next) => next,
             Err(_) => {
-                return Err(OpFault::Passed {
-                    formula: Formula::F2,
-                });
+                return Err(Fault::Because(Formula::F2));
             }
         };
         if add(&mut out, next).is_err() {
-            return Err(OpFault::NoMemory);
+            return Err(Fault::NoMemory);
         }
     }
     Ok(out)
 }
 
 // Adds the root of a function, if there is one.
-fn push_root(out: &mut Vec<Frac>, span: &Span, f: &Ends) -> Result<(), OpFault>
+fn push_root(out: &mut Vec<Frac>, span: &Span, f: &Ends) -> Result<(), Fault<Formula>>
     requires level { IsLevel span.now f.now }
     ensures pushed { IsMadeBy F3 (root_parts span.now f.now) (λ _. out.new.items ≡ out.old.items ++ as_list (root_of span.now f.now)) result }
 {
     match root(span, f) {
         Ok(None) => Ok(()),
-        Ok(Some(r)) => match add(out, r) {
-            Ok(()) => Ok(()),
-            Err(_) => Err(OpFault::NoMemory),
-        },
-        Err(passed) => Err(OpFault::Passed {
-            formula: passed.formula,
-        }),
+        Ok(Some(r)) => Ok(add(out, r)?),
+        Err(passed) => Err(Fault::Because(passed)),
     }
 }
 
 /// The roots of some functions on a span.
-pub fn roots_of(alloc: Global, span: &Span, functions: &[Ends]) -> Result<Vec<Frac>, OpFault>
+pub fn roots_of(alloc: Global, span: &Span, functions: &[Ends]) -> Result<Vec<Frac>, Fault<Formula>>
     requires level { AllByRecursion (IsLevel span.now) functions.now }
     ensures made { IsMadeBy F3 (roots_parts span.now functions.now) (λ v. v.items ≡ roots span.now functions.now) result }
 {

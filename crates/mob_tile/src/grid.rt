@@ -13,7 +13,7 @@ use crate::splitting::{SplitFault, split_by};
 use mob_frac::{Frac, Overflow};
 use mob_grid::{Tile, TileRange, band_within, floor_over, is_positive};
 use mob_plane::Point;
-use mob_slice::{Formula, Moving, Passed, PlaneLine};
+use mob_slice::{Formula, Moving, PlaneLine};
 use mob_span::Span;
 use mob_stbox::{Area, StBox};
 use std::alloc::Global;
@@ -112,9 +112,9 @@ impl Grid {
 
     #[tactic(auto, unfolding(mob_stbox::specs::Boxes::is_whole))]
     /// All tiles that a box reaches: those between the floors of its sides and ends, divided by
-    /// those of a tile. An end that is left out counts as one that is not. `Passed` names F2,
+    /// those of a tile. An end that is left out counts as one that is not. The fault names F2,
     /// exactly where a quotient does not fit.
-    pub fn range(&self, b: &StBox) -> Result<TileRange, Passed>
+    pub fn range(&self, b: &StBox) -> Result<TileRange, Formula>
         requires whole { is_whole b.now ≡ true }
         ensures value { OnSides b.now (λ a s. IsComputed F2 (range_parts self.now a s) (range_of self.now a s) result) }
     {
@@ -126,9 +126,7 @@ impl Grid {
         };
         match self.between(area, time) {
             Ok(range) => Ok(range),
-            Err(_) => Err(Passed {
-                formula: Formula::F2,
-            }),
+            Err(_) => Err(Formula::F2),
         }
     }
     /// The parts of a moving point in the tiles, by rising tile: all tiles in which it is at some

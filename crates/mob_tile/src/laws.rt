@@ -12,8 +12,9 @@ ghost use Rattle.mob_slice.specs.declared.slice.Slice.{Slice};
 ghost use Rattle.mob_slice.specs.declared.line.PlaneLine.{PlaneLine};
 ghost use Rattle.mob_grid.specs.Tiles.{GridOf, IsGrid, InTile, in_tile, tile_of, InRange, range_of, IsLeastShared, least_shared};
 ghost use Rattle.mob_tile.specs.Split.{IsSplit, HasPartAt, OnRange, SplitAnswer};
-ghost use Rattle.mob_tile.specs.declared.splitting.SplitFault.{SplitFault};
-ghost use Rattle.mob_tile.specs.declared.splitting.SplitFault.TheVariants.{NoMemory};
+ghost use Rattle.mob_list.specs.declared.fault.Fault.{Fault};
+ghost use Rattle.mob_list.specs.declared.fault.Fault.TheVariants.{NoMemory};
+ghost use Rattle.mob_tile.specs.declared.splitting.SplitCause.{SplitCause};
 ghost use Rattle.mob_grid.specs.declared.tile.Tile.{Tile as TileOf};
 ghost use Rattle.mob_grid.specs.declared.tile.TileRange.{TileRange};
 
@@ -51,6 +52,6 @@ pub fn one_split()
 /// `split` has one answer on a value, out of memory aside: parts leave no refusal, and there is one
 /// refusal.
 pub fn one_answer()
-    ensures apart { (g : GridOf) (a : List (Slice PlaneLine)) (parts : List (TileOf × List (Slice PlaneLine))) (f : SplitFault) → f ≢ NoMemory → OnRange g a (λ quotients range. SplitAnswer g a quotients range (Ok parts)) → OnRange g a (λ quotients range. SplitAnswer {V = List (TileOf × List (Slice PlaneLine))} g a quotients range (Err f)) → ⊥ }
-    ensures one { (g : GridOf) (a : List (Slice PlaneLine)) (e f : SplitFault) → e ≢ NoMemory → f ≢ NoMemory → OnRange g a (λ quotients range. SplitAnswer {V = List (TileOf × List (Slice PlaneLine))} g a quotients range (Err e)) → OnRange g a (λ quotients range. SplitAnswer {V = List (TileOf × List (Slice PlaneLine))} g a quotients range (Err f)) → e ≡ f }
+    ensures apart { (g : GridOf) (a : List (Slice PlaneLine)) (parts : List (TileOf × List (Slice PlaneLine))) (f : Fault SplitCause) → f ≢ NoMemory → OnRange g a (λ quotients range. SplitAnswer g a quotients range (Ok parts)) → OnRange g a (λ quotients range. SplitAnswer {V = List (TileOf × List (Slice PlaneLine))} g a quotients range (Err f)) → ⊥ }
+    ensures one { (g : GridOf) (a : List (Slice PlaneLine)) (e f : Fault SplitCause) → e ≢ NoMemory → f ≢ NoMemory → OnRange g a (λ quotients range. SplitAnswer {V = List (TileOf × List (Slice PlaneLine))} g a quotients range (Err e)) → OnRange g a (λ quotients range. SplitAnswer {V = List (TileOf × List (Slice PlaneLine))} g a quotients range (Err f)) → e ≡ f }
 {}

@@ -12,4 +12,4 @@ mod splitting;
 
 pub use grid::Grid;
 pub use mob_grid::{Tile, TileRange, is_positive};
-pub use splitting::SplitFault;
+pub use splitting::{SplitCause, SplitFault};

@@ -21,8 +21,9 @@ use crate::grid::Grid;
 use mob_cells::{Ends, append};
 use mob_frac::Frac;
 use mob_grid::{Tile, TileRange};
+use mob_list::fault::Fault;
 use mob_plane::{Point, greater, smaller};
-use mob_slice::{OpFault, PlaneLine, Ranked, Slice, cut, operator_fault};
+use mob_slice::{Formula, PlaneLine, Ranked, Slice, cut};
 use mob_span::Span;
 use std::alloc::{AllocError, Global};
 use std::cmp::Ordering;
@@ -68,7 +69,7 @@ fn edges_of(
     grid: &Grid,
     range: &TileRange,
     slice: &Slice<PlaneLine>,
-) -> Result<Edges, OpFault>
+) -> Result<Edges, Fault<Formula>>
     requires sound { IsSound (λ c. c.from) (λ c. c.to) slice.now }
     requires reaches { Reaches grid.now range.now slice.now }
     ensures made { IsMadeBy F2 (edges_parts grid.now slice.now) (λ e. (e.functions.items ≡ differences grid.now slice.now) × (e.times.items ≡ map (edge_of grid.now.width) (t_edges grid.now slice.now))) result }
@@ -92,24 +93,21 @@ fn edges_of(
     };
     match append(&mut functions, more) {
         Ok(()) => {}
-        Err(_) => return Err(OpFault::NoMemory),
+        Err(_) => return Err(Fault::NoMemory),
     }
     Ok(Edges { functions, times })
 }
 
 // Where the slice is cut.
-fn cuts_on(alloc: Global, span: &Span, edges: Edges) -> Result<Vec<Frac>, OpFault>
+fn cuts_on(alloc: Global, span: &Span, edges: Edges) -> Result<Vec<Frac>, Fault<Formula>>
     requires level { AllByRecursion (IsLevel span.now) edges.functions.items }
     ensures made { IsMadeBy F3 (roots_parts span.now edges.functions.items) (λ v. v.items ≡ roots span.now edges.functions.items ++ edges.times.items) result }
 {
     let Edges { functions, times } = edges;
-    let mut cuts = match roots_of(alloc, span, functions.as_slice()) {
-        Ok(cuts) => cuts,
-        Err(fault) => return Err(fault),
-    };
+    let mut cuts = roots_of(alloc, span, functions.as_slice())?;
     match append(&mut cuts, times) {
         Ok(()) => Ok(cuts),
-        Err(_) => Err(OpFault::NoMemory),
+        Err(_) => Err(Fault::NoMemory),
     }
 }
 
@@ -141,10 +139,7 @@ fn cells_of(
     let _size = grid.size();
     let _width = grid.width();
     let mut cuts = cuts;
-    match sort_cuts(&mut cuts) {
-        Ok(()) => {}
-        Err(error) => return Err(error),
-    }
+    sort_cuts(&mut cuts)?;
     match cells_at(alloc, &slice.span, cuts.as_slice()) {
         Ok(cells) => Ok(cells),
         Err(error) => Err(error),
@@ -158,16 +153,13 @@ fn piece_on(
     range: &TileRange,
     slice: &Slice<PlaneLine>,
     cell: &Span,
-) -> Result<Piece, OpFault>
+) -> Result<Piece, Fault<Formula>>
     requires holds { IsSound (λ c. c.from) (λ c. c.to) slice.now × (is_inside slice.now.span cell.now ≡ true) }
     requires reaches { Reaches grid.now range.now slice.now }
     requires one { HasOneTile grid.now slice.now cell.now }
     ensures piece { IsMadeBy F1 (at_ends (slice_parts plane_parts_of slice.now) cell.now) (λ q. HasValues plane_value_of (λ c. c.from) (λ c. c.to) (slice_value plane_value_of slice.now) cell.now q.slice × IsInItsTile grid.now q) result }
 {
-    let part = match cut(alloc, slice, cell) {
-        Ok(part) => part,
-        Err(fault) => return Err(operator_fault(fault)),
-    };
+    let part = cut(alloc, slice, cell)?;
     let tile = grid.tile_at(
         range,
         &least(&part.course.from, &part.course.to),
@@ -184,20 +176,15 @@ fn push_piece(
     range: &TileRange,
     slice: &Slice<PlaneLine>,
     cell: &Span,
-) -> Result<(), OpFault>
+) -> Result<(), Fault<Formula>>
     requires holds { IsSound (λ c. c.from) (λ c. c.to) slice.now × (is_inside slice.now.span cell.now ≡ true) }
     requires reaches { Reaches grid.now range.now slice.now }
     requires one { HasOneTile grid.now slice.now cell.now }
     ensures pushed { IsMadeBy F1 (at_ends (slice_parts plane_parts_of slice.now) cell.now) (λ _. IsPushed grid.now slice.now cell.now out.old.items out.new.items) result }
 {
-    let piece = match piece_on(alloc, grid, range, slice, cell) {
-        Ok(piece) => piece,
-        Err(fault) => return Err(fault),
-    };
-    match out.push(piece) {
-        Ok(()) => Ok(()),
-        Err(_) => Err(OpFault::NoMemory),
-    }
+    let piece = piece_on(alloc, grid, range, slice, cell)?;
+    out.push(piece)?;
+    Ok(())
 }
 
 // The pieces of a slice on its cells.
@@ -207,7 +194,7 @@ fn pieces_at(
     range: &TileRange,
     slice: &Slice<PlaneLine>,
     cells: &[Span],
-) -> Result<Vec<Piece>, OpFault>
+) -> Result<Vec<Piece>, Fault<Formula>>
     requires sound { IsSound (λ c. c.from) (λ c. c.to) slice.now }
     requires reaches { Reaches grid.now range.now slice.now }
     requires cells { AreTileCells grid.now slice.now (cuts_of grid.now slice.now) cells.now }
@@ -229,7 +216,7 @@ fn on_slice(
     grid: &Grid,
     range: &TileRange,
     slice: &Slice<PlaneLine>,
-) -> Result<Vec<Piece>, OpFault>
+) -> Result<Vec<Piece>, Fault<Formula>>
     requires sound { IsSound (λ c. c.from) (λ c. c.to) slice.now }
     requires reaches { Reaches grid.now range.now slice.now }
     ensures pieces { IsMadeByAll (entries_of_slice grid.now slice.now) (λ v. ArePiecesOf grid.now slice.now v.items) result }
@@ -237,29 +224,20 @@ fn on_slice(
     // The clauses of these two say that the sides of a tile are above 0.
     let _size = grid.size();
     let _width = grid.width();
-    let edges = match edges_of(alloc, grid, range, slice) {
-        Ok(edges) => edges,
-        Err(fault) => return Err(fault),
-    };
-    let cuts = match cuts_on(alloc, &slice.span, edges) {
-        Ok(cuts) => cuts,
-        Err(fault) => return Err(fault),
-    };
-    let cells = match cells_of(alloc, grid, slice, cuts) {
-        Ok(cells) => cells,
-        Err(_) => return Err(OpFault::NoMemory),
-    };
+    let edges = edges_of(alloc, grid, range, slice)?;
+    let cuts = cuts_on(alloc, &slice.span, edges)?;
+    let cells = cells_of(alloc, grid, slice, cuts)?;
     pieces_at(alloc, grid, range, slice, cells.as_slice())
 }
 
-/// The pieces of all slices, in order of time. `Passed` names the first formula of a slice that has
-/// a part that does not fit.
+/// The pieces of all slices, in order of time. The fault names the first formula of a slice that
+/// has a part that does not fit.
 pub fn pieces_of(
     alloc: Global,
     grid: &Grid,
     range: &TileRange,
     slices: &[Slice<PlaneLine>],
-) -> Result<Vec<Piece>, OpFault>
+) -> Result<Vec<Piece>, Fault<Formula>>
     requires ordered { IsOrdered (λ c. c.from) (λ c. c.to) slices.now }
     requires reach { AllByRecursion (Reaches grid.now range.now) slices.now }
     ensures pieces { IfOk result (λ v. ArePieces grid.now slices.now v.items) }
@@ -273,7 +251,7 @@ pub fn pieces_of(
         };
         match append(&mut out, more) {
             Ok(()) => {}
-            Err(_) => return Err(OpFault::NoMemory),
+            Err(_) => return Err(Fault::NoMemory),
         }
     }
     Ok(out)

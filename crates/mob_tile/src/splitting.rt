@@ -10,13 +10,14 @@ use crate::grid::Grid;
 use crate::groups::{parts_of, sort_pieces};
 use crate::pieces::pieces_of;
 use mob_grid::{Tile, TileRange};
-use mob_slice::{Formula, Moving, OpFault, PlaneLine};
+use mob_list::fault::Fault;
+use mob_slice::{Formula, Moving, PlaneLine};
 use mob_value::box_of;
 use std::alloc::Global;
 
-/// Why a moving point was not split.
+/// What keeps a moving point from being split.
 #[derive(Clone, Copy, Debug, PartialEq, Eq)]
-pub enum SplitFault {
+pub enum SplitCause {
     /// A part of this formula does not fit.
     Passed {
         /// The formula.
@@ -24,9 +25,10 @@ pub enum SplitFault {
     },
     /// The box of the value reaches more than 10,000 tiles.
     Limit,
-    /// Memory was refused.
-    NoMemory,
 }
+
+/// Why a moving point was not split.
+pub type SplitFault = Fault<SplitCause>;
 
 // The parts in the tiles of a range that has them all.
 fn split_in(
@@ -34,7 +36,7 @@ fn split_in(
     grid: &Grid,
     range: &TileRange,
     a: &Moving<PlaneLine>,
-) -> Result<Vec<(Tile, Moving<PlaneLine>)>, OpFault>
+) -> Result<Vec<(Tile, Moving<PlaneLine>)>, Fault<Formula>>
     requires reach { AllByRecursion (Reaches grid.now range.now) a.now }
     ensures split { IfOk result (λ v. IsSplit grid.now a.now v.items) }
     ensures first { IsJudged (flat_map (entries_of_slice grid.now) a.now) result }
@@ -42,18 +44,9 @@ fn split_in(
     // The clauses of these two say that the sides of a tile are above 0.
     let _size = grid.size();
     let _width = grid.width();
-    let mut pieces = match pieces_of(alloc, grid, range, a.slices()) {
-        Ok(pieces) => pieces,
-        Err(fault) => return Err(fault),
-    };
-    match sort_pieces(&mut pieces) {
-        Ok(()) => {}
-        Err(_) => return Err(OpFault::NoMemory),
-    }
-    match parts_of(alloc, pieces.as_slice()) {
-        Ok(parts) => Ok(parts),
-        Err(_) => Err(OpFault::NoMemory),
-    }
+    let mut pieces = pieces_of(alloc, grid, range, a.slices())?;
+    sort_pieces(&mut pieces)?;
+    Ok(parts_of(alloc, pieces.as_slice())?)
 }
 
 /// The parts of a moving point in the tiles of a grid: `Grid::split`.
@@ -72,17 +65,15 @@ pub fn split_by(
     let range = match grid.range(&box_of(a)) {
         Ok(range) => range,
         Err(passed) => {
-            return Err(SplitFault::Passed {
-                formula: passed.formula,
-            });
+            return Err(Fault::Because(SplitCause::Passed { formula: passed }));
         }
     };
     if range.has_many() {
-        return Err(SplitFault::Limit);
+        return Err(Fault::Because(SplitCause::Limit));
     }
     match split_in(alloc, grid, &range, a) {
         Ok(parts) => Ok(parts),
-        Err(OpFault::Passed { formula }) => Err(SplitFault::Passed { formula }),
-        Err(OpFault::NoMemory) => Err(SplitFault::NoMemory),
+        Err(Fault::Because(formula)) => Err(Fault::Because(SplitCause::Passed { formula })),
+        Err(Fault::NoMemory) => Err(Fault::NoMemory),
     }
 }

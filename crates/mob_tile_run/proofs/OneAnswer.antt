@@ -6,8 +6,8 @@ use Rattle.mob_ratio.specs.Ratio.{Ratio}
 use Rattle.mob_value.specs.declared.value.Value.{Value}
 use Rattle.mob_grid.specs.Tiles.{GridOf, IsGrid}
 use Rattle.mob_tile.proofs.OneSplit.{one_split}
-use Rattle.mob_pairs.specs.declared.fault.PairFault.{PairFault}
-use Rattle.mob_pairs.specs.declared.fault.PairFault.TheVariants.{NoMemory}
+use Rattle.mob_list.specs.declared.fault.Fault.{Fault}
+use Rattle.mob_pairs.specs.declared.fault.PairCause.{PairCause}
 use Rattle.mob_pairs.specs.Faults.{IsPairsFault}
 use Rattle.mob_pairs.proofs.OneAnswer.{one_list}
 use Rattle.mob_records.specs.AnswerText.{answer_text}
@@ -17,6 +17,7 @@ use Rattle.mob_tile_run.specs.TileParts.{IsFirstSplitFault, IsSplitOf, PartsText
 use Rattle.mob_tile_run.specs.TileTexts.{pair_fields, pair_names, part_names}
 use Rattle.mob_tile_run.specs.declared.settings.TileSettings.{TileSettings}
 use Rattle.mob_tile_run.proofs.OneFault.{Parts, one_answer_fault, text_or_fault}
+use Rattle.mob_list.specs.declared.fault.Fault.TheVariants.{NoMemory}
 
 module _ (g : GridOf) (ok : IsGrid g) where
   same_parts : (t : Option Trip) (ps qs : Parts) → IsSplitOf g t ps → IsSplitOf g t qs → ps ≡ qs
@@ -43,18 +44,18 @@ writes_alike : (near : Option Ratio) (a b : TileSettings) (ids : List Value) (tr
 writes_alike None a b ids trips t s h = subst (λ z. PartsText z a.epoch ids trips t) (sym s.grid) (subst (λ z. PartsText b.grid z ids trips t) (sym s.epoch) h)
 writes_alike (Some d) a b ids trips t s h = subst (λ z. PairsText z d a.epoch ids trips t) (sym s.grid) (subst (λ z. PairsText b.grid d z ids trips t) (sym s.epoch) h)
 
-fails_alike : (near : Option Ratio) (a b : TileSettings) (trips : List (Option Trip)) (f : PairFault) → AreSameButWorkers a b → TileFailsBy near b trips f → TileFailsBy near a trips f
+fails_alike : (near : Option Ratio) (a b : TileSettings) (trips : List (Option Trip)) (f : Fault PairCause) → AreSameButWorkers a b → TileFailsBy near b trips f → TileFailsBy near a trips f
 fails_alike None a b trips f s h = subst (λ z. IsFirstSplitFault z trips f) (sym s.grid) h
 fails_alike (Some d) a b trips f s h = subst (λ z. IsPairsFault z d trips f) (sym s.grid) h
 
-fails_too : (a b : TileSettings) (trips : List (Option Trip)) (f : PairFault) → AreSameButWorkers a b → TileFails b trips f → TileFails a trips f
+fails_too : (a b : TileSettings) (trips : List (Option Trip)) (f : Fault PairCause) → AreSameButWorkers a b → TileFails b trips f → TileFails a trips f
 fails_too a b trips f s h = fails_alike a.near a b trips f s (subst (λ z. TileFailsBy z b trips f) (sym s.near) h)
 
 pub one_text : (a b : TileSettings) (ids : List Value) (trips : List (Option Trip)) (t u : List ℕ) → IsGrid a.grid → AreSameButWorkers a b → TileWrites a ids trips t → TileWrites b ids trips u → t ≡ u
 one_text a b ids trips t u ok s h k = same_text a.near a ids trips t u ok h (writes_alike a.near a b ids trips u s (subst (λ z. TileWritesBy z b ids trips u) (sym s.near) k))
 
-pub one_fault : (a b : TileSettings) (trips : List (Option Trip)) (e f : PairFault) → AreSameButWorkers a b → e ≢ NoMemory → f ≢ NoMemory → TileFails a trips e → TileFails b trips f → e ≡ f
+pub one_fault : (a b : TileSettings) (trips : List (Option Trip)) (e f : Fault PairCause) → AreSameButWorkers a b → e ≢ NoMemory → f ≢ NoMemory → TileFails a trips e → TileFails b trips f → e ≡ f
 one_fault a b trips e f s some other h k = one_answer_fault a.near a trips e f some other h (fails_too a b trips f s k)
 
-pub text_apart : (a b : TileSettings) (ids : List Value) (trips : List (Option Trip)) (t : List ℕ) (f : PairFault) → AreSameButWorkers a b → f ≢ NoMemory → TileWrites a ids trips t → TileFails b trips f → ⊥
+pub text_apart : (a b : TileSettings) (ids : List Value) (trips : List (Option Trip)) (t : List ℕ) (f : Fault PairCause) → AreSameButWorkers a b → f ≢ NoMemory → TileWrites a ids trips t → TileFails b trips f → ⊥
 text_apart a b ids trips t f s some h k = text_or_fault a.near a ids trips t f some h (fails_too a b trips f s k)

@@ -5,14 +5,15 @@ use Rattle.std.specs.List.{AllZip}
 use Rattle.mob_value.specs.declared.value.Value.{Value}
 use Rattle.mob_tile.specs.Split.{OnRange, SplitAnswer}
 use Rattle.mob_grid.specs.Tiles.{GridOf}
-use Rattle.mob_tile.specs.declared.splitting.SplitFault.{SplitFault}
-use Rattle.mob_tile.specs.declared.splitting.SplitFault.TheVariants as split
+use Rattle.mob_list.specs.declared.fault.Fault.{Fault}
+use Rattle.mob_tile.specs.declared.splitting.SplitCause.{SplitCause}
+use Rattle.mob_tile.specs.declared.splitting.SplitCause.TheVariants as split
 use Rattle.mob_grid.specs.declared.tile.Tile.{Tile}
-use Rattle.mob_pairs.specs.declared.fault.PairFault.{PairFault}
-use Rattle.mob_pairs.specs.declared.fault.PairFault.TheVariants.{Passed, Limit, NoMemory}
+use Rattle.mob_pairs.specs.declared.fault.PairCause.{PairCause}
 use Rattle.mob_trips.specs.Rows.{Trip}
 use Rattle.mob_tile_run.specs.TileTexts.{part_fields}
 use Rattle.mob_tile_run.specs.TileParts.{IsSplitOf, IsSplitFault, IsSomeSplitFault, IsFirstSplitFault, row_fault, records_from}
+use Rattle.mob_list.specs.declared.fault.Fault.TheVariants.{Because, NoMemory}
 
 -- the rows so far are split, and their parts have their records
 pub record IsTiling (g : GridOf) (day : ℤ) (ids : List Value) (all rest : List (Option Trip)) (records : List (List (List ℕ))) (row : ℕ) : Type 0 where
@@ -24,10 +25,10 @@ pub record IsTiling (g : GridOf) (day : ℤ) (ids : List Value) (all rest : List
   pub made : records ≡ records_from day ids 0 splits
 
 -- the fault of a row for that of its trip
-pub split_fault : (V : Type 0) (g : GridOf) (v : Trip) (row : ℕ) (fault : SplitFault) → OnRange g v (λ quotients range. SplitAnswer {V = V} g v quotients range (Err fault)) → IsSplitFault g (Some v) row (row_fault row fault)
-split_fault V g v row (split.Passed formula) h = (refl, h)
-split_fault V g v row split.Limit h = (refl, h)
-split_fault V g v row split.NoMemory h = tt
+pub split_fault : (V : Type 0) (g : GridOf) (v : Trip) (row : ℕ) (fault : Fault SplitCause) → OnRange g v (λ quotients range. SplitAnswer {V = V} g v quotients range (Err fault)) → IsSplitFault g (Some v) row (row_fault row fault)
+split_fault V g v row (Because (split.Passed formula)) h = (refl, h)
+split_fault V g v row (Because split.Limit) h = (refl, h)
+split_fault V g v row NoMemory h = tt
 
 zip_push : (R : Option Trip → List (Tile × Trip) → Type 0) (xs : List (Option Trip)) (ys : List (List (Tile × Trip))) (x : Option Trip) (y : List (Tile × Trip)) → AllZip R xs ys → R x y → AllZip R (xs ++ x ∷ []) (ys ++ y ∷ [])
 zip_push R [] [] x y h k = (k, tt)
@@ -65,7 +66,7 @@ module _ (g : GridOf) (day : ℤ) (ids : List Value) (all : List (Option Trip)) 
         n ∙ ap (λ z. z ++ map (part_fields day ids row) parts) m.made ∙ ap (λ z. records_from day ids 0 m.splits ++ map (part_fields day ids z) parts) long ∙ sym (records_push day ids 0 m.splits parts);
   }
 
-  pub tiling_fails : (rest later : List (Option Trip)) (t : Option Trip) (records : List (List (List ℕ))) (row : ℕ) (f : PairFault) → rest ≡ t ∷ later → IsSplitFault g t row f → IsTiling g day ids all rest records row → IsFirstSplitFault g all f
+  pub tiling_fails : (rest later : List (Option Trip)) (t : Option Trip) (records : List (List (List ℕ))) (row : ℕ) (f : Fault PairCause) → rest ≡ t ∷ later → IsSplitFault g t row f → IsTiling g day ids all rest records row → IsFirstSplitFault g all f
   tiling_fails rest later t records row f e h m = on f (record {
     before = m.before;
     here = t;
@@ -76,7 +77,6 @@ module _ (g : GridOf) (day : ℤ) (ids : List Value) (all : List (Option Trip)) 
     cause = subst (λ n. IsSplitFault g t n f) m.count h;
   })
     where
-      on : (f : PairFault) → IsSomeSplitFault g all f → IsFirstSplitFault g all f
-      on (Passed rows formula) h = h
-      on (Limit row) h = h
+      on : (f : Fault PairCause) → IsSomeSplitFault g all f → IsFirstSplitFault g all f
+      on (Because cause) h = h
       on NoMemory h = tt

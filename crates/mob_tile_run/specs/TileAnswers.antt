@@ -7,7 +7,8 @@ use Rattle.mob_value.specs.declared.value.Value.{Value}
 use Rattle.mob_grid.specs.Tiles.{GridOf}
 use Rattle.mob_pairs.specs.Faults.{PairsFit, IsPairsFault}
 use Rattle.mob_pairs.specs.Pairs.{ArePairs}
-use Rattle.mob_pairs.specs.declared.fault.PairFault.{PairFault}
+use Rattle.mob_list.specs.declared.fault.Fault.{Fault}
+use Rattle.mob_pairs.specs.declared.fault.PairCause.{PairCause}
 use Rattle.mob_records.specs.AnswerText.{answer_text}
 use Rattle.mob_trips.specs.Rows.{Trip}
 use Rattle.mob_tile_run.specs.TileTexts.{pair_fields, pair_names}
@@ -37,11 +38,11 @@ abbrev pub TileWrites : TileSettings → List Value → List (Option Trip) → L
 TileWrites settings ids trips text = TileWritesBy settings.near settings ids trips text
 
 -- why there is none
-abbrev pub TileFailsBy : Option Ratio → TileSettings → List (Option Trip) → PairFault → Type 0
+abbrev pub TileFailsBy : Option Ratio → TileSettings → List (Option Trip) → Fault PairCause → Type 0
 TileFailsBy None settings trips fault = IsFirstSplitFault settings.grid trips fault
 TileFailsBy (Some d) settings trips fault = IsPairsFault settings.grid d trips fault
 
-abbrev pub TileFails : TileSettings → List (Option Trip) → PairFault → Type 0
+abbrev pub TileFails : TileSettings → List (Option Trip) → Fault PairCause → Type 0
 TileFails settings trips fault = TileFailsBy settings.near settings trips fault
 
 -- the two differ in the number of workers alone

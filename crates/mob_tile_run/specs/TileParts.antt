@@ -7,14 +7,16 @@ use Rattle.mob_value.specs.declared.value.Value.{Value}
 use Rattle.mob_tile.specs.Edges.{entries_of_slice}
 use Rattle.mob_tile.specs.Split.{IsSplit, OnRange, SplitAnswer}
 use Rattle.mob_grid.specs.Tiles.{GridOf, HasMany}
-use Rattle.mob_tile.specs.declared.splitting.SplitFault.{SplitFault}
-use Rattle.mob_tile.specs.declared.splitting.SplitFault.TheVariants as split
+use Rattle.mob_list.specs.declared.fault.Fault.{Fault}
+use Rattle.mob_tile.specs.declared.splitting.SplitCause.{SplitCause}
+use Rattle.mob_tile.specs.declared.splitting.SplitCause.TheVariants as split
 use Rattle.mob_grid.specs.declared.tile.Tile.{Tile}
-use Rattle.mob_pairs.specs.declared.fault.PairFault.{PairFault}
-use Rattle.mob_pairs.specs.declared.fault.PairFault.TheVariants.{Passed, Limit, NoMemory}
+use Rattle.mob_pairs.specs.declared.fault.PairCause.{PairCause}
+use Rattle.mob_pairs.specs.declared.fault.PairCause.TheVariants.{Passed, Limit}
 use Rattle.mob_records.specs.AnswerText.{answer_text}
 use Rattle.mob_trips.specs.Rows.{Trip}
 use Rattle.mob_tile_run.specs.TileTexts.{part_fields, part_names}
+use Rattle.mob_list.specs.declared.fault.Fault.TheVariants.{Because, NoMemory}
 
 -- The split of a trip, where all parts of formulas fit and the range of its box has at most 10,000
 -- tiles; a row without a trip has none.
@@ -23,24 +25,24 @@ IsSplitOf g None parts = parts ≡ []
 IsSplitOf g (Some v) parts = IsSplit g v parts × OnRange g v (λ quotients range. AllFit quotients × (¬ HasMany range) × IsFirst (flat_map (entries_of_slice g) v) None)
 
 -- the fault of a row for that of its trip
-abbrev pub row_fault : ℕ → SplitFault → PairFault
-row_fault row (split.Passed formula) = Passed (row ∷ []) formula
-row_fault row split.Limit = Limit row
-row_fault row split.NoMemory = NoMemory
+abbrev pub row_fault : ℕ → Fault SplitCause → Fault PairCause
+row_fault row (Because (split.Passed formula)) = Because (Passed (row ∷ []) formula)
+row_fault row (Because split.Limit) = Because (Limit row)
+row_fault row NoMemory = NoMemory
 
 -- why a trip is not split
-abbrev pub SplitFails : GridOf → Trip → SplitFault → Type 0
+abbrev pub SplitFails : GridOf → Trip → Fault SplitCause → Type 0
 SplitFails g v fault = OnRange g v (λ quotients range. SplitAnswer {V = List (Tile × Trip)} g v quotients range (Err fault))
 
 -- The fault of a row: why its trip is not split, on this row. Out of memory has no row.
-abbrev pub IsSplitFault : GridOf → Option Trip → ℕ → PairFault → Type 0
+abbrev pub IsSplitFault : GridOf → Option Trip → ℕ → Fault PairCause → Type 0
 IsSplitFault g None row fault = ⊥
-IsSplitFault g (Some v) row (Passed rows formula) = (rows ≡ row ∷ []) × SplitFails g v (split.Passed formula)
-IsSplitFault g (Some v) row (Limit r) = (r ≡ row) × SplitFails g v split.Limit
+IsSplitFault g (Some v) row (Because (Passed rows formula)) = (rows ≡ row ∷ []) × SplitFails g v (Because (split.Passed formula))
+IsSplitFault g (Some v) row (Because (Limit r)) = (r ≡ row) × SplitFails g v (Because split.Limit)
 IsSplitFault g (Some v) row NoMemory = Unit {0}
 
 -- the fault of some row, while all rows before it are split
-pub record IsSomeSplitFault (g : GridOf) (trips : List (Option Trip)) (fault : PairFault) : Type 0 where
+pub record IsSomeSplitFault (g : GridOf) (trips : List (Option Trip)) (fault : Fault PairCause) : Type 0 where
   pub before : List (Option Trip)
   pub here : Option Trip
   pub after : List (Option Trip)
@@ -49,10 +51,9 @@ pub record IsSomeSplitFault (g : GridOf) (trips : List (Option Trip)) (fault : P
   pub first : AllZip (IsSplitOf g) before splits
   pub cause : IsSplitFault g here (length before) fault
 
-abbrev pub IsFirstSplitFault : GridOf → List (Option Trip) → PairFault → Type 0
+abbrev pub IsFirstSplitFault : GridOf → List (Option Trip) → Fault PairCause → Type 0
 IsFirstSplitFault g trips NoMemory = Unit {0}
-IsFirstSplitFault g trips (Passed rows formula) = IsSomeSplitFault g trips (Passed rows formula)
-IsFirstSplitFault g trips (Limit row) = IsSomeSplitFault g trips (Limit row)
+IsFirstSplitFault g trips (Because cause) = IsSomeSplitFault g trips (Because cause)
 
 -- the records of the parts of rows, from row n on
 abbrev pub records_from : ℤ → List Value → ℕ → List (List (Tile × Trip)) → List (List (List ℕ))

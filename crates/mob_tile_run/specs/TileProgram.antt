@@ -2,8 +2,9 @@
 use Rattle.std.specs.Prelude.{◌≡◌, ◌∷◌, ℕ, List, [], codes, map}
 use Rattle.mob_slice.specs.declared.formula.Formula.{Formula}
 use Rattle.mob_outside.specs.EndsSeen.{StreamSeen}
-use Rattle.mob_pairs.specs.declared.fault.PairFault.{PairFault}
-use Rattle.mob_pairs.specs.declared.fault.PairFault.TheVariants as pair
+use Rattle.mob_list.specs.declared.fault.Fault.{Fault}
+use Rattle.mob_pairs.specs.declared.fault.PairCause.{PairCause}
+use Rattle.mob_pairs.specs.declared.fault.PairCause.TheVariants as pair
 use Rattle.mob_trips.specs.Endings.{IsTripsEnding}
 use Rattle.mob_trips.specs.Program.{ProgramOf}
 use Rattle.mob_trips.specs.Rows.{id_of, trips_in}
@@ -13,6 +14,7 @@ use Rattle.mob_trips.specs.declared.ending.Ending.TheVariants as end
 use Rattle.mob_tile_run.specs.CommandLine.{TileSays}
 use Rattle.mob_tile_run.specs.TileAnswers.{TileWrites, TileFails}
 use Rattle.mob_tile_run.specs.declared.settings.TileSettings.{TileSettings}
+use Rattle.mob_list.specs.declared.fault.Fault.TheVariants.{Because, NoMemory}
 
 -- It writes the parts of trips in tiles or, with a distance, the pairs that come within it. A
 -- formula with a part that does not fit stops it, and rows with more than 10,000 tiles pass its
@@ -22,16 +24,16 @@ tile_program = record {
   says = TileSays;
   day = λ settings. settings.epoch;
   writes = λ settings rows text. TileWrites settings (map id_of rows) (trips_in rows) text;
-  stops = λ settings rows names formula. TileFails settings (trips_in rows) (pair.Passed names formula);
-  limits = λ settings rows names. (row : ℕ) × (names ≡ row ∷ []) × TileFails settings (trips_in rows) (pair.Limit row);
-  fits = λ settings rows. ((names : List ℕ) (formula : Formula) → TileFails settings (trips_in rows) (pair.Passed names formula) → ⊥) × ((row : ℕ) → TileFails settings (trips_in rows) (pair.Limit row) → ⊥);
+  stops = λ settings rows names formula. TileFails settings (trips_in rows) (Because (pair.Passed names formula));
+  limits = λ settings rows names. (row : ℕ) × (names ≡ row ∷ []) × TileFails settings (trips_in rows) (Because (pair.Limit row));
+  fits = λ settings rows. ((names : List ℕ) (formula : Formula) → TileFails settings (trips_in rows) (Because (pair.Passed names formula)) → ⊥) × ((row : ℕ) → TileFails settings (trips_in rows) (Because (pair.Limit row)) → ⊥);
 }
 
 -- the ending of a fault: its rows with the formula, a row past the limit, or out of memory
-abbrev pub EndsAt : PairFault → Ending → Type 0
-EndsAt (pair.Passed rows formula) ending = ending ≡ end.Overflow rows formula
-EndsAt (pair.Limit row) ending = ending ≡ end.RowsRefused (row ∷ [])
-EndsAt pair.NoMemory ending = ending ≡ end.NoMemory
+abbrev pub EndsAt : Fault PairCause → Ending → Type 0
+EndsAt (Because (pair.Passed rows formula)) ending = ending ≡ end.Overflow rows formula
+EndsAt (Because (pair.Limit row)) ending = ending ≡ end.RowsRefused (row ∷ [])
+EndsAt NoMemory ending = ending ≡ end.NoMemory
 
 -- so ends a run on these streams, where its arguments say these settings
 abbrev pub TileEnds : TileSettings → StreamSeen → StreamSeen → Ending → Type 0

@@ -12,6 +12,7 @@ use crate::fields::{PairPrinter, pair_names};
 use crate::parts::parts_text;
 use crate::settings::TileSettings;
 use mob_frac::Frac;
+use mob_list::fault::Fault;
 use mob_outside::Gate;
 use mob_pairs::{PairFault, pairs};
 use mob_records::counted_text_by;
@@ -57,14 +58,8 @@ fn pairs_text<R: Threads + Sync, G: Gate>(
     ensures text { IfOk result (λ t. PairsText grid.now near.now epoch.now ids.now trips.now t.items) }
     ensures fault { IfErr result (IsPairsFault grid.now near.now trips.now) }
 {
-    let found = match pairs(rt, alloc, trips, grid, near, workers as usize, gate) {
-        Ok(found) => found,
-        Err(fault) => return Err(fault),
-    };
-    match text_of(alloc, ids, found.as_slice(), epoch) {
-        Ok(text) => Ok(text),
-        Err(_) => Err(PairFault::NoMemory),
-    }
+    let found = pairs(rt, alloc, trips, grid, near, workers as usize, gate)?;
+    Ok(text_of(alloc, ids, found.as_slice(), epoch)?)
 }
 
 // The text for these trips.
@@ -113,7 +108,7 @@ pub fn tile_text<R: Threads + Sync, G: Gate>(
 {
     let (ids, trips) = match split_rows(alloc, rows) {
         Ok(split) => split,
-        Err(_) => return Err(PairFault::NoMemory),
+        Err(_) => return Err(Fault::NoMemory),
     };
     answer(rt, alloc, settings, ids.as_slice(), trips.as_slice(), gate)
 }

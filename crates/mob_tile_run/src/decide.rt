@@ -9,8 +9,9 @@ ghost use Rattle.mob_tile_run.specs.TileProgram.{EndsAt, TileEnds, tile_program}
 use crate::answer::tile_text;
 use crate::reading::settings;
 use crate::settings::TileSettings;
+use mob_list::fault::Fault;
 use mob_outside::{Gate, Sink, Source};
-use mob_pairs::PairFault;
+use mob_pairs::{PairCause, PairFault};
 use mob_trips::{Ending, put_text, read_trips};
 use mob_tuples::Tuple;
 use std::alloc::Global;
@@ -22,11 +23,11 @@ fn ending_of(fault: PairFault) -> Ending
     ensures ending { EndsAt fault result }
 {
     match fault {
-        PairFault::Passed { rows, formula } => Ending::Overflow { rows, formula },
-        PairFault::Limit { row } => Ending::RowsRefused {
+        Fault::Because(PairCause::Passed { rows, formula }) => Ending::Overflow { rows, formula },
+        Fault::Because(PairCause::Limit { row }) => Ending::RowsRefused {
             rows: Tuple::new().with(row),
         },
-        PairFault::NoMemory => Ending::NoMemory,
+        Fault::NoMemory => Ending::NoMemory,
     }
 }
 

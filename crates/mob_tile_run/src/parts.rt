@@ -5,13 +5,14 @@ ghost use Rattle.mob_tile_run.specs.TileTexts.{part_fields, part_names};
 ghost use Rattle.mob_tile_run.specs.TileParts.{IsSplitOf, IsSplitFault, row_fault, ArePartRecords, IsFirstSplitFault, PartsText};
 
 use crate::fields::{part_fields, part_names};
+use mob_list::fault::Fault;
 use mob_list::items::Items;
 use mob_list::text::Text;
-use mob_pairs::PairFault;
+use mob_pairs::{PairCause, PairFault};
 use mob_records::counted_text;
 use mob_scalar::Epoch;
 use mob_slice::{Moving, PlaneLine};
-use mob_tile::{Grid, SplitFault, Tile};
+use mob_tile::{Grid, SplitCause, SplitFault, Tile};
 use mob_tuples::Tuple;
 use mob_value::Value;
 use std::alloc::{AllocError, Global};
@@ -21,12 +22,12 @@ fn row_fault(row: u32, fault: SplitFault) -> PairFault
     ensures same { result ≡ row_fault row fault }
 {
     match fault {
-        SplitFault::Passed { formula } => PairFault::Passed {
+        Fault::Because(SplitCause::Passed { formula }) => Fault::Because(PairCause::Passed {
             rows: Tuple::new().with(row),
             formula,
-        },
-        SplitFault::Limit => PairFault::Limit { row },
-        SplitFault::NoMemory => PairFault::NoMemory,
+        }),
+        Fault::Because(SplitCause::Limit) => Fault::Because(PairCause::Limit { row }),
+        Fault::NoMemory => Fault::NoMemory,
     }
 }
 
@@ -87,7 +88,7 @@ fn part_records(
         };
         match push_parts(alloc, &mut records, ids, row, parts, epoch) {
             Ok(()) => {}
-            Err(_) => return Err(PairFault::NoMemory),
+            Err(_) => return Err(Fault::NoMemory),
         }
         row = row + 1;
     }
@@ -115,12 +116,6 @@ pub fn parts_text(
     ensures text { IfOk result (λ t. PartsText grid.now epoch.now ids.now trips.now t.items) }
     ensures fault { IfErr result (IsFirstSplitFault grid.now trips.now) }
 {
-    let records = match part_records(alloc, grid, ids, trips, epoch) {
-        Ok(records) => records,
-        Err(fault) => return Err(fault),
-    };
-    match text_of(alloc, records.as_slice()) {
-        Ok(text) => Ok(text),
-        Err(_) => Err(PairFault::NoMemory),
-    }
+    let records = part_records(alloc, grid, ids, trips, epoch)?;
+    Ok(text_of(alloc, records.as_slice())?)
 }

@@ -1,7 +1,7 @@
 -- A list that is taken in entry by entry, or what is wrong first.
 use Rattle.std.proofs.Common.{◌≡◌, ◌∙◌, ◌<◌, ◌≤◌, ◌+◌, sym, ap, ℕ, List, [], ◌∷◌, length, drop, get_or, Result, Ok}
 use Rattle.std.proofs.lemmas.List.{drop_more, drop_all}
-use Rattle.mob_scope.specs.declared.fault.Fault.{Fault}
+use Rattle.mob_list.specs.declared.fault.Fault.{Fault}
 use Rattle.mob_scope.specs.Answers.{Mistake, ◌>>=◌, StopsTyping}
 use Rattle.mob_expression.proofs.Wrongs.{fails_along, fails_bind}
 
@@ -15,7 +15,7 @@ module _ {X S : Type 0} (step : S → X → Result S Mistake) (steps : S → Lis
     next : whole ≡ (step o x >>= later)
     next = so_far ∙ ap (steps o) (drop_more xs i x within ∙ ap (λ y. y ∷ drop (i + 1) xs) (sym at)) ∙ more o x (drop (i + 1) xs)
 
-    pub step_fails : (e : Fault) → StopsTyping e (step o x) → StopsTyping e whole
+    pub step_fails : (e : Fault Mistake) → StopsTyping e (step o x) → StopsTyping e whole
     step_fails e h = fails_along e (step o x >>= later) whole next (fails_bind e (step o x) later h)
 
     pub step_made : (p : S) → step o x ≡ Ok p → whole ≡ steps p (drop (i + 1) xs)

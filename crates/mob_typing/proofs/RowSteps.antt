@@ -7,7 +7,7 @@ use Rattle.mob_ast.specs.declared.expression.Expr.{Expr}
 use Rattle.mob_ast.specs.Trees.{tree_of}
 use Rattle.mob_typed.specs.declared.typed.ConstText.{ConstText}
 use Rattle.mob_typed.specs.Statements.{ColumnList}
-use Rattle.mob_scope.specs.declared.fault.Fault.{Fault}
+use Rattle.mob_list.specs.declared.fault.Fault.{Fault}
 use Rattle.mob_scope.specs.Answers.{Mistake, StopsTyping}
 use Rattle.mob_expression.specs.Steps.{TypingStep, one_more}
 use Rattle.mob_expression.proofs.Behind.{behind, fails_behind, more_behind, none_behind}
@@ -28,7 +28,7 @@ module _ (n : ℕ) (columns : ColumnList) (vs : List Expr) (i : ℕ) (done : Lis
     next = so_far ∙ ap (λ ys. behind done (row_values n ys (map tree_of (drop i vs))) cs) (drop_at columns i column stored)
         ∙ ap (λ ys. behind done (row_values n (column ∷ drop (i + 1) columns) (map tree_of ys)) cs) (drop_more vs i x within ∙ ap (λ y. y ∷ drop (i + 1) vs) (sym at))
 
-    pub value_fails : (f : Fault) → StopsTyping f (tree_value n column.1 (tree_of x) cs) → StopsTyping f whole
+    pub value_fails : (f : Fault Mistake) → StopsTyping f (tree_value n column.1 (tree_of x) cs) → StopsTyping f whole
     value_fails f h = fails_along f (behind done (one_more first others) cs) whole next (fails_behind first others cs f done h)
 
     pub value_more : (v : Option ℕ) (ds : List ConstText) (after : List (Option ℕ)) → tree_value n column.1 (tree_of x) cs ≡ Ok (v, ds) → after ≡ done ++ v ∷ []

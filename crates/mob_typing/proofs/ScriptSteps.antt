@@ -7,9 +7,9 @@ use Rattle.mob_ast.specs.declared.statement.Statement.{Statement}
 use Rattle.mob_ast.specs.Trees.{StatementParts, statement_of}
 use Rattle.mob_typed.specs.declared.typed.ConstText.{ConstText}
 use Rattle.mob_typed.specs.Statements.{StatementOut, ScriptOut}
-use Rattle.mob_scope.specs.declared.fault.Fault.{Fault}
-use Rattle.mob_scope.specs.declared.fault.Fault.TheVariants.{Wrong as Refused, NoMemory}
-use Rattle.mob_scope.specs.Answers.{StopsTyping}
+use Rattle.mob_list.specs.declared.fault.Fault.{Fault}
+use Rattle.mob_list.specs.declared.fault.Fault.TheVariants.{Because, NoMemory}
+use Rattle.mob_scope.specs.Answers.{Mistake, StopsTyping}
 use Rattle.mob_typing.specs.Names.{NameLists}
 use Rattle.mob_typing.specs.Statements.{Made, in_statement, or_refused, put_statement, typed_statement, typed_from, IsTypingRefusal, refusal_of}
 
@@ -51,8 +51,8 @@ module _ (n : ℕ) (names : NameLists) (ss : List Statement) (i : ℕ) (done : L
     pub statement_refused : (kind : Kind) (place : ℕ) → typed_statement n names (statement_of s) cs ≡ Err (record { kind = kind; place = place }) → whole ≡ Err (record { kind = kind; statement = n; place = place })
     statement_refused kind place h = next ∙ ap (λ r. behind_script done (or_refused (in_statement n r) rest)) h ∙ refused_behind done (record { kind = kind; statement = n; place = place })
 
-    pub statement_stops : (f : Fault) (e : Refusal) → e ≡ refusal_of f n → StopsTyping f (typed_statement n names (statement_of s) cs) → IsTypingRefusal e whole
-    statement_stops (Refused kind place) e is h = let refused : Refusal → Result ScriptOut Refusal = λ r. Err r in inr (statement_refused kind place h ∙ ap refused (sym is))
+    pub statement_stops : (f : Fault Mistake) (e : Refusal) → e ≡ refusal_of f n → StopsTyping f (typed_statement n names (statement_of s) cs) → IsTypingRefusal e whole
+    statement_stops (Because wrong) e is h = let refused : Refusal → Result ScriptOut Refusal = λ r. Err r in inr (statement_refused kind place h ∙ ap refused (sym is))
     statement_stops NoMemory e is h = inl is
 
   pub script_done : drop i ss ≡ [] → whole ≡ Ok (record { statements = done; consts = cs })

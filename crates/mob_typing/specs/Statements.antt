@@ -16,8 +16,8 @@ use Rattle.mob_typed.specs.declared.typed.ConstText.{ConstText}
 use Rattle.mob_typed.specs.declared.typed.TypedStatement.{TypedStatement}
 use Rattle.mob_typed.specs.Selects.{TypedSelectParts}
 use Rattle.mob_typed.specs.Statements.{ColumnList, StatementOut, nothing, new_table, new_index, new_rows, rows_from, deletion, query, plan_of, ScriptOut, statement_seen}
-use Rattle.mob_scope.specs.declared.fault.Fault.{Fault}
-use Rattle.mob_scope.specs.declared.fault.Fault.TheVariants.{Wrong as Refused, NoMemory}
+use Rattle.mob_list.specs.declared.fault.Fault.{Fault}
+use Rattle.mob_list.specs.declared.fault.Fault.TheVariants.{Because, NoMemory}
 use Rattle.mob_ast.specs.Kinds.{no_memory}
 use Rattle.mob_scope.specs.Answers.{Mistake, refuse, ◌>>=◌, unless, found}
 use Rattle.mob_expression.specs.Steps.{TypingStep, one_more}
@@ -187,6 +187,6 @@ typed_script ss = typed_from 1 no_names ss []
 abbrev pub IsTypingRefusal : Refusal → Result ScriptOut Refusal → Type 0
 IsTypingRefusal e read = (e ≡ no_memory) ⊎ (read ≡ Err e)
 
-abbrev pub refusal_of : Fault → ℕ → Refusal
-refusal_of (Refused kind place) n = record { kind = kind; statement = n; place = place }
+abbrev pub refusal_of : Fault Mistake → ℕ → Refusal
+refusal_of (Because wrong) n = record { kind = kind; statement = n; place = place }
 refusal_of NoMemory n = no_memory

@@ -8,8 +8,9 @@ ghost use Rattle.mob_typing.specs.Selects.{from_name, from_table, from_tables};
 
 use crate::names::Names;
 use mob_ast::{FromTable, Kind, Word};
+use mob_list::fault::Fault;
 use mob_scope::columns::source_named;
-use mob_scope::fault::{Fault, unless};
+use mob_scope::fault::{Mistake, unless};
 use mob_scope::scope::{ScopeTable, number};
 use std::alloc::Global;
 
@@ -28,7 +29,7 @@ fn from_name<'a>(
     sources: &[ScopeTable<'_>],
     table: &'a Word,
     alias: &'a Option<Word>,
-) -> Result<&'a str, Fault>
+) -> Result<&'a str, Fault<Mistake>>
     ensures named { AnswersAs (λ n. n.now) result (from_name (sources_of sources.now) table.now alias.now) }
 {
     let full = sources.len() >= TABLES;
@@ -52,14 +53,14 @@ pub fn from_table<'a>(
     sources: &[ScopeTable<'_>],
     table: &'a Word,
     alias: &'a Option<Word>,
-) -> Result<ScopeTable<'a>, Fault>
+) -> Result<ScopeTable<'a>, Fault<Mistake>>
     ensures behind { AnswersAs (λ s. sources_of sources.now ++ source_of s ∷ []) result (from_table names.now.tables (sources_of sources.now) table.now alias.now) }
 {
     let Some((index, columns)) = names.find(table.text.as_str()) else {
-        return Err(Fault::Wrong {
+        return Err(Fault::Because(Mistake {
             kind: Kind::UnknownName,
             place: table.place,
-        });
+        }));
     };
     let name = from_name(sources, table, alias)?;
     let table = number(index)?;
@@ -75,7 +76,7 @@ pub fn from_tables<'a>(
     alloc: Global,
     names: &'a Names,
     from: &'a [FromTable],
-) -> Result<Vec<ScopeTable<'a>>, Fault>
+) -> Result<Vec<ScopeTable<'a>>, Fault<Mistake>>
     ensures named { AnswersAs (λ v. sources_of v.items) result (from_tables names.now.tables [] (map from_of from.now)) }
 {
     let mut sources = Vec::new(alloc);

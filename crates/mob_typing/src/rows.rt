@@ -11,9 +11,10 @@ use mob_ast::{Expr, Kind, Node, Quoted, Row, SqlType, TypeWord, Word};
 use mob_expression::constants::{next_constant, only};
 use mob_expression::operators::is_signed;
 use mob_expression::words::literal_type;
+use mob_list::fault::Fault;
 use mob_list::items::Items;
 use mob_scope::column_list::Columns;
-use mob_scope::fault::{Fault, unless};
+use mob_scope::fault::{Mistake, unless};
 use mob_scope::scope::number;
 use mob_typed::{ConstText, TypedStatement};
 use std::alloc::{AllocError, Global};
@@ -26,7 +27,7 @@ fn row_constant(
     ty: SqlType,
     text: &str,
     place: u32,
-) -> Result<Option<u32>, Fault>
+) -> Result<Option<u32>, Fault<Mistake>>
     ensures next { TypesTo (λ v. v) result consts.new (row_constant statement ty text.now place consts.old) }
 {
     Ok(Some(next_constant(alloc, statement, consts, ty, text, place)?))
@@ -53,14 +54,14 @@ fn signed_value(
     sign: &str,
     place: u32,
     args: &[Expr],
-) -> Result<Option<u32>, Fault>
+) -> Result<Option<u32>, Fault<Mistake>>
     ensures with_sign { TypesTo (λ v. v) result consts.new (signed_value statement ty sign.now place (lone_number (trees_of args.now)) consts.old) }
 {
     let Some((digits, digits_place)) = lone_number(args) else {
-        return Err(Fault::Wrong {
+        return Err(Fault::Because(Mistake {
             kind: Kind::NoSuchOperator,
             place,
-        });
+        }));
     };
     unless(!is_signed(sign), Kind::NoSuchOperator, place)?;
     let mut text = String::from_str(alloc, sign)?;
@@ -83,7 +84,7 @@ fn bool_value(
     ty: SqlType,
     text: &str,
     place: u32,
-) -> Result<Option<u32>, Fault>
+) -> Result<Option<u32>, Fault<Mistake>>
     ensures of_bool { TypesTo (λ v. v) result consts.new (bool_value statement ty text.now place consts.old) }
 {
     unless(!is_same(ty, SqlType::Bool), Kind::NoSuchOperator, place)?;
@@ -99,14 +100,14 @@ fn typed_value(
     word: &TypeWord,
     text: &str,
     place: u32,
-) -> Result<Option<u32>, Fault>
+) -> Result<Option<u32>, Fault<Mistake>>
     ensures own_type { TypesTo (λ v. v) result consts.new (typed_value statement ty word.now text.now place consts.old) }
 {
     let Some(own) = literal_type(word, text) else {
-        return Err(Fault::Wrong {
+        return Err(Fault::Because(Mistake {
             kind: Kind::UnknownName,
             place: word.name.place,
-        });
+        }));
     };
     unless(!is_same(own, ty), Kind::NoSuchOperator, place)?;
     row_constant(alloc, statement, consts, ty, text, place)
@@ -122,7 +123,7 @@ fn node_value(
     node: &Node,
     place: u32,
     args: &[Expr],
-) -> Result<Option<u32>, Fault>
+) -> Result<Option<u32>, Fault<Mistake>>
     ensures read { TypesTo (λ v. v) result consts.new (node_value statement ty node.now place (trees_of args.now) consts.old) }
 {
     match node {
@@ -141,10 +142,10 @@ fn node_value(
             place,
         ),
         Node::Sign(sign) => signed_value(alloc, statement, consts, ty, sign.as_str(), place, args),
-        _ => Err(Fault::Wrong {
+        _ => Err(Fault::Because(Mistake {
             kind: Kind::NoSuchOperator,
             place,
-        }),
+        })),
     }
 }
 
@@ -154,7 +155,7 @@ fn tree_value(
     consts: &mut Items<ConstText>,
     ty: SqlType,
     e: &Expr,
-) -> Result<Option<u32>, Fault>
+) -> Result<Option<u32>, Fault<Mistake>>
     ensures read { TypesTo (λ v. v) result consts.new (tree_value statement ty (tree_of e.now) consts.old) }
 {
     node_value(alloc, statement, consts, ty, &e.node, e.place, &e.args)
@@ -167,7 +168,7 @@ fn row_values(
     consts: &mut Items<ConstText>,
     columns: &Columns,
     values: &[Expr],
-) -> Result<Items<Option<u32>>, Fault>
+) -> Result<Items<Option<u32>>, Fault<Mistake>>
     requires one_each { length values.now ≡ length columns.now }
     ensures in_order { TypesTo (λ v. v) result consts.new (row_values statement columns.now (map tree_of values.now) consts.old) }
 {
@@ -187,14 +188,14 @@ fn typed_row(
     consts: &mut Items<ConstText>,
     columns: &Columns,
     row: &Row,
-) -> Result<Items<Option<u32>>, Fault>
+) -> Result<Items<Option<u32>>, Fault<Mistake>>
     ensures row { TypesTo (λ v. v) result consts.new (typed_row statement columns.now (row_of row.now) consts.old) }
 {
     if row.values.len() != columns.len() {
-        return Err(Fault::Wrong {
+        return Err(Fault::Because(Mistake {
             kind: Kind::BadCount,
             place: row.place,
-        });
+        }));
     }
     row_values(alloc, statement, consts, columns, row.values.as_slice())
 }
@@ -206,7 +207,7 @@ fn typed_rows(
     consts: &mut Items<ConstText>,
     columns: &Columns,
     rows: &[Row],
-) -> Result<Items<Items<Option<u32>>>, Fault>
+) -> Result<Items<Items<Option<u32>>>, Fault<Mistake>>
     ensures in_order { TypesTo (λ v. v) result consts.new (typed_rows statement columns.now (map row_of rows.now) consts.old) }
 {
     let mut done = Items::new(alloc);
@@ -236,14 +237,14 @@ pub fn inserted(
     consts: &mut Items<ConstText>,
     table: &Word,
     rows: &Items<Row>,
-) -> Result<TypedStatement, Fault>
+) -> Result<TypedStatement, Fault<Mistake>>
     ensures made { TypesTo (made_seen names.now) result consts.new (inserted statement names.now table.now (map row_of rows.now) consts.old) }
 {
     let Some((index, columns)) = names.find(table.text.as_str()) else {
-        return Err(Fault::Wrong {
+        return Err(Fault::Because(Mistake {
             kind: Kind::UnknownName,
             place: table.place,
-        });
+        }));
     };
     let values = typed_rows(alloc, statement, consts, columns, rows.as_slice())?;
     let places = places_of(alloc, rows.as_slice())?;
@@ -256,7 +257,7 @@ pub fn inserted(
 }
 
 // The string behind DELIMITER is one comma.
-fn good_delimiter(delimiter: &Option<Quoted>) -> Result<(), Fault>
+fn good_delimiter(delimiter: &Option<Quoted>) -> Result<(), Fault<Mistake>>
     ensures comma { AnswersAs (λ u. u) result (good_delimiter delimiter.now) }
 {
     let Some(string) = delimiter else {
@@ -273,14 +274,14 @@ pub fn copied(
     table: &Word,
     file: &Quoted,
     delimiter: &Option<Quoted>,
-) -> Result<TypedStatement, Fault>
+) -> Result<TypedStatement, Fault<Mistake>>
     ensures made { AnswersAs (made_seen names.now) result (copied names.now table.now file.now delimiter.now) }
 {
     let Some((index, _)) = names.find(table.text.as_str()) else {
-        return Err(Fault::Wrong {
+        return Err(Fault::Because(Mistake {
             kind: Kind::UnknownName,
             place: table.place,
-        });
+        }));
     };
     good_delimiter(delimiter)?;
     let table = number(index)?;

@@ -10,8 +10,9 @@ use crate::rows::{copied, inserted};
 use crate::select::{deleted, explained, selected};
 use crate::tables::{made_index, made_table};
 use mob_ast::{Kind, Refusal, Script, Statement};
+use mob_list::fault::Fault;
 use mob_list::items::Items;
-use mob_scope::fault::Fault;
+use mob_scope::fault::Mistake;
 use mob_typed::{ConstText, Typed, TypedStatement};
 use std::alloc::Global;
 
@@ -23,7 +24,7 @@ fn type_statement(
     names: &mut Names,
     consts: &mut Items<ConstText>,
     statement: &Statement,
-) -> Result<TypedStatement, Fault>
+) -> Result<TypedStatement, Fault<Mistake>>
     ensures typed { TypesTo (made_seen names.new) result consts.new (typed_statement number names.old (statement_of statement.now) consts.old) }
 {
     match statement {
@@ -47,11 +48,11 @@ fn type_statement(
 }
 
 // The refusal of a statement of this number.
-fn refusal_of(fault: Fault, statement: u32) -> Refusal
+fn refusal_of(fault: Fault<Mistake>, statement: u32) -> Refusal
     ensures placed { result ≡ refusal_of fault statement }
 {
     match fault {
-        Fault::Wrong { kind, place } => Refusal {
+        Fault::Because(Mistake { kind, place }) => Refusal {
             kind,
             statement,
             place,

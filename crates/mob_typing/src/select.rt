@@ -12,8 +12,9 @@ use crate::from::{from_table, from_tables};
 use crate::names::Names;
 use mob_ast::{Expr, SelectTree, Word};
 use mob_clauses::{clauses_to_go, typed_clauses};
+use mob_list::fault::Fault;
 use mob_list::items::Items;
-use mob_scope::fault::Fault;
+use mob_scope::fault::Mistake;
 use mob_scope::scope::Scope;
 use mob_typed::{ConstText, TypedSelect, TypedStatement};
 use std::alloc::Global;
@@ -25,7 +26,7 @@ fn typed_select(
     statement: u32,
     consts: &mut Items<ConstText>,
     select: &SelectTree,
-) -> Result<TypedSelect, Fault>
+) -> Result<TypedSelect, Fault<Mistake>>
     ensures typed { TypesTo select_seen result consts.new (typed_select names.now.tables statement (select_of select.now) consts.old) }
 {
     let from = from_tables(alloc, names, select.from.as_slice())?;
@@ -46,7 +47,7 @@ fn typed_delete(
     consts: &mut Items<ConstText>,
     table: &Word,
     cond: &Option<Expr>,
-) -> Result<TypedSelect, Fault>
+) -> Result<TypedSelect, Fault<Mistake>>
     ensures typed { TypesTo select_seen result consts.new (typed_select names.now.tables statement (rows_to_go table.now (option_map tree_of cond.now)) consts.old) }
 {
     let alias = None;
@@ -66,7 +67,7 @@ pub fn selected(
     names: &Names,
     consts: &mut Items<ConstText>,
     select: &SelectTree,
-) -> Result<TypedStatement, Fault>
+) -> Result<TypedStatement, Fault<Mistake>>
     ensures made { TypesTo (made_seen names.now) result consts.new (asked query names.now (typed_select names.now.tables statement (select_of select.now) consts.old)) }
 {
     let select = typed_select(alloc, names, statement, consts, select)?;
@@ -80,7 +81,7 @@ pub fn explained(
     names: &Names,
     consts: &mut Items<ConstText>,
     select: &SelectTree,
-) -> Result<TypedStatement, Fault>
+) -> Result<TypedStatement, Fault<Mistake>>
     ensures made { TypesTo (made_seen names.now) result consts.new (asked plan_of names.now (typed_select names.now.tables statement (select_of select.now) consts.old)) }
 {
     let select = typed_select(alloc, names, statement, consts, select)?;
@@ -95,7 +96,7 @@ pub fn deleted(
     consts: &mut Items<ConstText>,
     table: &Word,
     cond: &Option<Expr>,
-) -> Result<TypedStatement, Fault>
+) -> Result<TypedStatement, Fault<Mistake>>
     ensures made { TypesTo (made_seen names.now) result consts.new (asked deletion names.now (typed_select names.now.tables statement (rows_to_go table.now (option_map tree_of cond.now)) consts.old)) }
 {
     let delete = typed_delete(alloc, names, statement, consts, table, cond)?;

@@ -11,10 +11,11 @@ ghost use Rattle.mob_typed.specs.Statements.{new_index};
 use crate::names::Names;
 use mob_ast::{Kind, SqlType, TypeWord, Word};
 use mob_expression::words::type_named;
+use mob_list::fault::Fault;
 use mob_list::items::Items;
 use mob_list::text::Text;
 use mob_scope::column_list::Columns;
-use mob_scope::fault::{Fault, unless};
+use mob_scope::fault::{Mistake, unless};
 use mob_scope::scope::number;
 use mob_typed::TypedStatement;
 use std::alloc::{AllocError, Global};
@@ -23,29 +24,33 @@ use std::alloc::{AllocError, Global};
 const MOST: usize = 64;
 
 // Adds a column.
-fn with_column(alloc: Global, columns: &mut Columns, column: &(Word, TypeWord)) -> Result<(), Fault>
+fn with_column(
+    alloc: Global,
+    columns: &mut Columns,
+    column: &(Word, TypeWord),
+) -> Result<(), Fault<Mistake>>
     ensures last { AnswersAs (λ _. columns.new) result (with_column columns.old column.now) }
 {
     let (name, word) = column;
     if columns.has(name.text.as_str()) {
-        return Err(Fault::Wrong {
+        return Err(Fault::Because(Mistake {
             kind: Kind::Duplicate,
             place: name.place,
-        });
+        }));
     }
     unless(columns.len() >= MOST, Kind::Limit, name.place)?;
     let Some(ty) = type_named(word) else {
-        return Err(Fault::Wrong {
+        return Err(Fault::Because(Mistake {
             kind: Kind::UnknownName,
             place: word.name.place,
-        });
+        }));
     };
     columns.add(alloc, name.text.as_str(), ty)?;
     Ok(())
 }
 
 // The columns of a new table.
-fn with_columns(alloc: Global, list: &[(Word, TypeWord)]) -> Result<Columns, Fault>
+fn with_columns(alloc: Global, list: &[(Word, TypeWord)]) -> Result<Columns, Fault<Mistake>>
     ensures in_order { AnswersAs (λ c. c) result (with_columns [] list.now) }
 {
     let mut columns = Columns::new(alloc);
@@ -90,14 +95,14 @@ pub fn made_table(
     names: &mut Names,
     name: &Word,
     columns: &Items<(Word, TypeWord)>,
-) -> Result<TypedStatement, Fault>
+) -> Result<TypedStatement, Fault<Mistake>>
     ensures made { AnswersAs (made_seen names.new) result (made_table names.old name.now columns.now) }
 {
     if names.has(name.text.as_str()) {
-        return Err(Fault::Wrong {
+        return Err(Fault::Because(Mistake {
             kind: Kind::Duplicate,
             place: name.place,
-        });
+        }));
     }
     unless(names.len() >= MOST, Kind::Limit, name.place)?;
     let table = number(names.len())?;
@@ -124,7 +129,7 @@ fn added_index(
     name: &Word,
     table: usize,
     column: usize,
-) -> Result<TypedStatement, Fault>
+) -> Result<TypedStatement, Fault<Mistake>>
     requires absent { is_one_of names.old.indexes name.now.text ≡ false }
     ensures added { AnswersAs (made_seen names.new) result (Ok (record { statement = new_index table column name.now.text; names = with_index names.old name.now.text })) }
 {
@@ -146,26 +151,26 @@ pub fn made_index(
     name: &Word,
     table: &Word,
     column: &Word,
-) -> Result<TypedStatement, Fault>
+) -> Result<TypedStatement, Fault<Mistake>>
     ensures made { AnswersAs (made_seen names.new) result (made_index names.old name.now table.now column.now) }
 {
     let Some((table_index, columns)) = names.find(table.text.as_str()) else {
-        return Err(Fault::Wrong {
+        return Err(Fault::Because(Mistake {
             kind: Kind::UnknownName,
             place: table.place,
-        });
+        }));
     };
     if names.has_index(name.text.as_str()) {
-        return Err(Fault::Wrong {
+        return Err(Fault::Because(Mistake {
             kind: Kind::Duplicate,
             place: name.place,
-        });
+        }));
     }
     let Some((column_index, ty)) = columns.find(column.text.as_str()) else {
-        return Err(Fault::Wrong {
+        return Err(Fault::Because(Mistake {
             kind: Kind::UnknownName,
             place: column.place,
-        });
+        }));
     };
     unless(!is_moving_point(ty), Kind::NoSuchOperator, column.place)?;
     added_index(alloc, names, name, table_index, column_index)

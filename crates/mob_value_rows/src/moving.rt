@@ -6,9 +6,10 @@ use crate::together::is_printed;
 use mob_arith::{times_const, times_step};
 use mob_ast::SqlType;
 use mob_frac::Frac;
+use mob_list::fault::Fault;
 use mob_literal::read_value;
 use mob_scalar::Epoch;
-use mob_slice::{Line, Moving, OpFault, Steady};
+use mob_slice::{Formula, Line, Moving, Steady};
 use mob_sync::{Common, Ones};
 use mob_value::Value;
 use std::alloc::Global;
@@ -70,7 +71,11 @@ fn is_line(alloc: Global, line: Moving<Line>, wanted: &str) -> bool {
     is_printed(alloc, &Value::MovingFrac(line), wanted)
 }
 
-fn is_answer(alloc: Global, answer: Result<Option<Moving<Line>>, OpFault>, wanted: &str) -> bool {
+fn is_answer(
+    alloc: Global,
+    answer: Result<Option<Moving<Line>>, Fault<Formula>>,
+    wanted: &str,
+) -> bool {
     match answer {
         Ok(Some(line)) => is_line(alloc, line, wanted),
         Ok(None) => wanted == "NULL",

@@ -16,10 +16,11 @@ use crate::operators::pair::number_pair;
 use mob_arith::{minus, plus, times};
 use mob_ast::SqlType;
 use mob_frac::{Frac, Overflow};
+use mob_list::fault::Fault;
 use mob_meaning::Calculation;
 use mob_ordinary::kinds::int_or_null;
 use mob_ordinary::numbers::is_nil;
-use mob_slice::{Formula, Moving, OpFault, Operand, Steady};
+use mob_slice::{Formula, Moving, Operand, Steady};
 use mob_value::Value;
 use std::alloc::Global;
 
@@ -34,15 +35,13 @@ fn calculated(by: Calculation, left: &Frac, right: &Frac) -> Result<Frac, Overfl
 }
 
 // `+`, `-` or `*` on plain numbers.
-fn plain(by: Calculation, left: &Value, right: &Value) -> Result<Value, OpFault>
+fn plain(by: Calculation, left: &Value, right: &Value) -> Result<Value, Fault<Formula>>
     ensures outcome { IsOutcome (λ v. v ≡ on_numbers (result_by by) left.now right.now) (IsFirst (plain_entries (parts_on (parts_by by) left.now right.now))) result }
 {
     match (left, right) {
         (Value::Number(a), Value::Number(b)) => match calculated(by, a, b) {
             Ok(number) => Ok(Value::Number(number)),
-            Err(_) => Err(OpFault::Passed {
-                formula: Formula::F2,
-            }),
+            Err(_) => Err(Fault::Because(Formula::F2)),
         },
         _ => Ok(Value::Null),
     }
@@ -54,7 +53,7 @@ fn lifted(
     by: Calculation,
     left: Operand<'_, Steady<Frac>>,
     right: Operand<'_, Steady<Frac>>,
-) -> Result<Option<Moving<Steady<Frac>>>, OpFault>
+) -> Result<Option<Moving<Steady<Frac>>>, Fault<Formula>>
     requires moving { (has_slices (operand_of left) || has_slices (operand_of right)) ≡ true }
     ensures value { IfOk result (λ r. IsPointwise steady_value (result_by by) (given_at steady_value (operand_of left.entry)) (given_at steady_value (operand_of right.entry)) r) }
     ensures first { IsJudged (flat_map (entries_at_ends steady_value steady_parts steady_value steady_parts (parts_by by)) (pieces (operand_of left.entry) (operand_of right.entry))) result }
@@ -67,14 +66,16 @@ fn lifted(
 }
 
 // `+`, `-` or `*` at each instant, on two values of which one is a tint.
-fn moving(alloc: Global, by: Calculation, left: &Value, right: &Value) -> Result<Value, OpFault>
+fn moving(
+    alloc: Global,
+    by: Calculation,
+    left: &Value,
+    right: &Value,
+) -> Result<Value, Fault<Formula>>
     ensures outcome { IsOutcome (OnPair (number_pair left.now right.now) (IsMovingInt (result_by by))) (IsFirst (entries_on (entries_at_ends steady_value steady_parts steady_value steady_parts (parts_by by)) (number_pair left.now right.now))) result }
 {
     match number_pair(left, right) {
-        Some((left, right)) => match lifted(alloc, by, left, right) {
-            Ok(value) => Ok(int_or_null(value)),
-            Err(fault) => Err(fault),
-        },
+        Some((left, right)) => Ok(int_or_null(lifted(alloc, by, left, right)?)),
         None => Ok(Value::Null),
     }
 }
@@ -86,7 +87,7 @@ pub fn calculate(
     ty: SqlType,
     left: &Value,
     right: &Value,
-) -> Result<Value, OpFault>
+) -> Result<Value, Fault<Formula>>
     ensures outcome { IsOutcome (IsArithmetic by ty left.now right.now) (IsFirst (arithmetic_entries by ty left.now right.now)) result }
 {
     match ty {
@@ -99,7 +100,7 @@ pub fn calculate(
 }
 
 // `/` between two values. NULL where the divisor is 0.
-fn plain_division(left: &Value, right: &Value) -> Result<Value, OpFault>
+fn plain_division(left: &Value, right: &Value) -> Result<Value, Fault<Formula>>
     ensures outcome { IsOutcome (λ v. v ≡ quotient left.now right.now) (IsFirst (plain_entries (parts_on divided_parts left.now right.now))) result }
 {
     let Value::Number(a) = left else {
@@ -113,14 +114,17 @@ fn plain_division(left: &Value, right: &Value) -> Result<Value, OpFault>
     }
     match a.div(b) {
         Ok(number) => Ok(Value::Number(number)),
-        Err(_) => Err(OpFault::Passed {
-            formula: Formula::F2,
-        }),
+        Err(_) => Err(Fault::Because(Formula::F2)),
     }
 }
 
 /// `/` between two values, with a result of this type. NULL where the divisor is 0.
-pub fn division(alloc: Global, ty: SqlType, left: &Value, right: &Value) -> Result<Value, OpFault>
+pub fn division(
+    alloc: Global,
+    ty: SqlType,
+    left: &Value,
+    right: &Value,
+) -> Result<Value, Fault<Formula>>
     ensures outcome { IsOutcome (IsDivided ty left.now right.now) (IsFirst (divided_entries ty left.now right.now)) result }
 {
     match ty {

@@ -10,33 +10,28 @@ use crate::operators::pair::{text_pair, truth_pair};
 use mob_arith::operation::{Joining, Operation};
 use mob_arith::{and, join_text, not, or};
 use mob_ast::SqlType;
+use mob_list::fault::Fault;
 use mob_ordinary::kinds::{bool_or_null, text_or_null};
-use mob_slice::OpFault;
+use mob_slice::Formula;
 use mob_value::Value;
 use std::alloc::{AllocError, Global};
 
 /// `&`: whether both truth values hold, at each instant.
-pub fn lifted_and(alloc: Global, left: &Value, right: &Value) -> Result<Value, OpFault>
+pub fn lifted_and(alloc: Global, left: &Value, right: &Value) -> Result<Value, Fault<Formula>>
     ensures outcome { IsOutcome (OnPair (truth_pair left.now right.now) (IsMovingBool both_hold)) (IsFirst []) result }
 {
     match truth_pair(left, right) {
-        Some((left, right)) => match and(alloc, left, right) {
-            Ok(value) => Ok(bool_or_null(value)),
-            Err(_) => Err(OpFault::NoMemory),
-        },
+        Some((left, right)) => Ok(bool_or_null(and(alloc, left, right)?)),
         None => Ok(Value::Null),
     }
 }
 
 /// `|`: whether one of two truth values holds, at each instant.
-pub fn lifted_or(alloc: Global, left: &Value, right: &Value) -> Result<Value, OpFault>
+pub fn lifted_or(alloc: Global, left: &Value, right: &Value) -> Result<Value, Fault<Formula>>
     ensures outcome { IsOutcome (OnPair (truth_pair left.now right.now) (IsMovingBool one_holds)) (IsFirst []) result }
 {
     match truth_pair(left, right) {
-        Some((left, right)) => match or(alloc, left, right) {
-            Ok(value) => Ok(bool_or_null(value)),
-            Err(_) => Err(OpFault::NoMemory),
-        },
+        Some((left, right)) => Ok(bool_or_null(or(alloc, left, right)?)),
         None => Ok(Value::Null),
     }
 }
@@ -51,32 +46,31 @@ pub fn lifted_not(alloc: Global, value: &Value) -> Result<Value, AllocError>
     }
 }
 
-fn plain_joined(alloc: Global, left: &Value, right: &Value) -> Result<Value, OpFault>
+fn plain_joined(alloc: Global, left: &Value, right: &Value) -> Result<Value, Fault<Formula>>
     ensures outcome { IsOutcome (λ v. v ≡ concatenation left.now right.now) (IsFirst []) result }
 {
     match (left, right) {
-        (Value::Text(a), Value::Text(b)) => match Joining::apply(alloc, a, b) {
-            Ok(text) => Ok(Value::Text(text)),
-            Err(_) => Err(OpFault::NoMemory),
-        },
+        (Value::Text(a), Value::Text(b)) => Ok(Value::Text(Joining::apply(alloc, a, b)?)),
         _ => Ok(Value::Null),
     }
 }
 
-fn moving_joined(alloc: Global, left: &Value, right: &Value) -> Result<Value, OpFault>
+fn moving_joined(alloc: Global, left: &Value, right: &Value) -> Result<Value, Fault<Formula>>
     ensures outcome { IsOutcome (OnPair (text_pair left.now right.now) (IsMovingText text_of)) (IsFirst []) result }
 {
     match text_pair(left, right) {
-        Some((left, right)) => match join_text(alloc, left, right) {
-            Ok(value) => Ok(text_or_null(value)),
-            Err(_) => Err(OpFault::NoMemory),
-        },
+        Some((left, right)) => Ok(text_or_null(join_text(alloc, left, right)?)),
         None => Ok(Value::Null),
     }
 }
 
 /// `||`: two texts joined, with a result of this type.
-pub fn join(alloc: Global, ty: SqlType, left: &Value, right: &Value) -> Result<Value, OpFault>
+pub fn join(
+    alloc: Global,
+    ty: SqlType,
+    left: &Value,
+    right: &Value,
+) -> Result<Value, Fault<Formula>>
     ensures outcome { IsOutcome (IsJoined ty left.now right.now) (IsFirst []) result }
 {
     match ty {

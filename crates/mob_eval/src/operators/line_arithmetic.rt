@@ -16,16 +16,22 @@ ghost use Rattle.mob_eval.specs.Outcomes.{IsOutcome};
 use crate::operators::lines::{as_line, as_lines};
 use crate::operators::pair::{factors, frac_pair};
 use mob_arith::{minus, over_const, plus, times};
+use mob_list::fault::Fault;
 use mob_meaning::Calculation;
 use mob_ordinary::kinds::frac_or_null;
 use mob_ordinary::numbers::is_nil;
-use mob_slice::OpFault;
+use mob_slice::Formula;
 use mob_value::Value;
 use std::alloc::Global;
 use std::mem::drop;
 
 // The sum or the difference of numbers that change evenly.
-fn frac_terms(alloc: Global, by: Calculation, left: &Value, right: &Value) -> Result<Value, OpFault>
+fn frac_terms(
+    alloc: Global,
+    by: Calculation,
+    left: &Value,
+    right: &Value,
+) -> Result<Value, Fault<Formula>>
     requires term { by ≢ Product }
     ensures outcome { IsOutcome (OnOperands line_value_of line_value_of (frac_pair left.now right.now) (IsMovingFrac (result_by by))) (IsFirst (entries_on (entries_at_ends line_value_of line_parts_of line_value_of line_parts_of (parts_by by)) (frac_pair left.now right.now))) result }
 {
@@ -33,32 +39,28 @@ fn frac_terms(alloc: Global, by: Calculation, left: &Value, right: &Value) -> Re
         return Ok(Value::Null);
     };
     match by {
-        Calculation::Sum => match plus(alloc, left, right) {
-            Ok(value) => Ok(frac_or_null(value)),
-            Err(fault) => Err(fault),
-        },
-        Calculation::Difference => match minus(alloc, left, right) {
-            Ok(value) => Ok(frac_or_null(value)),
-            Err(fault) => Err(fault),
-        },
+        Calculation::Sum => Ok(frac_or_null(plus(alloc, left, right)?)),
+        Calculation::Difference => Ok(frac_or_null(minus(alloc, left, right)?)),
         Calculation::Product => unreachable!(),
     }
 }
 
-fn frac_product(alloc: Global, left: &Value, right: &Value) -> Result<Value, OpFault>
+fn frac_product(alloc: Global, left: &Value, right: &Value) -> Result<Value, Fault<Formula>>
     ensures outcome { IsOutcome (OnOperands line_value_of steady_value (factors left.now right.now) (IsMovingFrac product_of)) (IsFirst (entries_on (entries_at_ends line_value_of line_parts_of steady_value steady_parts product_parts) (factors left.now right.now))) result }
 {
     match factors(left, right) {
-        Some((line, factor)) => match times(alloc, line, factor) {
-            Ok(value) => Ok(frac_or_null(value)),
-            Err(fault) => Err(fault),
-        },
+        Some((line, factor)) => Ok(frac_or_null(times(alloc, line, factor)?)),
         None => Ok(Value::Null),
     }
 }
 
 // The sum or the difference, a tint among them.
-fn line_terms(alloc: Global, by: Calculation, left: &Value, right: &Value) -> Result<Value, OpFault>
+fn line_terms(
+    alloc: Global,
+    by: Calculation,
+    left: &Value,
+    right: &Value,
+) -> Result<Value, Fault<Formula>>
     requires term { by ≢ Product }
     ensures outcome { IsOutcome (OnOperands line_value_of line_value_of (line_pair left.now right.now) (IsMovingFrac (result_by by))) (IsFirst (entries_on (entries_at_ends line_value_of line_parts_of line_value_of line_parts_of (parts_by by)) (line_pair left.now right.now))) result }
 {
@@ -68,12 +70,12 @@ fn line_terms(alloc: Global, by: Calculation, left: &Value, right: &Value) -> Re
             drop((left, right));
             value
         }
-        Err(_) => Err(OpFault::NoMemory),
+        Err(_) => Err(Fault::NoMemory),
     }
 }
 
 // The product of a value and a number, where a tint changes evenly.
-fn widened_product(alloc: Global, line: &Value, factor: &Value) -> Result<Value, OpFault>
+fn widened_product(alloc: Global, line: &Value, factor: &Value) -> Result<Value, Fault<Formula>>
     ensures outcome { IsOutcome (OnOperands line_value_of steady_value (factors (as_line line.now) factor.now) (IsMovingFrac product_of)) (IsFirst (entries_on (entries_at_ends line_value_of line_parts_of steady_value steady_parts product_parts) (factors (as_line line.now) factor.now))) result }
 {
     match as_line(alloc, line) {
@@ -82,11 +84,11 @@ fn widened_product(alloc: Global, line: &Value, factor: &Value) -> Result<Value,
             drop(line);
             product
         }
-        Err(_) => Err(OpFault::NoMemory),
+        Err(_) => Err(Fault::NoMemory),
     }
 }
 
-fn line_product(alloc: Global, left: &Value, right: &Value) -> Result<Value, OpFault>
+fn line_product(alloc: Global, left: &Value, right: &Value) -> Result<Value, Fault<Formula>>
     ensures outcome { IsOutcome (OnOperands line_value_of steady_value (product_pair left.now right.now) (IsMovingFrac product_of)) (IsFirst (entries_on (entries_at_ends line_value_of line_parts_of steady_value steady_parts product_parts) (product_pair left.now right.now))) result }
 {
     match (left, right) {
@@ -102,7 +104,7 @@ pub fn line_calculated(
     by: Calculation,
     left: &Value,
     right: &Value,
-) -> Result<Value, OpFault>
+) -> Result<Value, Fault<Formula>>
     ensures outcome { IsOutcome (IsLineArithmetic by left.now right.now) (IsFirst (line_entries by left.now right.now)) result }
 {
     match by {
@@ -112,7 +114,7 @@ pub fn line_calculated(
     }
 }
 
-fn frac_quotient(alloc: Global, left: &Value, right: &Value) -> Result<Value, OpFault>
+fn frac_quotient(alloc: Global, left: &Value, right: &Value) -> Result<Value, Fault<Formula>>
     ensures outcome { IsOutcome (IsLineQuotient left.now right.now) (IsFirst (line_quotient_entries left.now right.now)) result }
 {
     let Value::MovingFrac(a) = left else {
@@ -131,7 +133,7 @@ fn frac_quotient(alloc: Global, left: &Value, right: &Value) -> Result<Value, Op
 }
 
 /// `/` with a tfrac as the result. NULL where the divisor is 0.
-pub fn line_divided(alloc: Global, left: &Value, right: &Value) -> Result<Value, OpFault>
+pub fn line_divided(alloc: Global, left: &Value, right: &Value) -> Result<Value, Fault<Formula>>
     ensures outcome { IsOutcome (IsLineQuotient (as_line left.now) right.now) (IsFirst (line_quotient_entries (as_line left.now) right.now)) result }
 {
     match as_line(alloc, left) {
@@ -140,6 +142,6 @@ pub fn line_divided(alloc: Global, left: &Value, right: &Value) -> Result<Value,
             drop(line);
             quotient
         }
-        Err(_) => Err(OpFault::NoMemory),
+        Err(_) => Err(Fault::NoMemory),
     }
 }

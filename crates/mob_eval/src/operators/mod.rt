@@ -42,6 +42,7 @@ use crate::operators::restriction::restriction;
 use crate::operators::signs::sign_test;
 use crate::scene::View;
 use mob_ast::SqlType;
+use mob_list::fault::Fault;
 use mob_meaning::{Calculation, Scope};
 use mob_operators::Op;
 use mob_ordinary::comparison::test;
@@ -49,7 +50,7 @@ use mob_ordinary::logic::{
     conjunction, disjunction, is_null, known, negation as contrary, truth_of,
 };
 use mob_ordinary::numbers::{negation, unchanged};
-use mob_slice::OpFault;
+use mob_slice::Formula;
 use mob_typed::TExpr;
 use mob_value::Value;
 use mob_value::held::{Held, made};
@@ -102,7 +103,7 @@ pub fn of_two(
     args: &[TExpr],
     left: &Value,
     right: &Value,
-) -> Result<Value, OpFault>
+) -> Result<Value, Fault<Formula>>
     ensures outcome { IsOutcome (GivesOfTwo op ty (operand_types args.now) left.now right.now) (λ first. OnEntriesOfTwo op ty (operand_types args.now) left.now right.now (λ entries. IsFirst entries first)) result }
 {
     match op {
@@ -139,7 +140,7 @@ pub fn of_three(
     first: &Value,
     second: &Value,
     third: &Value,
-) -> Result<Value, OpFault>
+) -> Result<Value, Fault<Formula>>
     ensures outcome { IsOutcome (GivesOfThree op first.now second.now third.now) (IsFirst (entries_of_three op first.now second.now third.now)) result }
 {
     match op {

@@ -4,10 +4,11 @@ ghost use Rattle.mob_meaning.specs.Nearness.{IsEverWithin, IsNearestApproach, wi
 ghost use Rattle.mob_eval.specs.Outcomes.{IsOutcome};
 
 use crate::operators::pair::plane_pair;
+use mob_list::fault::Fault;
 use mob_near::{approach_squared, ever_within};
 use mob_ordinary::kinds::plain_number;
 use mob_ordinary::logic::answered;
-use mob_slice::{OpFault, Passed};
+use mob_slice::Formula;
 use mob_value::Value;
 use std::alloc::Global;
 
@@ -18,7 +19,7 @@ pub fn within(
     left: &Value,
     right: &Value,
     distance: &Value,
-) -> Result<Value, OpFault>
+) -> Result<Value, Fault<Formula>>
     ensures outcome { IsOutcome (IsEverWithin left.now right.now distance.now) (IsFirst (within_entries left.now right.now distance.now)) result }
 {
     let Value::Number(d) = distance else {
@@ -31,7 +32,7 @@ pub fn within(
 }
 
 /// nearestApproachSquared: the square of the least distance to which two points come.
-pub fn nearest_approach(alloc: Global, left: &Value, right: &Value) -> Result<Value, OpFault>
+pub fn nearest_approach(alloc: Global, left: &Value, right: &Value) -> Result<Value, Fault<Formula>>
     ensures outcome { IsOutcome (IsNearestApproach left.now right.now) (IsFirst (approach_entries left.now right.now)) result }
 {
     let Some((left, right)) = plane_pair(left, right) else {
@@ -39,6 +40,6 @@ pub fn nearest_approach(alloc: Global, left: &Value, right: &Value) -> Result<Va
     };
     match approach_squared(alloc, left, right) {
         Ok(square) => Ok(plain_number(square)),
-        Err(Passed { formula }) => Err(OpFault::Passed { formula }),
+        Err(formula) => Err(Fault::Because(formula)),
     }
 }

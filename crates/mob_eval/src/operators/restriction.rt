@@ -7,10 +7,11 @@ ghost use Rattle.mob_meaning.specs.Times.{IsRestriction, IsTimeRestriction, cut_
 ghost use Rattle.mob_eval.specs.Outcomes.{IsOutcome};
 
 use crate::operators::asked::instant_span;
+use mob_list::fault::Fault;
 use mob_ordinary::kinds::{bool_or_null, frac_or_null, int_or_null, point_or_null, text_or_null};
 use mob_ordinary::sets::one_span;
 use mob_restrict::{at_time, minus_time};
-use mob_slice::{Course, Moving, OpFault};
+use mob_slice::{Course, Formula, Moving};
 use mob_span::{Span, SpanSet};
 use mob_value::Value;
 use std::alloc::Global;
@@ -21,7 +22,7 @@ fn cut<C: Course + Drop>(
     want: bool,
     a: &Moving<C>,
     when: &SpanSet,
-) -> Result<Option<Moving<C>>, OpFault>
+) -> Result<Option<Moving<C>>, Fault<Formula>>
 where
     C::Base: Drop,
     ensures value { IfOk result (λ r. IsRestricted C.value_of want (λ t x. in_some when.now t) a.now r) }
@@ -34,30 +35,20 @@ where
 }
 
 // What is left of a temporal value of any type at the instants of a set, or at the others.
-fn restricted(alloc: Global, want: bool, value: &Value, when: &SpanSet) -> Result<Value, OpFault>
+fn restricted(
+    alloc: Global,
+    want: bool,
+    value: &Value,
+    when: &SpanSet,
+) -> Result<Value, Fault<Formula>>
     ensures outcome { IsOutcome (IsRestriction want when.now value.now) (IsFirst (cuts_of when.now value.now)) result }
 {
     match value {
-        Value::MovingBool(a) => match cut(alloc, want, a, when) {
-            Ok(rest) => Ok(bool_or_null(rest)),
-            Err(fault) => Err(fault),
-        },
-        Value::MovingInt(a) => match cut(alloc, want, a, when) {
-            Ok(rest) => Ok(int_or_null(rest)),
-            Err(fault) => Err(fault),
-        },
-        Value::MovingFrac(a) => match cut(alloc, want, a, when) {
-            Ok(rest) => Ok(frac_or_null(rest)),
-            Err(fault) => Err(fault),
-        },
-        Value::MovingText(a) => match cut(alloc, want, a, when) {
-            Ok(rest) => Ok(text_or_null(rest)),
-            Err(fault) => Err(fault),
-        },
-        Value::MovingPoint(a) => match cut(alloc, want, a, when) {
-            Ok(rest) => Ok(point_or_null(rest)),
-            Err(fault) => Err(fault),
-        },
+        Value::MovingBool(a) => Ok(bool_or_null(cut(alloc, want, a, when)?)),
+        Value::MovingInt(a) => Ok(int_or_null(cut(alloc, want, a, when)?)),
+        Value::MovingFrac(a) => Ok(frac_or_null(cut(alloc, want, a, when)?)),
+        Value::MovingText(a) => Ok(text_or_null(cut(alloc, want, a, when)?)),
+        Value::MovingPoint(a) => Ok(point_or_null(cut(alloc, want, a, when)?)),
         _ => Ok(Value::Null),
     }
 }
@@ -68,12 +59,12 @@ fn restricted_to_span(
     want: bool,
     value: &Value,
     span: &Span,
-) -> Result<Value, OpFault>
+) -> Result<Value, Fault<Formula>>
     ensures outcome { IsOutcome (IsRestriction want (span.now ∷ []) value.now) (IsFirst (cuts_of (span.now ∷ []) value.now)) result }
 {
     match one_span(alloc, span) {
         Ok(when) => restricted(alloc, want, value, &when),
-        Err(_) => Err(OpFault::NoMemory),
+        Err(_) => Err(Fault::NoMemory),
     }
 }
 
@@ -84,7 +75,7 @@ pub fn restriction(
     want: bool,
     value: &Value,
     asked: &Value,
-) -> Result<Value, OpFault>
+) -> Result<Value, Fault<Formula>>
     ensures outcome { IsOutcome (IsTimeRestriction want value.now asked.now) (IsFirst (restriction_entries value.now asked.now)) result }
 {
     match asked {

@@ -19,11 +19,12 @@ use crate::operators::pair::{
 use mob_ast::{Cmp, SqlType};
 use mob_compare::compare;
 use mob_ever::{always, ever};
+use mob_list::fault::Fault;
 use mob_meaning::Scope;
 use mob_ordinary::comparison::rel_of;
 use mob_ordinary::kinds::bool_or_null;
 use mob_ordinary::logic::answered;
-use mob_slice::{Compared, OpFault, Ranked, Rel};
+use mob_slice::{Compared, Formula, Ranked, Rel};
 use mob_value::Value;
 use std::alloc::Global;
 use std::mem::drop;
@@ -34,22 +35,19 @@ fn asked<C: Compared + Drop>(
     scope: Scope,
     rel: Rel,
     pair: Option<Pair<'_, C>>,
-) -> Result<Value, OpFault>
+) -> Result<Value, Fault<Formula>>
 where
     C::Base: Drop,
     requires asked { MayAsk C.ordered rel }
     requires moving { IfSome pair (λ p. (has_slices (operand_of p.0) || has_slices (operand_of p.1)) ≡ true) }
     ensures outcome { IsOutcome (OnOperands C.value_of C.value_of (option_map operands_of pair.entry) (IsAsked scope (C.relation rel))) (IsFirst (entries_on (entries_asked scope C.value_of C.parts_of C.gaps_of) (option_map operands_of pair.entry))) result }
-    ensures memory { C.STEADY ≡ true → IfErr result (λ e. e ≡ OpFault.NoMemory) }
+    ensures memory { C.STEADY ≡ true → IfErr result (λ e. e ≡ Fault.NoMemory) }
 {
     let Some((left, right)) = pair else {
         return Ok(Value::Null);
     };
     match scope {
-        Scope::Each => match compare(alloc, left, right, rel) {
-            Ok(value) => Ok(bool_or_null(value)),
-            Err(fault) => Err(fault),
-        },
+        Scope::Each => Ok(bool_or_null(compare(alloc, left, right, rel)?)),
         Scope::Ever => answered(ever(alloc, left, right, rel)),
         Scope::Always => answered(always(alloc, left, right, rel)),
     }
@@ -61,14 +59,14 @@ fn steps_asked<B: Ranked + Drop>(
     scope: Scope,
     rel: Rel,
     pair: Option<StepPair<'_, B>>,
-) -> Result<Value, OpFault>
+) -> Result<Value, Fault<Formula>>
     requires moving { IfSome pair (λ p. (has_slices (operand_of p.0) || has_slices (operand_of p.1)) ≡ true) }
     ensures outcome { IsOutcome (OnPair (option_map operands_of pair.entry) (IsAsked scope (λ x y. holds rel (B.compare_of x y)))) (IsFirst []) result }
 {
     match asked(alloc, scope, rel, pair) {
         Ok(value) => Ok(value),
-        Err(OpFault::NoMemory) => Err(OpFault::NoMemory),
-        Err(OpFault::Passed { .. }) => unreachable!(),
+        Err(Fault::NoMemory) => Err(Fault::NoMemory),
+        Err(Fault::Because(_)) => unreachable!(),
     }
 }
 
@@ -79,7 +77,7 @@ fn lines_asked(
     rel: Rel,
     left: &Value,
     right: &Value,
-) -> Result<Value, OpFault>
+) -> Result<Value, Fault<Formula>>
     ensures outcome { IsOutcome (OnOperands line_value_of line_value_of (line_pair left.now right.now) (IsAsked scope (number_relates rel))) (IsFirst (entries_on (entries_asked scope line_value_of line_parts_of number_gaps) (line_pair left.now right.now))) result }
 {
     match as_lines(alloc, left, right) {
@@ -88,7 +86,7 @@ fn lines_asked(
             drop((left, right));
             answer
         }
-        Err(_) => Err(OpFault::NoMemory),
+        Err(_) => Err(Fault::NoMemory),
     }
 }
 
@@ -100,7 +98,7 @@ fn order(
     met: Option<SqlType>,
     left: &Value,
     right: &Value,
-) -> Result<Value, OpFault>
+) -> Result<Value, Fault<Formula>>
     ensures outcome { IsOutcome (IsOrderTest scope rel met left.now right.now) (IsFirst (order_entries scope met left.now right.now)) result }
 {
     match met {
@@ -120,7 +118,7 @@ fn sameness(
     met: Option<SqlType>,
     left: &Value,
     right: &Value,
-) -> Result<Value, OpFault>
+) -> Result<Value, Fault<Formula>>
     requires asked { MayAsk false rel }
     ensures outcome { IsOutcome (IsAnyTest scope rel met left.now right.now) (IsFirst (any_entries scope met left.now right.now)) result }
 {
@@ -139,7 +137,7 @@ pub fn sign_test(
     met: Option<SqlType>,
     left: &Value,
     right: &Value,
-) -> Result<Value, OpFault>
+) -> Result<Value, Fault<Formula>>
     ensures outcome { IsOutcome (IsSignTest scope sign met left.now right.now) (IsFirst (sign_entries scope sign met left.now right.now)) result }
 {
     match sign {

@@ -1,7 +1,7 @@
 // What a DELETE does.
 ghost use Rattle.std.specs.Prelude.{◌≡◌, ◌≤◌, Ok, Err, IfOk, IfErr, OnErr, OnOk, get_or, length};
 ghost use Rattle.mob_typed.specs.Selects.{select_seen};
-ghost use Rattle.mob_eval.specs.QueryFaults.{OnTuple};
+ghost use Rattle.mob_list.specs.Faults.{OnCause};
 ghost use Rattle.mob_join.specs.Deleted.{first_rows as rows_of};
 ghost use Rattle.mob_join.specs.Query.{IsKept};
 ghost use Rattle.mob_join.specs.TypedFor.{IsTypedFor};
@@ -10,6 +10,7 @@ ghost use Rattle.mob_shell.specs.Deletes.{IsDeleted};
 use crate::statements::answers::kept_tuples;
 use mob_catalog::Catalog;
 use mob_eval::QueryFault;
+use mob_list::fault::Fault;
 use mob_list::items::Items;
 use mob_outside::Gate;
 use mob_scalar::Epoch;
@@ -76,14 +77,11 @@ pub fn delete_kept<R: Threads + Sync, G: Gate>(
     requires some { 1 ≤ workers }
     requires few { workers ≤ 64 }
     ensures deleted { OnOk result (IsDeleted (select_seen select.now) catalog.old epoch.now catalog.new) }
-    ensures fault { IfErr result (OnTuple (λ f. IsKept (select_seen select.now) catalog.old epoch.now (Err f))) }
+    ensures fault { IfErr result (OnCause (λ f. IsKept (select_seen select.now) catalog.old epoch.now (Err f))) }
     ensures unchanged { OnErr result (catalog.new ≡ catalog.old) }
 {
     match kept_tuples(rt, alloc, select, catalog, epoch, workers, gate) {
-        Ok(kept) => match take_away(alloc, select, catalog, epoch, kept) {
-            Ok(()) => Ok(()),
-            Err(_) => Err(QueryFault::NoMemory),
-        },
+        Ok(kept) => Ok(take_away(alloc, select, catalog, epoch, kept)?),
         Err(fault) => Err(fault),
     }
 }

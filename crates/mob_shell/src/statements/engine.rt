@@ -1,7 +1,7 @@
 // Statements that run one after another, each with the text of its answer.
 ghost use Rattle.std.specs.Prelude.{◌≤◌, IfErr, IfOk};
 ghost use Rattle.mob_outside.specs.EndsSeen.{stream_seen};
-ghost use Rattle.mob_eval.specs.QueryFaults.{OnTuple};
+ghost use Rattle.mob_list.specs.Faults.{OnCause};
 ghost use Rattle.mob_statements.specs.Statements.{CanAllRun, StatementsEnd};
 ghost use Rattle.mob_shell.specs.Session.{SessionCanRun, SessionRuns, StopsOn};
 
@@ -41,7 +41,7 @@ pub fn run_session<R: Threads + Sync, K: Sink, G: Gate>(
         requires some { 1 ≤ workers }
         requires few { workers ≤ 64 }
         ensures step { IfOk result (λ text. SessionRuns session.old statement.now session.new text.items) }
-        ensures fault { IfErr result (OnTuple (λ f. StopsOn session.old statement.now f)) }
+        ensures fault { IfErr result (OnCause (λ f. StopsOn session.old statement.now f)) }
     { session.execute(rt, alloc, statement, workers, gate) };
     run_all(alloc, session, statements, out, &execute)
 }

@@ -1,6 +1,6 @@
 // A run of statements.
 ghost use Rattle.std.specs.Prelude.{◌≡◌, ◌≤◌, [], length, IfOk, IfErr, OnErr, OnOk};
-ghost use Rattle.mob_eval.specs.QueryFaults.{OnTuple};
+ghost use Rattle.mob_list.specs.Faults.{OnCause};
 ghost use Rattle.mob_typed.specs.Selects.{select_seen};
 ghost use Rattle.mob_typed.specs.Statements.{deletion, plan_of, query, statement_seen};
 ghost use Rattle.mob_join.specs.TypedFor.{IsTypedFor};
@@ -12,6 +12,7 @@ use crate::statements::deleting::delete_kept;
 use crate::statements::rows::{copy_of_columns, put_constants};
 use mob_catalog::Catalog;
 use mob_eval::QueryFault;
+use mob_list::fault::Fault;
 use mob_load::Program;
 use mob_outside::Gate;
 use mob_scalar::Epoch;
@@ -71,7 +72,7 @@ impl Session {
         requires some { 1 ≤ workers }
         requires few { workers ≤ 64 }
         ensures text { IfOk result (λ text. StatementWrites (session_day self.now) (session_state self.now) (query (select_seen select.now)) text.items) }
-        ensures fault { IfErr result (OnTuple (λ f. Stops (session_day self.now) (session_state self.now) (query (select_seen select.now)) f)) }
+        ensures fault { IfErr result (OnCause (λ f. Stops (session_day self.now) (session_state self.now) (query (select_seen select.now)) f)) }
     {
         answered(rt, alloc, select, &self.catalog, &self.epoch, workers, gate)
     }
@@ -79,12 +80,9 @@ impl Session {
     // The text of the plan of a query. It has no fault.
     fn explain(&self, alloc: Global, select: &TypedSelect) -> Result<Vec<u8>, QueryFault>
         ensures text { IfOk result (λ text. StatementWrites (session_day self.now) (session_state self.now) (plan_of (select_seen select.now)) text.items) }
-        ensures fault { IfErr result (OnTuple (λ f. Stops (session_day self.now) (session_state self.now) (plan_of (select_seen select.now)) f)) }
+        ensures fault { IfErr result (OnCause (λ f. Stops (session_day self.now) (session_state self.now) (plan_of (select_seen select.now)) f)) }
     {
-        match explained(alloc, select, &self.catalog) {
-            Ok(text) => Ok(text),
-            Err(_) => Err(QueryFault::NoMemory),
-        }
+        Ok(explained(alloc, select, &self.catalog)?)
     }
 
     // Deletes the rows that meet the condition of a DELETE. It writes nothing. Where it has a
@@ -104,7 +102,7 @@ impl Session {
         ensures leaves { OnOk result (StatementLeaves (session_day self.old) (session_state self.old) (deletion (select_seen select.now)) (session_state self.new)) }
         ensures text { IfOk result (λ text. text.items ≡ []) }
         ensures day { OnOk result (session_day self.new ≡ session_day self.old) }
-        ensures fault { IfErr result (OnTuple (λ f. Stops (session_day self.old) (session_state self.old) (deletion (select_seen select.now)) f)) }
+        ensures fault { IfErr result (OnCause (λ f. Stops (session_day self.old) (session_state self.old) (deletion (select_seen select.now)) f)) }
         ensures unchanged { OnErr result (session_state self.new ≡ session_state self.old) }
     {
         delete_kept(
@@ -164,7 +162,7 @@ impl Session {
         requires some { 1 ≤ workers }
         requires few { workers ≤ 64 }
         ensures step { IfOk result (λ text. SessionRuns self.old statement.now self.new text.items) }
-        ensures fault { IfErr result (OnTuple (λ f. StopsOn self.old statement.now f)) }
+        ensures fault { IfErr result (OnCause (λ f. StopsOn self.old statement.now f)) }
     {
         match statement {
             TypedStatement::Select(select) => self.answer(rt, alloc, select, workers, gate),
@@ -172,7 +170,7 @@ impl Session {
             TypedStatement::Delete(select) => self.delete(rt, alloc, select, workers, gate),
             _ => match self.change(alloc, statement) {
                 Ok(()) => Ok(Vec::new(alloc)),
-                Err(_) => Err(QueryFault::NoMemory),
+                Err(_) => Err(Fault::NoMemory),
             },
         }
     }

@@ -8,20 +8,18 @@ ghost use Rattle.mob_slice.specs.LineComparison.{number_relates, number_gaps, li
 ghost use Rattle.mob_slice.specs.declared.formula.Formula.TheVariants.{F2};
 
 use crate::comparison::{Compared, Gaps, Ranked, Rel};
-use crate::formula::{Formula, Passed};
+use crate::formula::Formula;
 use crate::line::{Line, PlaneLine};
 use mob_frac::Frac;
 use mob_plane::Point;
 
-// The first less the second. The fault names F2, exactly where the difference does not fit.
-fn gap(a: &Frac, b: &Frac) -> Result<Frac, Passed>
+// The difference `a - b`. The fault is F2, exactly if the difference does not fit.
+fn gap(a: &Frac, b: &Frac) -> Result<Frac, Formula>
     ensures gap { IsComputed F2 (difference_parts a.now b.now) (a.now -ℚ b.now) result }
 {
     match a.sub(b) {
         Ok(gap) => Ok(gap),
-        Err(_) => Err(Passed {
-            formula: Formula::F2,
-        }),
+        Err(_) => Err(Formula::F2),
     }
 }
 
@@ -36,7 +34,7 @@ impl Compared for Line {
         rel.holds(Ranked::compare(a, b))
     }
 
-    fn gaps(a: &Frac, b: &Frac) -> Result<Gaps, Passed> {
+    fn gaps(a: &Frac, b: &Frac) -> Result<Gaps, Formula> {
         let gap = gap(a, b)?;
         Ok(Gaps::One(gap))
     }
@@ -44,7 +42,7 @@ impl Compared for Line {
     ghost laws = { line_comparison };
 }
 
-// Whether two points are one may be asked of them, and no order.
+// Points can be tested for equality, and have no order.
 impl Compared for PlaneLine {
     ghost relation = { point_relates };
 
@@ -60,7 +58,7 @@ impl Compared for PlaneLine {
         }
     }
 
-    fn gaps(a: &Point, b: &Point) -> Result<Gaps, Passed> {
+    fn gaps(a: &Point, b: &Point) -> Result<Gaps, Formula> {
         let x = gap(&a.x, &b.x)?;
         let y = gap(&a.y, &b.y)?;
         Ok(Gaps::Two(x, y))

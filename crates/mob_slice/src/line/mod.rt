@@ -1,5 +1,5 @@
-//! Values that change evenly: from one limit to the other in a straight line, as the unit functions
-//! of the sliced representation.
+//! Values that change linearly, from one limit to the other, as the unit functions of the sliced
+//! representation.
 
 ghost use Rattle.std.specs.Prelude.{◌≡◌, true, false, ⊤};
 ghost use Rattle.mob_ratio.specs.Order.{same, up_to};
@@ -15,14 +15,15 @@ ghost use Rattle.mob_slice.specs.PlaneLaws.{plane_laws};
 mod comparison;
 
 use crate::course::Course;
-use crate::formula::{Formula, LookFault};
+use crate::formula::Formula;
 use mob_frac::{Frac, Wide, interpolated, same_ratio};
+use mob_list::fault::Fault;
 use mob_plane::Point;
 use mob_span::Span;
 use std::alloc::{AllocError, Global};
 
-// Whether the line from `x0` at `l` to `y` at `u` passes `x1` at `m`: no step is computed that
-// might not fit.
+// Whether the line from `x0` at `l` to `y` at `u` passes through `x1` at `m`. No step of the test
+// can overflow.
 fn is_straight(x0: &Frac, x1: &Frac, y: &Frac, l: &Frac, m: &Frac, u: &Frac) -> bool
     requires first { up_to l.now m.now ≡ true }
     requires second { up_to m.now u.now ≡ true }
@@ -52,19 +53,17 @@ fn goes_on(x0: &Frac, x1: &Frac, y0: &Frac, y1: &Frac, span: &Span, next: &Span)
 }
 
 // The number at an instant of the span.
-fn value_in(x0: &Frac, x1: &Frac, span: &Span, t: &Frac) -> Result<Frac, LookFault>
+fn value_in(x0: &Frac, x1: &Frac, span: &Span, t: &Frac) -> Result<Frac, Fault<Formula>>
     requires inside { has span.now t.now ≡ true }
     ensures value { IsLooked false (line_parts x0.now x1.now span.now.lower span.now.upper t.now) (line_at x0.now x1.now span.now.lower span.now.upper t.now) result }
 {
     match interpolated(x0, x1, span.lower(), span.upper(), t) {
         Ok(value) => Ok(value),
-        Err(_) => Err(LookFault::Passed {
-            formula: Formula::F1,
-        }),
+        Err(_) => Err(Fault::Because(Formula::F1)),
     }
 }
 
-/// A number that changes evenly. On a span of one instant both limits are equal.
+/// A number that changes linearly. On a span of one instant both limits are equal.
 #[derive(Clone, Copy, Debug, Drop)]
 pub struct Line {
     /// The number at the lower end of the span.
@@ -104,7 +103,7 @@ impl Course for Line {
         &self.to
     }
 
-    fn at(&self, alloc: Global, span: &Span, t: &Frac) -> Result<Frac, LookFault> {
+    fn at(&self, alloc: Global, span: &Span, t: &Frac) -> Result<Frac, Fault<Formula>> {
         value_in(&self.from, &self.to, span, t)
     }
 
@@ -128,8 +127,8 @@ impl Course for Line {
     ghost laws = { line_laws };
 }
 
-/// A point that moves evenly on a straight line: each coordinate changes evenly. On a span of one
-/// instant both limits are equal.
+/// A point that moves linearly: each coordinate changes linearly. On a span of one instant both
+/// limits are equal.
 #[derive(Clone, Copy, Debug, Drop)]
 pub struct PlaneLine {
     /// The point at the lower end of the span.
@@ -169,7 +168,7 @@ impl Course for PlaneLine {
         &self.to
     }
 
-    fn at(&self, alloc: Global, span: &Span, t: &Frac) -> Result<Point, LookFault> {
+    fn at(&self, alloc: Global, span: &Span, t: &Frac) -> Result<Point, Fault<Formula>> {
         let x = value_in(&self.from.x, &self.to.x, span, t)?;
         let y = value_in(&self.from.y, &self.to.y, span, t)?;
         Ok(Point { x, y })

@@ -8,17 +8,17 @@ use Rattle.mob_arith.proofs.Terms.{left_fails, right_fails, limits_fail, all_fit
 use Rattle.mob_arith.proofs.termwise.on_piece.Goals as goal
 
 pub returns-in-Err : goal.returns-in-Err
-returns-in-Err g c = record { given = rw c.operator_fault.ensures.same (left_fails g.A.Course.value_of g.A.Course.parts_of g.B.Course.value_of g.B.Course.parts_of g.O.Termwise.parts (piece_of c.args.piece.now) g.A.Course.copy_allocates c.in-Err.fault c.in-Err.ensures.slice) }
+returns-in-Err g c = record { given = (left_fails g.A.Course.value_of g.A.Course.parts_of g.B.Course.value_of g.B.Course.parts_of g.O.Termwise.parts (piece_of c.args.piece.now) g.A.Course.copy_allocates c.in-Err.fault c.in-Err.ensures.slice) }
 
 pub returns-in-Err-on : goal.returns-in-Err-on
-returns-in-Err-on g c = record { given = rw c.operator_fault-in-Err-on.ensures.same (right_fails g.A.Course.value_of g.A.Course.parts_of g.B.Course.value_of g.B.Course.parts_of g.O.Termwise.parts (piece_of c.args.piece.now) g.B.Course.copy_allocates c.in-Err-on.fault c.in-Err-on.ensures.slice) }
+returns-in-Err-on g c = record { given = (right_fails g.A.Course.value_of g.A.Course.parts_of g.B.Course.value_of g.B.Course.parts_of g.O.Termwise.parts (piece_of c.args.piece.now) g.B.Course.copy_allocates c.in-Err-on.fault c.in-Err-on.ensures.slice) }
 
 pub returns-in-Err-course_on : goal.returns-in-Err-course_on
 returns-in-Err-course_on g c =
     let h = c.in-Ok.ensures.slice in
     let k = c.in-Ok-on.ensures.slice in
     let fault = c.in-Err-course_on.ensures.course in
-    record { given = limits_fail g.A.Course.value_of g.A.Course.parts_of g.B.Course.value_of g.B.Course.parts_of g.O.Termwise.parts (piece_of c.args.piece.now) h.1 k.1 c.in-Err-course_on.field-0.formula _ _ _ _ h.0.from k.0.from h.0.to k.0.to fault.0 fault.1 }
+    record { given = limits_fail g.A.Course.value_of g.A.Course.parts_of g.B.Course.value_of g.B.Course.parts_of g.O.Termwise.parts (piece_of c.args.piece.now) h.1 k.1 c.in-Err-course_on.formula _ _ _ _ h.0.from k.0.from h.0.to k.0.to fault.0 fault.1 }
 
 pub returns : goal.returns
 returns g c =

@@ -6,7 +6,7 @@ use Rattle.mob_catalog.specs.Faults.{file_fault}
 use Rattle.mob_catalog.specs.FirstFault.{IsFirstFault}
 use Rattle.mob_catalog.specs.RecordsLeft.{IsReading}
 use Rattle.mob_catalog.specs.TableFile.{Field, IsRow, RecordFails, RecordsFail}
-use Rattle.mob_catalog.proofs.Refusals.{on_refused}
+use Rattle.mob_list.proofs.Faults.{cause_weaker}
 use Rattle.mob_catalog.proofs.table_file.rows_below.Goals as goal
 
 pub has_header-requires : goal.has_header-requires
@@ -28,12 +28,12 @@ returns-in-Ok-true-clause-first_fault c =
     let columns = c.args.columns.now in
     let day = c.args.epoch.now in
     IfErr-weaker c.rows_of.result _ _
-    (λ e h. on_refused (λ f. (records : List (List Field)) → IsReading c.has_header.new.reader records → IsFirstFault (IsRow columns day) (RecordFails columns day c.args.room) records f)
+    (λ e h. cause_weaker (λ f. (records : List (List Field)) → IsReading c.has_header.new.reader records → IsFirstFault (IsRow columns day) (RecordFails columns day c.args.room) records f)
     (λ f. (records : List (List Field)) → IsReading c.args.reader.now records → RecordsFail columns day c.args.room records f)
     (λ f p records h. let below = rw c.in-Ok-true.field-0-test at (c.in-Ok-true.ensures.header records h) in inr (below.0, p (drop 1 records) below.1)) e h)
     c.rows_of.ensures.first_fault
 
 pub returns-in-Ok-false-clause-first_fault : goal.returns-in-Ok-false-clause-first_fault
 returns-in-Ok-false-clause-first_fault c =
-    on_refused (λ f. f ≡ file_fault BadHeader 1 0) (λ f. (records : List (List Field)) → IsReading c.args.reader.now records → RecordsFail c.args.columns.now c.args.epoch.now c.args.room records f)
+    cause_weaker (λ f. f ≡ file_fault BadHeader 1 0) (λ f. (records : List (List Field)) → IsReading c.args.reader.now records → RecordsFail c.args.columns.now c.args.epoch.now c.args.room records f)
     (λ f is records h. inl (rw c.in-Ok-false.field-0-test at (c.in-Ok-false.ensures.header records h), is)) c.record_fault.result c.record_fault.ensures.refused

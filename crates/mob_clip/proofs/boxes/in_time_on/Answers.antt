@@ -25,7 +25,7 @@ cut-requires c =
     record { holds = (c.requires.sound, i) }
 
 pub returns-in-Err : goal.returns-in-Err
-returns-in-Err c = record { kept = rw c.operator_fault.ensures.same (cut_fails c.args.slice.now c.requires.sound c.args.want c.args.time.now c.args.space.now false c.in-Some.shared c.in-Err.fault c.in-Some.ensures.ends c.in-Some.ensures.test c.in-Err.ensures.slice) }
+returns-in-Err c = record { kept = (cut_fails c.args.slice.now c.requires.sound c.args.want c.args.time.now c.args.space.now false c.in-Some.shared c.in-Err.fault c.in-Some.ensures.ends c.in-Some.ensures.test c.in-Err.ensures.slice) }
 
 pub in_space_on-requires-clause-holds : goal.in_space_on-requires-clause-holds
 in_space_on-requires-clause-holds c =

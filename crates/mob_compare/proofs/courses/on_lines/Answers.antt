@@ -3,10 +3,10 @@ use Rattle.mob_compare.proofs.Comparing.{left_fails, right_fails, gaps_fail, lin
 use Rattle.mob_compare.proofs.courses.on_lines.Goals as goal
 
 pub returns-in-Err : goal.returns-in-Err
-returns-in-Err g c = record { given = rw c.operator_fault.ensures.same (left_fails g.C.Course.value_of g.C.Course.parts_of g.C.Compared.gaps_of (piece_of c.args.piece.now) g.C.Course.copy_allocates c.in-Err.fault c.in-Err.ensures.slice) }
+returns-in-Err g c = record { given = (left_fails g.C.Course.value_of g.C.Course.parts_of g.C.Compared.gaps_of (piece_of c.args.piece.now) g.C.Course.copy_allocates c.in-Err.fault c.in-Err.ensures.slice) }
 
 pub returns-in-Err-on : goal.returns-in-Err-on
-returns-in-Err-on g c = record { given = rw c.operator_fault-in-Err-on.ensures.same (right_fails g.C.Course.value_of g.C.Course.parts_of g.C.Compared.gaps_of (piece_of c.args.piece.now) g.C.Course.copy_allocates c.in-Err-on.fault c.in-Err-on.ensures.slice) }
+returns-in-Err-on g c = record { given = (right_fails g.C.Course.value_of g.C.Course.parts_of g.C.Compared.gaps_of (piece_of c.args.piece.now) g.C.Course.copy_allocates c.in-Err-on.fault c.in-Err-on.ensures.slice) }
 
 pub returns-in-Err-gap_functions : goal.returns-in-Err-gap_functions
 returns-in-Err-gap_functions g c =

@@ -1,11 +1,11 @@
 use Rattle.std.proofs.Common.{map, sym, subst}
 use Rattle.mob_meaning.specs.Evaluation.{EvaluatesTo}
-use Rattle.mob_outcome.specs.Faults.{OnPassed}
 use Rattle.std.specs.Prelude.{Err}
 use Rattle.mob_value.specs.Held.{held}
 use Rattle.mob_eval.specs.Views.{scene_of}
 use Rattle.mob_eval.proofs.Nodes.{node_below, node_run, node_value, node_here}
 use Rattle.mob_eval.proofs.walk.applied.Goals as goal
+use Rattle.mob_list.specs.Faults.{OnCause}
 
 pub returns-in-Err : goal.returns-in-Err
 returns-in-Err g c = record { says = node_below (scene_of c.args.view.now) c.args.e.now _ (map held c.args.values.now) c.in-Err.fault (rw c.in-Err.is at c.requires.given) }
@@ -27,4 +27,4 @@ returns-in-Err-result_with g c =
     let xs = c.as_slice.result.now in
     let vs = map held c.args.values.now in
     let run = node_run s e xs c.as_slice.ensures.value vs c.in-Ok.field-0 (rw c.in-Ok.is at c.requires.given) in
-    record { says = subst (OnPassed (λ f. EvaluatesTo s e (Err f))) (sym c.fault_at.ensures.value) (node_here s e xs c.as_slice.ensures.value vs c.in-Err-result_with.fault run c.in-Err-result_with.ensures.outcome) }
+    record { says = subst (OnCause (λ f. EvaluatesTo s e (Err f))) (sym c.fault_at.ensures.value) (node_here s e xs c.as_slice.ensures.value vs c.in-Err-result_with.fault run c.in-Err-result_with.ensures.outcome) }

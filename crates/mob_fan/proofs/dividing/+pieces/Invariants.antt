@@ -1,4 +1,4 @@
--- `pieces` of some workers calls `beside` with one fewer, and the closure of that calls `pieces` of these.
+-- `pieces` of some workers calls `beside` with one fewer, whose closure calls `pieces` for these.
 use Rattle.std.proofs.Common.{◌+◌, ◌*◌}
 use Rattle.mob_fan.proofs.dividing.+pieces.Given as goal
 

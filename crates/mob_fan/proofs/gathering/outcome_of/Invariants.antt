@@ -1,4 +1,4 @@
--- Those that are joined have the outcome of their range, and so has each that is left.
+-- The joined pieces have the outcome of their range, and so has each piece left.
 use Rattle.std.proofs.Common.{length}
 use Rattle.mob_fan.specs.Pieces.{ArePieces, IsJoined}
 use Rattle.mob_fan.proofs.gathering.outcome_of.Given as goal

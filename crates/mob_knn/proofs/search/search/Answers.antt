@@ -1,9 +1,10 @@
 use Rattle.std.proofs.Common.{rules, sym, ◌∙◌, arith}
 use Rattle.std.specs.BinaryHeap.{heap_items}
+use Rattle.mob_list.proofs.Faults.{cause_weaker}
 use Rattle.mob_slice.specs.Sides.{operand_of}
 use Rattle.mob_knn.specs.Nearest.{HasApproach, IsPassed}
 use Rattle.mob_knn.specs.Steps.{IsEntry, HasUnfitPart}
-use Rattle.mob_knn.proofs.Finishing.{nil_of, on_passed, none_found, begun_from, reached, next_state, last_state, unfit_row}
+use Rattle.mob_knn.proofs.Finishing.{nil_of, none_found, begun_from, reached, next_state, last_state, unfit_row}
 use Rattle.mob_knn.proofs.Known.{trips_known}
 use Rattle.mob_knn.proofs.Searching.{nothing_left}
 use Rattle.mob_knn.proofs.Sizes.{falls}
@@ -23,8 +24,9 @@ advance-requires g c = record { reached = reached (trips_known c.args.tree.now.n
 
 pub returns-in-Err-advance-clause-passed : goal.returns-in-Err-advance-clause-passed
 returns-in-Err-advance-clause-passed g c =
-    on_passed (λ row formula. IsEntry c.in-Some-pop.first.what row × HasUnfitPart c.args.trips.now (operand_of c.args.asked.now) row formula) (IsPassed c.args.trips.now (operand_of c.args.asked.now) c.args.k) c.in-Err-advance.fault c.in-Err-advance.ensures.err
-    (unfit_row c.args.tree.now.entries c.args.trips.now (operand_of c.args.asked.now) c.args.area.now c.requires.entries c.requires.asked c.taking.invariant.0 c.in-Some-pop.ensures.permutation (c.in-Some-pop.ensures.below_top c.taking.invariant.1))
+    cause_weaker (λ f. IsEntry c.in-Some-pop.first.what f.0 × HasUnfitPart c.args.trips.now (operand_of c.args.asked.now) f.0 f.1) (λ f. IsPassed c.args.trips.now (operand_of c.args.asked.now) c.args.k f.0 f.1)
+    (λ f. unfit_row c.args.tree.now.entries c.args.trips.now (operand_of c.args.asked.now) c.args.area.now c.requires.entries c.requires.asked c.taking.invariant.0 c.in-Some-pop.ensures.permutation (c.in-Some-pop.ensures.below_top c.taking.invariant.1) f.0 f.1)
+    c.in-Err-advance.fault c.in-Err-advance.ensures.err
 
 pub returns-then-len-k-clause-nearest : goal.returns-then-len-k-clause-nearest
 returns-then-len-k-clause-nearest g c = (last_state (trips_known c.args.tree.now.nodes c.args.tree.now.root c.args.trips.now (operand_of c.args.asked.now) c.args.area.now c.args.tree.now.entries c.requires.entries c.requires.asked) c.taking.invariant.0 c.in-Some-pop.ensures.permutation (c.in-Some-pop.ensures.below_top c.taking.invariant.1) _ c.in-Ok-advance.ensures.spread c.in-Ok-advance.ensures.ok (search rules)).first

@@ -23,4 +23,4 @@ returns-clause-value c =
     subst (λ o. IsApproach (given_at plane_value_of a) (given_at plane_value_of b) o) (sym ended.0) (is_approach a b c.requires.moving clear (all_nearest all clear hold))
 
 pub returns-in-Err-clause-first : goal.returns-in-Err-clause-first
-returns-in-Err-clause-first c = walking_fails nearest_of piece_approach entries_of_approach (pieces (operand_of c.args.a) (operand_of c.args.b)) (pieces_left c.loop-piece.piece-iterator) (pieces_left c.next.new.self) c.loop-piece.nearest (piece_of c.in-Some.piece) c.in-Err.passed.formula c.in-Some.ensures.steps c.in-Err.ensures.first c.loop-piece.invariant.walking
+returns-in-Err-clause-first c = walking_fails nearest_of piece_approach entries_of_approach (pieces (operand_of c.args.a) (operand_of c.args.b)) (pieces_left c.loop-piece.piece-iterator) (pieces_left c.next.new.self) c.loop-piece.nearest (piece_of c.in-Some.piece) c.in-Err.passed c.in-Some.ensures.steps c.in-Err.ensures.first c.loop-piece.invariant.walking

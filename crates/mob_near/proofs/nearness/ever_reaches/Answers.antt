@@ -29,4 +29,4 @@ returns-clause-value c =
     (is_ever plane_value_of plane_value_of a b c.requires.moving (λ x y. up_to (distance_squared x y) D) (piece_reaches D) clear (all_reached D (not-up_to-le nil D c.requires.square) all clear hold))
 
 pub returns-in-Err-clause-first : goal.returns-in-Err-clause-first
-returns-in-Err-clause-first c = walking_fails either (piece_reaches c.args.square.now) (entries_of_reach c.args.square.now) (pieces (operand_of c.args.a) (operand_of c.args.b)) (pieces_left c.loop-piece.piece-iterator) (pieces_left c.next.new.self) c.loop-piece.found (piece_of c.in-Some.piece) c.in-Err.passed.formula c.in-Some.ensures.steps c.in-Err.ensures.first c.loop-piece.invariant.walking
+returns-in-Err-clause-first c = walking_fails either (piece_reaches c.args.square.now) (entries_of_reach c.args.square.now) (pieces (operand_of c.args.a) (operand_of c.args.b)) (pieces_left c.loop-piece.piece-iterator) (pieces_left c.next.new.self) c.loop-piece.found (piece_of c.in-Some.piece) c.in-Err.passed c.in-Some.ensures.steps c.in-Err.ensures.first c.loop-piece.invariant.walking

@@ -25,9 +25,9 @@ returns-in-Ok-clause-first c =
     within_fits c.args.d.now ps c.ever_reaches.result (search rules) (c.in-Ok.ensures.exact.1, tt) (subst (λ z. IsDecided (flat_map (entries_of_reach z) ps) c.ever_reaches.result) c.in-Ok.ensures.exact.0 c.ever_reaches.ensures.first)
 
 pub returns-in-Err-clause-value : goal.returns-in-Err-clause-value
-returns-in-Err-clause-value c = none_within c.args.d.now (given_at plane_value_of (operand_of c.args.a)) (given_at plane_value_of (operand_of c.args.b)) c.share_time-in-Err.result c.passed_where.result (record { formula = F6 }) c.share_time-in-Err.ensures.common c.passed_where.ensures.value
+returns-in-Err-clause-value c = none_within c.args.d.now (given_at plane_value_of (operand_of c.args.a)) (given_at plane_value_of (operand_of c.args.b)) c.share_time-in-Err.result c.passed_where.result (F6) c.share_time-in-Err.ensures.common c.passed_where.ensures.value
 
 pub returns-in-Err-clause-first : goal.returns-in-Err-clause-first
 returns-in-Err-clause-first c =
     let ps = pieces (operand_of c.args.a) (operand_of c.args.b) in
-    subst (IsDecided (entries_of_within c.args.d.now ps)) (sym (c.passed_where.ensures.value ∙ ap (λ b. cond b (Err (record { formula = F6 })) (Ok None)) c.share_time-in-Err.ensures.value)) (within_unfit c.args.d.now ps (search rules) (λ all. c.in-Err.ensures.exact all.0))
+    subst (IsDecided (entries_of_within c.args.d.now ps)) (sym (c.passed_where.ensures.value ∙ ap (λ b. cond b (Err (F6)) (Ok None)) c.share_time-in-Err.ensures.value)) (within_unfit c.args.d.now ps (search rules) (λ all. c.in-Err.ensures.exact all.0))

@@ -7,9 +7,9 @@ use Rattle.mob_near.proofs.piece.piece_approach.Goals as goal
 pub returns-in-Err-clause-first : goal.returns-in-Err-clause-first
 returns-in-Err-clause-first c =
     let p = piece_of c.args.piece.now in
-    leg_fails p (parts_between approach_parts p) c.in-Err.passed.formula c.in-Err.ensures.first
+    leg_fails p (parts_between approach_parts p) c.in-Err.passed c.in-Err.ensures.first
 
 pub returns-in-Err-squares_at_ends-clause-first : goal.returns-in-Err-squares_at_ends-clause-first
 returns-in-Err-squares_at_ends-clause-first c =
     let p = piece_of c.args.piece.now in
-    squares_fail p (parts_between approach_parts p) c.in-Ok.ensures.first c.in-Ok.leg c.in-Ok.ensures.leg c.in-Err-squares_at_ends.passed.formula c.in-Err-squares_at_ends.ensures.value
+    squares_fail p (parts_between approach_parts p) c.in-Ok.ensures.first c.in-Ok.leg c.in-Ok.ensures.leg c.in-Err-squares_at_ends.passed c.in-Err-squares_at_ends.ensures.value

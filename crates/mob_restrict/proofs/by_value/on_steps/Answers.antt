@@ -18,4 +18,4 @@ returns-in-Ok g c =
     record { kept = steady_all g.met.C.Course.laws g.met.C.Compared.laws c.args.slice.now c.requires.sound c.args.value.now c.requires.steady (λ v. v.items) c.listed.result c.args.want c.same_bool.result c.in-Ok.part e (search rules) c.in-Ok.ensures.slice.0 c.listed.ensures.one }
 
 pub returns-in-Err : goal.returns-in-Err
-returns-in-Err g c = record { kept = rw c.operator_fault.ensures.same (steady_fails g.met.C.Course.laws g.met.C.Compared.laws c.args.slice.now c.requires.sound c.args.value.now c.requires.steady c.in-Err.fault c.in-Err.ensures.slice) }
+returns-in-Err g c = record { kept = (steady_fails g.met.C.Course.laws g.met.C.Compared.laws c.args.slice.now c.requires.sound c.args.value.now c.requires.steady c.in-Err.fault c.in-Err.ensures.slice) }

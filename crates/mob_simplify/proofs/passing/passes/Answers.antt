@@ -7,7 +7,7 @@ pub returns-in-Err-clause-first : goal.returns-in-Err-clause-first
 returns-in-Err-clause-first c =
     let at = c.loop-b in
     let xs = c.args.between.now in
-    passing_fails c.args.limit.now.distance c.args.p.now xs (drop at.b-index xs) c.args.n.now (drop (at.b-index + 1) xs) c.b-item.result c.in-Err.passed.formula (list_read xs at.b-index c.b-item.result (omega arith) c.b-item.is) c.in-Err.ensures.first at.invariant
+    passing_fails c.args.limit.now.distance c.args.p.now xs (drop at.b-index xs) c.args.n.now (drop (at.b-index + 1) xs) c.b-item.result c.in-Err.passed (list_read xs at.b-index c.b-item.result (omega arith) c.b-item.is) c.in-Err.ensures.first at.invariant
 
 pub loop-b-preserved : goal.loop-b-preserved
 loop-b-preserved c =

@@ -9,7 +9,7 @@ pub returns-then-not-is_bare : goal.returns-then-not-is_bare
 returns-then-not-is_bare c = record { value = some_operands (scene_of c.args.view.now) c.args.e.now (sym (c.if-not-is_bare.ensures.bare ∙ ap is_bare c.as_slice.ensures.value)) }
 
 pub unreachable-requires : goal.unreachable-requires
-unreachable-requires c = never_fails (scene_of c.args.view.now) c.args.e.now (c.in-Err-Passed.field-0-0, c.in-Err-Passed.field-0-1) (sym (c.if-not-is_bare.ensures.bare ∙ ap is_bare c.as_slice.ensures.value)) (rw c.in-Err-Passed.field-0-is at c.in-Err-Passed.ensures.fault)
+unreachable-requires c = never_fails (scene_of c.args.view.now) c.args.e.now c.in-Err-Because.field-0-0 (sym (c.if-not-is_bare.ensures.bare ∙ ap is_bare c.as_slice.ensures.value)) (rw c.in-Err-Because.field-0-is at c.in-Err-Because.ensures.fault)
 
 pub returns-in-Ok : goal.returns-in-Ok
 returns-in-Ok c = record { value = no_operands (scene_of c.args.view.now) c.args.e.now (held c.in-Ok.held) (sym (c.if-not-is_bare.ensures.bare ∙ ap is_bare c.as_slice.ensures.value)) c.in-Ok.ensures.value }

@@ -4,14 +4,14 @@ use Rattle.std.proofs.lemmas.Result.{IfErr-weaker, IfOk-weaker}
 use Rattle.mob_list.proofs.Each.{each_parts}
 use Rattle.mob_typed.specs.Selects.{select_seen}
 use Rattle.mob_meaning.specs.Scene.{scene}
-use Rattle.mob_outcome.specs.Faults.{OnPassed}
 use Rattle.mob_eval.specs.Remembered.{Fits}
 use Rattle.mob_tail.specs.Answers.{IsRowOf}
 use Rattle.mob_tail.specs.AnswerRows.{answer_row}
 use Rattle.mob_tail.specs.Recalling.{SelectFits, item_trees, key_trees}
 use Rattle.mob_tail.proofs.AnswerRows.{row_seen, row_fails}
-use Rattle.mob_tail.proofs.Making.{on_passed}
 use Rattle.mob_tail.proofs.evaluation.row_of.Goals as goal
+use Rattle.mob_list.specs.Faults.{OnCause}
+use Rattle.mob_list.proofs.Faults.{cause_weaker}
 
 pub row_on-requires : goal.row_on-requires
 row_on-requires g c =
@@ -35,5 +35,5 @@ pub returns-clause-fault : goal.returns-clause-fault
 returns-clause-fault g c =
     let select = select_seen c.args.select.now in
     let there = λ (from : List ℕ). scene c.args.store.now from c.args.tuple.now c.args.epoch.now in
-    subst (λ from. IfErr c.row_on.result (OnPassed (λ f. IsRowOf select (there from) (Err f)))) c.as_slice.ensures.same
-    (IfErr-weaker c.row_on.result _ _ (λ e h. on_passed _ _ (λ f k. row_fails (there c.as_slice.result.now) select _ _ c.requires.items c.requires.keys f k) e h) c.row_on.ensures.fault)
+    subst (λ from. IfErr c.row_on.result (OnCause (λ f. IsRowOf select (there from) (Err f)))) c.as_slice.ensures.same
+    (IfErr-weaker c.row_on.result _ _ (λ e h. cause_weaker _ _ (λ f k. row_fails (there c.as_slice.result.now) select _ _ c.requires.items c.requires.keys f k) e h) c.row_on.ensures.fault)

@@ -2,13 +2,13 @@ use Rattle.std.proofs.Common.{inl, inr, Err, map}
 use Rattle.std.proofs.lemmas.Result.{IfErr-weaker, IfOk-weaker}
 use Rattle.mob_meaning.specs.Evaluation.{TreeEvaluatesTo}
 use Rattle.mob_eval.specs.Views.{scene_of}
-use Rattle.mob_outcome.specs.Faults.{OnPassed}
 use Rattle.mob_eval.specs.Remembered.{root_seen}
 use Rattle.mob_arrange.specs.RowValues.{row_value}
 use Rattle.mob_tail.specs.IsMadeOfEach.{IsMadeOfEach}
 use Rattle.mob_tail.specs.Evaluated.{AreEvaluated}
-use Rattle.mob_tail.proofs.Making.{on_passed}
 use Rattle.mob_tail.proofs.evaluation.row_on.Goals as goal
+use Rattle.mob_list.specs.Faults.{OnCause}
+use Rattle.mob_list.proofs.Faults.{cause_weaker}
 
 pub returns-in-Ok-clause-row : goal.returns-in-Ok-clause-row
 returns-in-Ok-clause-row g c =
@@ -19,11 +19,11 @@ returns-in-Ok-clause-fault g c =
     let s = scene_of c.args.view.now in
     let items = map root_seen c.args.items.now in
     let keys = map root_seen c.args.keys.now in
-    IfErr-weaker c.row_before.result (OnPassed (λ f. IsMadeOfEach (TreeEvaluatesTo s) keys (Err f))) (OnPassed (λ f. AreEvaluated s items keys (Err f)))
-    (λ e h. on_passed (λ f. IsMadeOfEach (TreeEvaluatesTo s) keys (Err f)) (λ f. AreEvaluated s items keys (Err f)) (λ f k. inr (map row_value c.in-Ok.fields, c.in-Ok.ensures.values, k)) e h) c.row_before.ensures.fault
+    IfErr-weaker c.row_before.result (OnCause (λ f. IsMadeOfEach (TreeEvaluatesTo s) keys (Err f))) (OnCause (λ f. AreEvaluated s items keys (Err f)))
+    (λ e h. cause_weaker (λ f. IsMadeOfEach (TreeEvaluatesTo s) keys (Err f)) (λ f. AreEvaluated s items keys (Err f)) (λ f k. inr (map row_value c.in-Ok.fields, c.in-Ok.ensures.values, k)) e h) c.row_before.ensures.fault
 
 pub returns-in-Err-clause-fault : goal.returns-in-Err-clause-fault
 returns-in-Err-clause-fault g c =
     let s = scene_of c.args.view.now in
     let items = map root_seen c.args.items.now in
-    on_passed (λ f. IsMadeOfEach (TreeEvaluatesTo s) items (Err f)) (λ f. AreEvaluated s items (map root_seen c.args.keys.now) (Err f)) (λ f h. inl h) c.in-Err.fault c.in-Err.ensures.fault
+    cause_weaker (λ f. IsMadeOfEach (TreeEvaluatesTo s) items (Err f)) (λ f. AreEvaluated s items (map root_seen c.args.keys.now) (Err f)) (λ f h. inl h) c.in-Err.fault c.in-Err.ensures.fault

@@ -1,7 +1,6 @@
 use Rattle.std.proofs.Common.{rules, ◌≡◌, ◌++◌, ◌∷◌, [], Ok, Err, ℕ, List, map, ap, ◌∙◌, arith, subst}
 use Rattle.mob_typed.specs.Selects.{select_seen}
 use Rattle.mob_meaning.specs.Scene.{scene}
-use Rattle.mob_outcome.specs.Faults.{OnPassed}
 use Rattle.mob_eval.proofs.QueryFaults.{on_tuple}
 use Rattle.mob_tail.specs.IsMadeOfEach.{IsMadeOfEach}
 use Rattle.std.proofs.lemmas.List.{map-append}
@@ -9,6 +8,7 @@ use Rattle.mob_tail.specs.Answers.{IsTupleRow, IsRowOf}
 use Rattle.mob_tail.specs.AnswerRows.{answer_row}
 use Rattle.mob_tail.proofs.Making.{each_next, each_fault, each_all}
 use Rattle.mob_tail.proofs.evaluation.rows_on.Goals as goal
+use Rattle.mob_list.specs.Faults.{OnCause}
 
 pub loop-tuple-preserved : goal.loop-tuple-preserved
 loop-tuple-preserved g c =
@@ -29,9 +29,9 @@ returns-in-Err-clause-fault g c =
     let R = IsTupleRow select c.args.store.now c.args.epoch.now in
     let there = λ (t : List ℕ). scene c.args.store.now select.from t c.args.epoch.now in
     let step = each_fault R c.args.kept.now at.tuple-index c.tuple-item.result c.loop-tuple-test.true c.tuple-item.is (map (answer_row select c.args.epoch.now) at.rows.items) at.invariant in
-    on_tuple c.tuple-item.result (λ f. IsRowOf select (there c.tuple-item.result) (Err f)) (λ f. IsMadeOfEach R c.args.kept.now (Err f)) (λ f is h. step f (is, h)) c.in-Err.fault c.on.result
-    (subst (λ t. OnPassed (λ f. IsRowOf select (there t) (Err f)) c.in-Err.fault) c.as_slice.ensures.same c.in-Err.ensures.fault)
-    c.on.ensures.fault
+    on_tuple c.tuple-item.result (λ f. IsRowOf select (there c.tuple-item.result) (Err f)) (λ f. IsMadeOfEach R c.args.kept.now (Err f)) (λ f is h. step f (is, h)) c.in-Err.fault c.fault_on.result
+    (subst (λ t. OnCause (λ f. IsRowOf select (there t) (Err f)) c.in-Err.fault) c.as_slice.ensures.same c.in-Err.ensures.fault)
+    c.fault_on.ensures.fault
 
 pub returns-clause-rows : goal.returns-clause-rows
 returns-clause-rows g c =

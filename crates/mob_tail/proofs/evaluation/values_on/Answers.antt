@@ -7,8 +7,9 @@ use Rattle.mob_eval.specs.Views.{scene_of}
 use Rattle.mob_eval.specs.Remembered.{Fits, root_seen}
 use Rattle.mob_arrange.specs.RowValues.{row_value}
 use Rattle.mob_tail.proofs.Fitting.{each_at}
-use Rattle.mob_tail.proofs.Making.{each_next, each_fault, each_all, made_seen, fault_seen, on_passed}
+use Rattle.mob_tail.proofs.Making.{each_next, each_fault, each_all, made_seen, fault_seen}
 use Rattle.mob_tail.proofs.evaluation.values_on.Goals as goal
+use Rattle.mob_list.proofs.Faults.{cause_weaker}
 
 pub value_of-requires : goal.value_of-requires
 value_of-requires g c = record { fits = each_at (Fits g.K.Remembering.recollection (scene_of c.args.view.now)) root_seen c.args.roots.now c.loop-root.root-index c.root-item.result c.loop-root-test.true c.root-item.is c.requires.fit }
@@ -28,7 +29,7 @@ returns-in-Err-clause-fault g c =
     let s = scene_of c.args.view.now in
     let R = λ (e : Bor TExpr). TreeEvaluatesTo s (root_seen e) in
     let roots = c.args.roots.now in
-    on_passed _ _ (λ f h. fault_seen (TreeEvaluatesTo s) root_seen roots f (each_fault R roots at.root-index c.root-item.result c.loop-root-test.true c.root-item.is (map row_value at.made.items) at.invariant f h)) c.in-Err.fault c.in-Err.ensures.fault
+    cause_weaker _ _ (λ f h. fault_seen (TreeEvaluatesTo s) root_seen roots f (each_fault R roots at.root-index c.root-item.result c.loop-root-test.true c.root-item.is (map row_value at.made.items) at.invariant f h)) c.in-Err.fault c.in-Err.ensures.fault
 
 pub returns-clause-values : goal.returns-clause-values
 returns-clause-values g c =

@@ -3,8 +3,8 @@ use Rattle.std.proofs.lemmas.Result.{IfErr-weaker, IfOk-weaker}
 use Rattle.mob_typed.specs.Trees.{typed_of}
 use Rattle.mob_eval.specs.Views.{scene_of}
 use Rattle.mob_tail.specs.GroupSteps.{IsAggregateOn, IsColumnWith}
-use Rattle.mob_tail.proofs.Making.{on_passed}
 use Rattle.mob_tail.proofs.group_cells.cell_with.Goals as goal
+use Rattle.mob_list.proofs.Faults.{cause_weaker}
 
 pub returns-in-Some : goal.returns-in-Some
 returns-in-Some c =
@@ -15,5 +15,5 @@ returns-in-Some c =
     let first = c.args.is_first in
     record {
       with = IfOk-weaker c.aggregate_on.result _ _ (λ u h. record { column = refl; state = subst (λ a. IsColumnWith s (e, a) old.state first (Ok c.aggregate_on.new.state)) (sym c.in-Some.is) h }) c.aggregate_on.ensures.value;
-      fault = IfErr-weaker c.aggregate_on.result _ _ (λ x h. on_passed (λ f. IsAggregateOn s e agg old.state (Err f)) (λ f. IsColumnWith s (e, old.column.agg) old.state first (Err f)) (λ f k. subst (λ a. IsColumnWith s (e, a) old.state first (Err f)) (sym c.in-Some.is) k) x h) c.aggregate_on.ensures.fault;
+      fault = IfErr-weaker c.aggregate_on.result _ _ (λ x h. cause_weaker (λ f. IsAggregateOn s e agg old.state (Err f)) (λ f. IsColumnWith s (e, old.column.agg) old.state first (Err f)) (λ f k. subst (λ a. IsColumnWith s (e, a) old.state first (Err f)) (sym c.in-Some.is) k) x h) c.aggregate_on.ensures.fault;
     }

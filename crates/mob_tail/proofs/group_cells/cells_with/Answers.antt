@@ -2,8 +2,9 @@ use Rattle.std.proofs.Common.{◌≡◌, ◌+◌, ◌<◌, ◌≤◌, suc, arith
 use Rattle.mob_eval.specs.Views.{scene_of}
 use Rattle.mob_tail.specs.GroupSteps.{IsCellWith}
 use Rattle.mob_list.proofs.Changing.{AreChanged, all_changed, changed_length, next_changed, none_changed}
-use Rattle.mob_tail.proofs.TupleSteps.{passed_weaker, fails_at}
+use Rattle.mob_tail.proofs.TupleSteps.{fails_at}
 use Rattle.mob_tail.proofs.group_cells.cells_with.Goals as goal
+use Rattle.mob_list.proofs.Faults.{cause_weaker}
 
 pub loop-number-init : goal.loop-number-init
 loop-number-init c = none_changed (IsCellWith (scene_of c.args.view.now) c.args.is_first) c.args.cells.now.items
@@ -23,7 +24,7 @@ returns-in-Err-clause-fault c =
     let old = c.args.cells.now.items in
     let now = c.loop-number.cells.items in
     let lt : c.loop-number.number < length now = omega (arith, changed_length R c.loop-number.number old now c.loop-number.invariant, c.loop-number-test.true, c.len-number-end.ensures) in
-    passed_weaker _ _ (λ f h. fails_at (scene_of c.args.view.now) c.args.is_first c.loop-number.number old now c.index_mut.result.now f lt c.index_mut.ensures.value c.loop-number.invariant h) c.in-Err.fault c.in-Err.ensures.fault
+    cause_weaker _ _ (λ f h. fails_at (scene_of c.args.view.now) c.args.is_first c.loop-number.number old now c.index_mut.result.now f lt c.index_mut.ensures.value c.loop-number.invariant h) c.in-Err.fault c.in-Err.ensures.fault
 
 pub returns : goal.returns
 returns c =

@@ -3,8 +3,8 @@ use Rattle.mob_tail.specs.Groups.{groups_on}
 use Rattle.mob_tail.proofs.GroupLoop.{grouped_all}
 use Rattle.mob_tail.proofs.grouping.grouped_rows.Goals as goal
 
-pub returns-in-Ok-rows_of-clause-rows : goal.returns-in-Ok-rows_of-clause-rows
-returns-in-Ok-rows_of-clause-rows c =
+pub returns-clause-rows : goal.returns-clause-rows
+returns-clause-rows c =
     let select = select_seen c.args.select.now in
-    c.in-Ok-rows_of.ensures.rows (groups_on select c.args.store.now c.args.epoch.now c.args.kept.now)
+    c.in_ok-rows_of.ensures.rows (groups_on select c.args.store.now c.args.epoch.now c.args.kept.now)
     (grouped_all select c.args.store.now c.args.epoch.now c.args.kept.now c.grouped_tuples.new.groups.items c.in-Ok-grouped_tuples.ensures.groups)

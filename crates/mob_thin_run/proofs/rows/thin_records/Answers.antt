@@ -8,7 +8,7 @@ returns-in-Err-clause-first c =
     let at = c.loop-row in
     let row = c.in-Some.row.now in
     let here = row_found c.args.rows.now at.number row c.in-Some.ensures.row in
-    rw c.thin_row_fault.ensures.same (row_fault_at c.args.d.now c.args.rows.now at.number row at.number c.in-Err.fault here.0 here.1 refl at.invariant.fit c.in-Err.ensures.first)
+    rw c.fault_at.ensures.value (row_fault_at c.args.d.now c.args.rows.now at.number row at.number c.in-Err.fault here.0 here.1 refl at.invariant.fit c.in-Err.ensures.first)
 
 pub loop-row-preserved : goal.loop-row-preserved
 loop-row-preserved c =

@@ -3,10 +3,11 @@ use Rattle.std.specs.List.{AllByRecursion}
 use Rattle.mob_ratio.specs.Ratio.{◌<ℚ◌}
 use Rattle.mob_ratio.specs.Sign.{nil}
 use Rattle.mob_grid.specs.Tiles.{IsGrid, HasMany, range_of}
-use Rattle.mob_tile.specs.declared.splitting.SplitFault.TheVariants.{Passed}
+use Rattle.mob_tile.specs.declared.splitting.SplitCause.TheVariants.{Passed}
 use Rattle.mob_tile.specs.Pieces.{Reaches}
 use Rattle.mob_tile.proofs.Limits.{box_sides, box_as, box_range, all_reach}
 use Rattle.mob_tile.proofs.splitting.split_by.Goals as goal
+use Rattle.mob_list.specs.declared.fault.Fault.TheVariants.{Because}
 
 pub returns-in-Err-clause-refusals : goal.returns-in-Err-clause-refusals
 returns-in-Err-clause-refusals c =
@@ -22,7 +23,7 @@ returns-in-Err-clause-limits c =
     let box = c.box_of.result in
     let h = box_sides v box c.box_of.ensures.least in
     let e = c.in-Err.ensures.value h.area h.time h.space_is h.time_is in
-    record { area = h.area; time = h.time; box = box_as v box h c.box_of.ensures.least; holds = record { quotients_first = λ n. ap (λ f. Err (Passed f)) e.0; limit_then = λ m. absurd (e.1 m.0) } }
+    record { area = h.area; time = h.time; box = box_as v box h c.box_of.ensures.least; holds = record { quotients_first = λ n. ap (λ f. Err (Because (Passed f))) e.0; limit_then = λ m. absurd (e.1 m.0) } }
 
 pub has_many-requires : goal.has_many-requires
 has_many-requires c =
@@ -76,18 +77,18 @@ returns-in-Ok-split_in-clause-limits c =
     let few : HasMany (range_of c.args.grid.now h.area h.time) → ⊥ = λ m. true≢false (sym (c.has_many.ensures.exact.1 (subst HasMany (sym e.0) m)) ∙ c.if-has_many.false) in
     record { area = h.area; time = h.time; box = box_as v box h c.box_of.ensures.least; holds = record { quotients_first = λ n. absurd (n e.1); limit_then = λ m. absurd (few m.1) } }
 
-pub returns-in-Err-Passed-clause-refusals : goal.returns-in-Err-Passed-clause-refusals
-returns-in-Err-Passed-clause-refusals c =
+pub returns-in-Err-Because-clause-refusals : goal.returns-in-Err-Because-clause-refusals
+returns-in-Err-Because-clause-refusals c =
     let v = c.args.a.now in
     let box = c.box_of.result in
     let h = box_sides v box c.box_of.ensures.least in
     let e = c.in-Ok.ensures.value h.area h.time h.space_is h.time_is in
     let few : HasMany (range_of c.args.grid.now h.area h.time) → ⊥ = λ m. true≢false (sym (c.has_many.ensures.exact.1 (subst HasMany (sym e.0) m)) ∙ c.if-has_many.false) in
-    let first = rw c.in-Err-Passed.field-0-is at c.in-Err-Passed.ensures.first in
+    let first = rw c.in-Err-Because.field-0-is at c.in-Err-Because.ensures.first in
     record { area = h.area; time = h.time; box = box_as v box h c.box_of.ensures.least; holds = inr (e.1, few, first) }
 
-pub returns-in-Err-Passed-clause-limits : goal.returns-in-Err-Passed-clause-limits
-returns-in-Err-Passed-clause-limits c =
+pub returns-in-Err-Because-clause-limits : goal.returns-in-Err-Because-clause-limits
+returns-in-Err-Because-clause-limits c =
     let v = c.args.a.now in
     let box = c.box_of.result in
     let h = box_sides v box c.box_of.ensures.least in

@@ -1,12 +1,13 @@
 use Rattle.std.proofs.Common.{ℕ, List, inl, inr, Ok, Err, subst}
 use Rattle.std.proofs.lemmas.Result.{IfErr-weaker, MatchResult-weaker, err_from_is_err_and}
 use Rattle.mob_typed.specs.Selects.{select_seen}
-use Rattle.mob_eval.specs.QueryFaults.{OnTuple, TupleFault}
-use Rattle.mob_eval.proofs.QueryFaults.{of_query}
+use Rattle.mob_eval.specs.QueryFaults.{TupleFault}
 use Rattle.mob_join.specs.Query.{IsKept}
 use Rattle.mob_tail.specs.Answers.{IsAnswerOnKept}
 use Rattle.mob_shell.specs.Answers.{QueryAnswers}
 use Rattle.mob_shell.proofs.statements.answers.answered.Goals as goal
+use Rattle.mob_list.specs.Faults.{OnCause}
+use Rattle.mob_list.proofs.Faults.{cause_weaker}
 
 pub returns-in_err-kept-clause-fault : goal.returns-in_err-kept-clause-fault
 returns-in_err-kept-clause-fault g c =
@@ -14,7 +15,7 @@ returns-in_err-kept-clause-fault g c =
     let select = select_seen c.args.select.now in
     let catalogue = c.args.catalog.now in
     let day = c.args.epoch.now in
-    rw (p.1, p.2) (of_query (λ f. IsKept select catalogue day (Err f)) (λ f. QueryAnswers select catalogue day (Err f)) (λ f h. inl h) c.in_err-kept.field-0.0 c.in_err-kept.ensures.fault)
+    rw (p.1, p.2) (cause_weaker (λ f. IsKept select catalogue day (Err f)) (λ f. QueryAnswers select catalogue day (Err f)) (λ f h. inl h) c.in_err-kept.field-0.0 c.in_err-kept.ensures.fault)
 
 pub returns-clause-text : goal.returns-clause-text
 returns-clause-text g c =
@@ -31,5 +32,5 @@ returns-clause-fault g c =
     let day = c.args.epoch.now in
     let there = λ (f : TupleFault) (k : IsAnswerOnKept select c.store.result.now day c.as_slice.result.now (Err f)).
     subst (λ z. IsAnswerOnKept select z day c.in_ok-kept.kept (Err f)) c.store.ensures.same (subst (λ z. IsAnswerOnKept select c.store.result.now day z (Err f)) c.as_slice.ensures.same k) in
-    IfErr-weaker c.answered_text.result (OnTuple (λ f. IsAnswerOnKept select c.store.result.now day c.as_slice.result.now (Err f))) (OnTuple (λ f. QueryAnswers select catalogue day (Err f)))
-    (of_query (λ f. IsAnswerOnKept select c.store.result.now day c.as_slice.result.now (Err f)) (λ f. QueryAnswers select catalogue day (Err f)) (λ f k. inr (c.in_ok-kept.kept, c.in_ok-kept.ensures.kept, there f k))) c.answered_text.ensures.fault
+    IfErr-weaker c.answered_text.result (OnCause (λ f. IsAnswerOnKept select c.store.result.now day c.as_slice.result.now (Err f))) (OnCause (λ f. QueryAnswers select catalogue day (Err f)))
+    (cause_weaker (λ f. IsAnswerOnKept select c.store.result.now day c.as_slice.result.now (Err f)) (λ f. QueryAnswers select catalogue day (Err f)) (λ f k. inr (c.in_ok-kept.kept, c.in_ok-kept.ensures.kept, there f k))) c.answered_text.ensures.fault
