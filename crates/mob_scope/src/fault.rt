@@ -1,4 +1,4 @@
-//! Why typing stops.
+//! The reasons for which typing stops.
 ghost use Rattle.mob_scope.specs.Answers.{AnswersAs, unless};
 
 use mob_ast::Kind;
@@ -7,14 +7,13 @@ use std::alloc::{AllocError, AllocFailed};
 /// Why typing stops.
 #[derive(Clone, Copy)]
 pub enum Fault {
-    /// Something is wrong at this place of the script.
+    /// Something in the script is wrong.
     Wrong {
-        /// What is wrong.
         kind: Kind,
-        /// The place, in bytes from 0.
+        /// Its place in the script, in bytes from 0.
         place: u32,
     },
-    /// There was no memory.
+    /// An allocation failed.
     NoMemory,
 }
 
@@ -40,7 +39,7 @@ impl<T: Drop> From<AllocFailed<T>> for Fault {
     }
 }
 
-/// Refuses with this kind at this place where the test holds.
+/// Refuses with this kind at this place if the test holds.
 pub fn unless(test: bool, kind: Kind, place: u32) -> Result<(), Fault>
     ensures refused { AnswersAs (λ u. u) result (unless test kind place) }
 {
