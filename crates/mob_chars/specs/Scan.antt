@@ -72,7 +72,7 @@ abbrev pub string_length : List ℕ → Option ℕ
 string_length [] = None
 string_length (b ∷ l) = option_map (λ n. 1 + n) (quoted_length l)
 
--- a comment goes up to the next line feed
+-- the length of a comment, up to the next line feed
 abbrev pub comment_length : List ℕ → ℕ
 comment_length l = length (take_while (λ b. not (b == 10)) l)
 

@@ -25,8 +25,8 @@ pub fn tree_place(e: &Expr) -> u32
     e.place
 }
 
-/// Types a condition. It must be a bool; an expression of another type is `NoSuchOperator` at its
-/// place.
+/// Types a condition. Returns it, or the first mistake. It must be a bool; an expression of another
+/// type is `NoSuchOperator` at its place.
 pub fn condition(
     alloc: Global,
     scope: &Scope<'_>,

@@ -147,7 +147,8 @@ fn key_item(outputs: &Outputs<'_>, key: &Key) -> Result<Option<u32>, Fault>
     }
 }
 
-/// For each key that is an AS name, the number of that column of the answer; else `None`.
+/// For each key that is an AS name, the number of that column of the answer; else `None`. Its only
+/// error is `NoMemory`, a failed allocation.
 pub fn key_items(
     alloc: Global,
     outputs: &Outputs<'_>,
@@ -257,7 +258,7 @@ fn limit_value(text: &str) -> Option<u64>
     }
 }
 
-/// The number of LIMIT. A text other than 1 to 18 digits is `BadCount`.
+/// The number of LIMIT. A text other than 1 to 18 digits is `BadCount` at its place.
 pub fn limit_of(limit: &Option<Word>) -> Result<Option<u64>, Fault>
     ensures number { AnswersAs (λ n. n) result (limit_of limit.now) }
 {

@@ -36,7 +36,7 @@ pub fn column_leaf(alloc: Global, found: Found, place: u32) -> TExpr
 }
 
 /// Appends a constant of this type and text, for the statement with this number. Returns the number
-/// of the constant.
+/// of the constant, from 0. Its only error is `NoMemory`, a failed allocation.
 pub fn next_constant(
     alloc: Global,
     statement: u32,

@@ -1,4 +1,4 @@
--- Examples, worked by hand: which texts are boxes, and of which value.
+-- Examples, worked by hand: which texts are boxes, and which box each denotes.
 use Rattle.std.proofs.Common.{◌≡◌, true, pos, Option, None, codes, refl}
 use Rattle.std.specs.Prelude.{is_some}
 use Rattle.mob_language.specs.Language.{Text}

@@ -8,7 +8,7 @@ pub record HasDatedEnds (day : ℤ) (s : SpanOf) : Type 0 where
   pub lower : IsDated day s.lower
   pub upper : IsDated day s.upper
 
--- so it is for each of the spans
+-- the same for each of the spans
 abbrev pub HaveDatedEnds : ℤ → List SpanOf → Type 0
 HaveDatedEnds day [] = Unit {0}
 HaveDatedEnds day (s ∷ set) = HasDatedEnds day s × HaveDatedEnds day set

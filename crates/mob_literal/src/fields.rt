@@ -61,8 +61,8 @@ fn text_in(ty: SqlType, field: &str) -> &str
 /// Reads the value of a field of a table file, in a column of this type.
 ///
 /// The field `\N` is NULL. In a column of any type but text an empty field is NULL too. In a text
-/// column a field that begins with two backslashes loses one. Any other field is read whole, as
-/// `read_value` reads it, with the same faults.
+/// column a field that begins with two backslashes loses one. Any other field is read whole by
+/// `read_value`, whose faults it returns.
 pub fn read_field(alloc: Global, ty: SqlType, field: &str, epoch: &Epoch) -> Result<Value, ReadText>
     ensures null { is_null_field ty field.now ≡ true → result ≡ Ok Value.Null }
     ensures reading { is_null_field ty field.now ≡ false → SaysAs ty epoch.now (text_of_field ty field.now) result }

@@ -12,7 +12,7 @@ use std::alloc::{AllocError, Global};
 /// lasts until the next instant; otherwise a course leads from it to the next value. `None` exactly
 /// if the sequence is unsound: an instant is not later than the one before it, a sequence of one
 /// instant excludes an end, or the last course of a sequence without its upper end does not reach
-/// its last value.
+/// its last value. An error means that an allocation failed.
 pub fn slices_of<C: Course + Drop>(
     alloc: Global,
     step: bool,

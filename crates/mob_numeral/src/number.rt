@@ -168,7 +168,8 @@ pub fn read_number(text: &str) -> Result<Frac, ReadText>
     }
 }
 
-/// Reads an int from its text: a number, as `read_number` reads it. `Unsound` if it is not whole.
+/// Reads an int from its text: a number, as `read_number` reads it, with the same faults. A number
+/// that is not whole is `Unsound`. It takes no memory.
 pub fn read_whole(text: &str) -> Result<Frac, ReadText>
     ensures reading { Lit whole_numbers text.now result }
     ensures memory { result ≢ Err NoMemory }

@@ -145,7 +145,7 @@ fn operator_named(names: &[(&str, Op)], name: &str) -> Option<Op>
     None
 }
 
-// The operator and the result type of the first row that has them.
+// The operator and the result type of the first row that takes the call.
 fn first_of(
     rows: &[Row],
     form: Form,

@@ -22,7 +22,7 @@ Shrinks {A} s = (l r : List PlacedSymbol) (x : A) → s l ≡ Ok (x, r) → leng
 pub lawful_shrinks : {A : Type 0} (F : Production A) (s : TokenReader A) → ((n : ℕ) → Lawful F n s) → Shrinks s
 lawful_shrinks F s law l r x h = shrinks F (length l + 1) s (law (length l + 1)) l (omega arith) x r h
 
--- the readers of which longer productions are made
+-- the readers that make up longer productions
 behind_of : {A : Type 0} → Answer A → List PlacedSymbol
 behind_of (Ok x) = x.1
 behind_of (Err r) = r

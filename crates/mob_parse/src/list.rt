@@ -32,6 +32,8 @@ pub trait Entry {
 
 impl<'a> Cursor<'a> {
     /// Reads one or more entries with this mark between them.
+    ///
+    /// `Syntax` at the first token that does not fit; `NoMemory` if an allocation fails.
     #[tactic(auto, using(crate::proofs::Behind::behind_nothing))]
     pub fn list<T: Entry>(&mut self, mark: Mark) -> Result<Items<T::Made>, Fault>
         ensures reads { FollowsReading (map T.parts_of) result (left self.new) (listed mark T.reader (left self.old)) }
@@ -40,6 +42,8 @@ impl<'a> Cursor<'a> {
     }
 
     /// Reads one or more entries with this mark between them, and appends them to `before`.
+    ///
+    /// `Syntax` at the first token that does not fit; `NoMemory` if an allocation fails.
     #[tactic(auto, using(mob_grammar::proofs::Steps::listed_goes_on, mob_grammar::proofs::Steps::listed_stops), unfolding(mob_grammar::specs::Reading::listed))]
     pub fn list_onto<T: Entry>(
         &mut self,

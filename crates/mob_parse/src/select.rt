@@ -275,7 +275,10 @@ impl<'a> Cursor<'a> {
         Ok(Statement::Explain(self.select()?))
     }
 
-    /// Reads the statements of a script, with `;` between them.
+    /// Reads the statements of a script, with `;` between them. It stops before the first token
+    /// that continues none of them.
+    ///
+    /// `Syntax` at the first token that does not fit; `NoMemory` if an allocation fails.
     #[tactic(auto, unfolding(mob_grammar::specs::Reading::script_at))]
     pub fn statements(&mut self) -> Result<Items<Statement>, Fault>
         ensures reads { FollowsReading (map statement_of) result (left self.new) (script_at (left self.old)) }

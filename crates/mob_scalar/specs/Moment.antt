@@ -51,7 +51,7 @@ second_part (Some v) = part_of v.1
 abbrev pub clock_of : ℕ × (ℕ × Option (ℕ × Option Part)) → Clock
 clock_of v = record { seconds = v.0 * 3600 + v.1.0 * 60 + seconds_of v.1.1; part = second_part v.1.1 }
 
--- HH:MM, then optionally :SS, then optionally a part of a second
+-- HH:MM, then optionally :SS, which a part of a second may follow
 abbrev pub clock : Language Clock
 clock = Means clock_of (two_digits_below 24 ▷ (behind (codes ":") (two_digits_below 60) ▷ Maybe (behind (codes ":") (two_digits_below 60 ▷ Maybe part))))
 

@@ -30,7 +30,8 @@ pub fn closing_at(bytes: &[u8]) -> Option<(u8, &[u8])>
     }
 }
 
-/// Reads members with commas between them. Returns them and the rest of the text.
+/// Reads members with commas between them. Returns them and the rest of the text. An error means
+/// that an allocation failed.
 #[tactic(auto, unfolding(mob_language::specs::Readers::separated_at))]
 pub fn separated_at<'a, A: Drop, F: Fn(&'a [u8]) -> Result<Option<(A, &'a [u8])>, AllocError>>(
     alloc: Global,

@@ -4,7 +4,8 @@ ghost use Rattle.mob_scalar.specs.Traverse.{traverse};
 
 use std::alloc::{AllocError, Global};
 
-/// What `fit` makes of each item; `None` if it makes nothing of one of them.
+/// What `fit` makes of each item; `None` if it makes nothing of one of them. An error means that an
+/// allocation failed.
 pub fn fitting_each<A: Drop, B: Drop, F: Fn(A) -> Result<Option<B>, AllocError>>(
     alloc: Global,
     items: Vec<A>,

@@ -45,7 +45,8 @@ fn plus_part(n: i64, part: Part) -> Result<Frac, Overflow>
     }
 }
 
-/// The instant of a moment, in seconds since midnight UTC of the epoch day.
+/// The instant of a moment, in seconds since midnight UTC of the epoch day. `Overflow` if it does
+/// not fit in 62 bits.
 #[tactic(auto, unfolding(crate::specs::Moment::instant))]
 pub fn place(stamp: Stamp, epoch: &Epoch) -> Result<Frac, Overflow>
     requires date { civil stamp.date ≡ true }
@@ -87,14 +88,15 @@ fn stamp_of(bytes: &[u8]) -> Option<Stamp>
     within_blanks(moment_at, bytes)
 }
 
-/// Reads a moment from its text. Returns its instant, in seconds since midnight UTC of the epoch
-/// day.
+/// Reads a moment from its text, which has the form of a timestamptz of PostgreSQL. Returns its
+/// instant, in seconds since midnight UTC of the epoch day.
 ///
-/// A moment is `YYYY-MM-DD`, then optionally blanks or `T` and `HH:MM`, then optionally `:SS`, a
-/// part of the second (`.` and 1 to 18 digits, or `(p/q)`), and an offset (`Z`, `+HH`, `-HH`,
-/// `+HH:MM` or `-HH:MM`). The date exists, and the instant is in the years 0001 to 9999 in UTC.
-/// Blanks may be at both ends. Any other text is `NotText`. An instant of more than 62 bits is
-/// `TooLarge`. It takes no memory.
+/// A moment is a date `YYYY-MM-DD`, which blanks or a `T`, and a time, may follow. A time is
+/// `HH:MM` or `HH:MM:SS`. After the seconds a part of a second may follow: `.` and 1 to 18 digits,
+/// or `(p/q)` with p below q. After the time an offset may follow: `Z`, `+HH`, `-HH`, `+HH:MM` or
+/// `-HH:MM`, with at most 15 hours. The date exists, and the instant is in the years 0001 to 9999
+/// in UTC. Blanks may be at both ends. Any other text is `NotText`. An instant of more than 62 bits
+/// is `TooLarge`. It takes no memory.
 pub fn read_moment(text: &str, epoch: &Epoch) -> Result<Frac, ReadText>
     ensures reading { Lit (moments epoch.now) text.now result }
     ensures memory { result ≢ Err NoMemory }

@@ -39,7 +39,7 @@ pub struct Found {
 }
 
 /// The number in 32 bits. A list with more entries does not fit in memory, so a larger number is
-/// reported as out of memory.
+/// `NoMemory`.
 pub fn number(index: usize) -> Result<u32, Fault>
     ensures same { AnswersAs (λ n. n) result (Ok index) }
 {

@@ -125,7 +125,7 @@ all_contained : (before ps : List ℕ) → AllByRecursion (Contains (before ++ p
 all_contained before [] = tt
 all_contained before (p ∷ ps) = (Contains-append_right before (p ∷ ps) p (0, omega arith, refl), subst (λ all. AllByRecursion (Contains all) ps) (append_assoc before (p ∷ []) ps) (all_contained (before ++ p ∷ []) ps))
 
--- and so it is for the tree with this number in a script
+-- the same for the tree with this number in a script
 hold_own : (trees front ss : List StatementParts) (n : ℕ) → trees ≡ front ++ ss → length front + 1 ≡ n → HoldPlaces (IsHeldIn trees) n ss
 hold_own trees front [] n parts number = tt
 hold_own trees front (s ∷ ss) n parts number = (

@@ -47,7 +47,8 @@ fn from_name<'a>(
 }
 
 /// The table of FROM that is added after these. `UnknownName` if the script has made no such table,
-/// `Duplicate` if its name or alias is taken, `Limit` if it would be the fifth table.
+/// `Duplicate` if its name or alias is taken, `Limit` if it would be the fifth table, and
+/// `NoMemory` if an allocation fails.
 pub fn from_table<'a>(
     names: &'a Names,
     sources: &[ScopeTable<'_>],

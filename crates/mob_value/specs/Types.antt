@@ -6,7 +6,7 @@ use Rattle.mob_value.specs.declared.value.Value.{Value}
 use Rattle.mob_value.specs.declared.value.Value.TheVariants as value
 
 -- Whether a value is one of a type. NULL is a value of every type, and a number is one of int and
--- of numeric. That the numbers of an int are whole is said by `IsValueOf` of `mob_catalog`.
+-- of numeric. `IsValueOf` of `mob_catalog` adds that the numbers of an int are whole.
 abbrev pub is_of_type : SqlType → Value → Bool
 is_of_type type value.Null = true
 is_of_type sql.Bool (value.Bool truth) = true

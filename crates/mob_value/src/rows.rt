@@ -139,7 +139,8 @@ impl<T> Rows<T> {
         push_row(&mut self.items, &mut self.ends, row)
     }
 
-    /// Reserves room for appending these rows. Contracts do not see the room.
+    /// Reserves room for appending these rows. Contracts do not see the room. An error means that
+    /// an allocation failed.
     pub fn reserve_for(&mut self, more: &Rows<T>) -> Result<(), AllocError>
         ensures same { self.new ≡ self.old }
     {
