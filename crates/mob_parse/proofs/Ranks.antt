@@ -37,7 +37,7 @@ null_shrinks = if_shrinks Not (closed Null node.IsNotNull) (closed Null node.IsN
 pub type_shrinks : Shrinks type_at
 type_shrinks = lawful_shrinks TypeName type_at lawful_type
 
--- the operands of each rank
+-- the phrases that the operators of a rank follow
 pub other_shrinks : Shrinks (other_rank expression_at)
 other_shrinks = rank_shrinks other _ (λ n. lawful_other n expression_at (lawful_expression n) (λ pos v o q y. column_arguments v o q y))
 

@@ -18,7 +18,7 @@ whole_parts n = over-lowest n 1 (lowest_in n 1 (omega arith) (gcd_one_right (nat
 pub whole_fits : (n : ℤ) → nat_abs n < 2 ^ 62 → Fits (whole n)
 whole_fits n h = let p = whole_parts n in record { num_fits = rw p.0 h; den_fits = rw p.1 (omega arith) }
 
--- the numerator and the denominator of a part are at most the given denominator
+-- the numerator of a part is at most its denominator
 part_le : (numerator denominator : ℕ) → numerator < denominator → nat_abs (over (pos numerator) denominator).num ≤ (over (pos numerator) denominator).den
 part_le numerator denominator h =
     let p = over-parts (pos numerator) denominator (omega (arith, h)) in

@@ -116,6 +116,7 @@ impl<T> Rows<T> {
         self.ends.len()
     }
 
+    /// Whether it has no rows.
     pub fn is_empty(&self) -> bool
         ensures empty { result ≡ (length self.now == 0) }
     {
