@@ -234,7 +234,7 @@ impl<'a> Cursor<'a> {
         Ok((front, groups, keys, limit))
     }
 
-    // Reads a SELECT, after SELECT.
+    // Reads a SELECT, after its first word.
     #[tactic(auto, unfolding(mob_grammar::specs::Reading::select_at))]
     fn select(&mut self) -> Result<SelectTree, Fault>
         ensures reads { FollowsReading select_of result (left self.new) (select_at (left self.old)) }
@@ -255,7 +255,7 @@ impl<'a> Cursor<'a> {
         })
     }
 
-    // Reads a DELETE, after DELETE.
+    // Reads a DELETE, after its first word.
     #[tactic(auto, unfolding(mob_grammar::specs::Reading::delete_at, mob_grammar::specs::Reading::delete_table_at, mob_grammar::specs::Reading::behind_mark))]
     fn delete(&mut self) -> Result<Statement, Fault>
         ensures reads { FollowsReading statement_of result (left self.new) (delete_at (left self.old)) }
@@ -266,7 +266,7 @@ impl<'a> Cursor<'a> {
         Ok(Statement::Delete { table, cond })
     }
 
-    // Reads an EXPLAIN, after EXPLAIN.
+    // Reads an EXPLAIN, after its first word.
     #[tactic(auto, unfolding(mob_grammar::specs::Reading::explain_at, mob_grammar::specs::Reading::behind_mark))]
     fn explain(&mut self) -> Result<Statement, Fault>
         ensures reads { FollowsReading statement_of result (left self.new) (explain_at (left self.old)) }
@@ -287,7 +287,6 @@ impl<'a> Cursor<'a> {
     }
 }
 
-/// A table of FROM.
 impl Entry for FromTable {
     type Made = FromTable;
 
@@ -359,7 +358,6 @@ impl Entry for GroupColumn {
     ghost shrinks = { group_column_shrinks };
 }
 
-/// An entry of the select list.
 impl Entry for Item {
     type Made = Item;
 
@@ -383,7 +381,6 @@ impl Entry for Item {
     ghost shrinks = { item_shrinks };
 }
 
-/// A key of ORDER BY.
 impl Entry for Key {
     type Made = Key;
 

@@ -91,12 +91,12 @@ fn stamp_of(bytes: &[u8]) -> Option<Stamp>
 /// Reads a moment from its text, which has the form of a timestamptz of PostgreSQL. Returns its
 /// instant, in seconds since midnight UTC of the epoch day.
 ///
-/// A moment is a date `YYYY-MM-DD`, which blanks or a `T`, and a time, may follow. A time is
-/// `HH:MM` or `HH:MM:SS`. After the seconds a part of a second may follow: `.` and 1 to 18 digits,
-/// or `(p/q)` with p below q. After the time an offset may follow: `Z`, `+HH`, `-HH`, `+HH:MM` or
-/// `-HH:MM`, with at most 15 hours. The date exists, and the instant is in the years 0001 to 9999
-/// in UTC. Blanks may be at both ends. Any other text is `NotText`. An instant of more than 62 bits
-/// is `TooLarge`. It takes no memory.
+/// A moment is a date `YYYY-MM-DD`, optionally followed by a time; blanks or a `T` are between the
+/// two. A time is `HH:MM` or `HH:MM:SS`. After the seconds there may be a part of a second: `.` and
+/// 1 to 18 digits, or `(p/q)` with p below q. After the time there may be an offset: `Z`, `+HH`,
+/// `-HH`, `+HH:MM` or `-HH:MM`, with at most 15 hours. The date exists, and the instant is in the
+/// years 0001 to 9999 in UTC. Blanks may be at both ends. Any other text is `NotText`. An instant
+/// of more than 62 bits is `TooLarge`. It takes no memory.
 pub fn read_moment(text: &str, epoch: &Epoch) -> Result<Frac, ReadText>
     ensures reading { Lit (moments epoch.now) text.now result }
     ensures memory { result ≢ Err NoMemory }

@@ -82,8 +82,8 @@ fn column_among(
     found_at(from, index, ty)
 }
 
-// The column with the number of its table counted over all of FROM. A sum beyond 32 bits is
-// reported as out of memory.
+// The column, with its table counted over all of FROM. A sum beyond 32 bits is reported as out of
+// memory.
 fn in_from(first: u32, found: Found) -> Result<Found, Fault>
     ensures counted { AnswersAs (λ f. f) result (Ok (in_from first found)) }
 {

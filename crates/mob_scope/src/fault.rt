@@ -10,7 +10,7 @@ pub enum Fault {
     /// Something in the script is wrong.
     Wrong {
         kind: Kind,
-        /// Its place in the script, in bytes from 0.
+        /// The place in the script, in bytes from 0.
         place: u32,
     },
     /// An allocation failed.

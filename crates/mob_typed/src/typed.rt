@@ -21,7 +21,8 @@ pub struct TExpr {
 #[derive(Drop)]
 pub struct ConstText {
     pub ty: SqlType,
-    /// Its text, as written.
+    /// The text to read: a string without its outer quotes, a number, `true` or `false`. A number
+    /// of an INSERT has its sign.
     pub text: Text,
     /// The number of its statement, from 1.
     pub statement: u32,

@@ -1,4 +1,4 @@
--- NULL is the value of SQL for no value.
+-- NULL, the value of SQL for a missing value.
 use Rattle.std.specs.Prelude.{Option, Some, None}
 use Rattle.mob_value.specs.declared.value.Value.{Value}
 use Rattle.mob_value.specs.declared.value.Value.TheVariants as value
