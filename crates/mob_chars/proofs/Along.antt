@@ -1,4 +1,4 @@
--- How the tokens lie, along the text.
+-- The places of tokens, proved along the text.
 use Rattle.std.specs.Prelude.{IfSome}
 use Rattle.std.proofs.Common.{◌≡◌, ◌<◌, ◌≤◌, ◌+◌, ◌-◌, ◌∙◌, ℕ, zero, suc, List, [], ◌∷◌, ◌++◌, length, drop, length-drop, Bool, true, false, cond, Option, Some, None, Result, Ok, Err, refl, sym, ap, subst, arith}
 use Rattle.mob_chars.specs.declared.token.TokenKind.{TokenKind}

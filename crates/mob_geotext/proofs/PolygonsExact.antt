@@ -46,7 +46,8 @@ close_exact = then_byte_stops (many_exact is_blank) (word_exact (codes ")")) (wo
 bracket_ends : Ends 41
 bracket_ends = record { moment = refl; blank = refl; digit = refl; t = refl }
 
--- before a closing bracket there is neither a comma nor the rest of a number
+-- a closing bracket and the blanks before it begin neither with a comma nor with the rest of a
+-- number
 close_no_comma : (text rest : Text) (v : Text × Unit {0}) → (blanks ▷ Word (codes ")")) text v → NoComma (text ++ rest)
 close_no_comma text rest v s =
     let is : text ++ rest ≡ s.front ++ (41 ∷ rest) = ap (λ (t : Text). t ++ rest) s.whole ∙ append_assoc s.front s.back rest ∙ ap (λ (t : Text). s.front ++ (t ++ rest)) s.second in

@@ -100,7 +100,7 @@ split_has : (l u t : Ratio) (included : Bool) → before l u ≡ true
     ≡ (has (record { lower = l; upper = u; lower_inc = included; upper_inc = false }) t || has (record { lower = u; upper = u; lower_inc = true; upper_inc = true }) t)
 split_has l u t included h = split_test (before l t || (included && up_to l t)) (before t u) (before u t) (before-back t u) (λ p q. begun included l u t h (before-neither u t q p))
 
--- two optional values, one before the other, which are equal if only the second test passes
+-- two alternatives in order, whose values are equal if only the second test passes
 choose : {A : Type 0} (a b : Bool) (x y : A) (o : Option A) → (a ≡ false → b ≡ true → y ≡ x) → cond a (Some x) (cond b (Some y) o) ≡ cond (a || b) (Some x) o
 choose true b x y o h = refl
 choose {A} false true x y o h = ap (λ (z : A). Some z) (h refl refl)
@@ -123,7 +123,7 @@ module _ {C B : Type 0} (course : CourseOf C B) (laws : IsLawful course) where
   abbrev slice_on : Ratio → Ratio → Bool → Bool → C → Slice C
   slice_on l u lower_inc upper_inc c = record { span = record { lower = l; upper = u; lower_inc = lower_inc; upper_inc = upper_inc }; course = c }
 
-  -- a course that is drawn again from its start to its end has its values, and its end value
+  -- the two written instants of a slice give the values of that slice
   long_value : (step : Bool) (l u t : Ratio) (lower upper : Bool) (c : C) → before l u ≡ true → drawn course step (course.start c) (course.end c) ≡ c
       → value_at course.value (slices_of course step lower (written (course.start c) l ∷ written (course.end c) u ∷ []) upper) t ≡ value_at course.value (slice_on l u lower upper c ∷ []) t
   long_value step l u t lower true c h e =
