@@ -14,7 +14,7 @@ use Rattle.mob_typed.specs.Statements.{ScriptOut, script_seen}
 use Rattle.mob_typing.specs.Statements.{typed_script, IsTypingRefusal}
 use Rattle.mob_accept.specs.Accepts.{HasTrees, IsAccepted, IsAcceptRefusal, script_limit}
 
--- a refusal of the parser is a failed allocation, or another
+-- a refusal of the parser is a failed allocation, or something else
 split : (k : Kind) (n p : ℕ) (bytes : List ℕ) → IsCause k bytes (record { kind = k; statement = n; place = p }) → (◌≡◌ {A = Refusal} (record { kind = k; statement = n; place = p }) no_memory) ⊎ (k ≢ NoMemory)
 split NoMemory n p bytes h = inl (rw (h.0, h.1) refl)
 split NotUtf8 n p bytes h = inr (λ e. cc)
@@ -32,7 +32,7 @@ no_script bytes e short cause = elim (split e.kind e.statement e.place bytes cau
   )
 ]
 
--- what holds of one answer of the parser holds of it in other words
+-- a clause about an answer of the parser, restated with `HasTrees`
 pub only_read : (bytes : List ℕ) (r : Result Script Refusal) → IfOk r (λ s. (x : List StatementParts) → IsTreeOf bytes x → x ≡ script_of s) → IfOk r (λ s. (x : List StatementParts) → HasTrees bytes x → x ≡ script_of s)
 only_read bytes (Ok s) h = λ x g. h x g.tree
 only_read bytes (Err e) h = tt
@@ -41,7 +41,7 @@ pub none_read : (bytes : List ℕ) (r : Result Script Refusal) → length bytes 
 none_read bytes (Ok s) short h = tt
 none_read bytes (Err e) short h = no_script bytes e short h
 
--- the one reading of a text
+-- the trees of a text, and that it has no others
 pub record IsRead (bytes : List ℕ) (trees : List StatementParts) : Type 0 where
   pub read : HasTrees bytes trees
   pub only : (x : List StatementParts) → HasTrees bytes x → x ≡ trees
@@ -58,7 +58,7 @@ wrong_name bytes trees h e wrong = elim wrong [
 pub only_typed : (bytes : List ℕ) (trees : List StatementParts) (out : ScriptOut) → IsRead bytes trees → typed_script trees ≡ Ok out → (o : ScriptOut) → IsAccepted bytes o → o ≡ out
 only_typed bytes trees out h typed o g = let same = h.only g.trees g.script.read in let other = g.script.typed in cc
 
--- what typing answers of the one reading of a text, in other words
+-- the clauses of typing over these trees, restated for the text
 module _ (bytes : List ℕ) (trees : List StatementParts) (h : IsRead bytes trees) where
   pub accepted_typed : (r : Result Typed Refusal) → IfOk r (λ t. typed_script trees ≡ Ok (script_seen t)) → IfOk r (λ t. IsAccepted bytes (script_seen t))
   accepted_typed (Ok t) typed = record { trees = trees; script = record { read = h.read; typed = typed } }

@@ -1,5 +1,5 @@
--- The tokens of a text as the grammar sees them begin one behind the other; and how many `;` of
--- them stand before a place.
+-- The tokens of a text, as the grammar sees them, begin at strictly increasing places; and how many
+-- `;` tokens come before a place.
 use Rattle.std.specs.Prelude.{IfSome}
 use Rattle.std.specs.List.{AllByRecursion}
 use Rattle.std.proofs.Common.{◌≡◌, ◌<◌, ◌≤◌, ◌+◌, ◌∙◌, refl, sym, ap, subst, arith, ℕ, List, [], ◌∷◌, ◌++◌, length, append-nil, cond, Option, Some, None, Ok}
@@ -18,7 +18,7 @@ use Rattle.mob_list.proofs.Each.{each_on, one_of}
 use Rattle.mob_accept.proofs.Within.{ends_later}
 use Rattle.mob_accept.specs.Numbers.{tokens_in, symbols_before, statement_number}
 
--- a token that the grammar sees has a byte
+-- a token that the grammar sees has at least one byte
 abbrev HasByte : Token → Option Symbol → Type 0
 HasByte t None = Unit {0}
 HasByte t (Some x) = t.from < t.to
@@ -27,7 +27,7 @@ abbrev AllHaveBytes : List ℕ → List Token → Type 0
 AllHaveBytes text [] = Unit {0}
 AllHaveBytes text (t ∷ ts) = HasByte t (symbol_at text t.kind t.from t.to) × AllHaveBytes text ts
 
--- the tokens begin one behind the other, from a place on and before an end
+-- the tokens begin at strictly increasing places; and, between a start and an end
 abbrev Rise : List PlacedSymbol → Type 0
 Rise l = Rises (λ u v. u.place < v.place) l
 
@@ -65,7 +65,7 @@ module _ (text : List ℕ) where
   symbols_rise q e [] order have = (tt, tt, tt)
   symbols_rise q e (t ∷ ts) order have = one_rises q e t (symbol_at text t.kind t.from t.to) (lexed text ts) order.0 order.1 (ends_later t.to e ts order.2) have.0 (symbols_rise t.to e ts order.2 have.1)
 
--- which tokens stand before a place
+-- which tokens are before a place
 none_before : (p : ℕ) (l : List PlacedSymbol) → AllByRecursion (λ u. p ≤ u.place) l → symbols_before p l ≡ []
 none_before p [] h = refl
 none_before p (u ∷ l) h = ap (λ b. cond b (u ∷ symbols_before p l) (symbols_before p l)) (le-ltb u.place p h.0) ∙ none_before p l h.1
@@ -87,15 +87,15 @@ module _ (text : List ℕ) (ts : List Token) (are : tokens_of text ≡ Ok ts) wh
   stand : StandBetween 0 (length text) (lexed text ts)
   stand = symbols_rise text 0 (length text) ts (are_in_order text ts are) (tokens_have text ts are)
 
-  -- the number of the statement of a place that stands behind n `;`
+  -- the statement number of a place that follows n `;` tokens
   pub behind_is : (l : List PlacedSymbol) (n p : ℕ) → l ≡ lexed text ts → StandsBehind l n p → statement_number text p ≡ 1 + n
   behind_is l n p lexes h =
       let parts = sym lexes ∙ h.parts in
       number_is p ∙ ap (λ q. 1 + ends_among (symbols_before q (lexed text ts))) (sym h.here) ∙ ap (λ k. 1 + ends_among (symbols_before h.token.place k)) parts
       ∙ ap (λ k. 1 + ends_among k) (before_one h.before h.behind h.token (subst Rise parts stand.1)) ∙ ap (λ m. 1 + m) h.number
 
-  -- the number of the statement of the place behind some tokens: that of the next token, or the end
-  -- of the text
+  -- the statement number of the place after some tokens: the place of the next token, or the end of
+  -- the text
   pub place_behind : (l before r : List PlacedSymbol) → l ≡ lexed text ts → l ≡ before ++ r → statement_number text (first_place r (length text)) ≡ 1 + ends_among before
   place_behind l before [] lexes parts =
       number_is (length text) ∙ ap (λ k. 1 + ends_among k) (all_before (length text) (lexed text ts) stand.2) ∙ ap (λ k. 1 + ends_among k) (sym lexes ∙ parts ∙ append-nil before)

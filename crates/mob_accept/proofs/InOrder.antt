@@ -1,4 +1,4 @@
--- A script whose literals and rows rise in its trees stands in written order.
+-- If the literals and rows of the trees are in order, the typed script is in written order.
 use Rattle.std.specs.List.{AllByRecursion}
 use Rattle.std.proofs.Common.{◌≡◌, ◌≤◌, ◌+◌, ◌∙◌, arith, sym, ap, subst, inl, inr, ℕ, List, [], ◌∷◌, ◌++◌, append_assoc, append-nil}
 use Rattle.mob_ast.specs.Trees.{StatementParts}
@@ -15,14 +15,14 @@ use Rattle.mob_grammar.proofs.Within.{within_all, within_back, within_front}
 use Rattle.mob_accept.specs.Written.{TypingKeepsOrder}
 use Rattle.mob_accept.proofs.OnParts.{rises_within}
 
--- places that rise
+-- sorted places
 abbrev pub Rising : List ℕ → Type 0
 Rising ps = Rises (λ p q. p ≤ q) ps
 
 abbrev BelongsFrom : ℕ → ConstText → Type 0
 BelongsFrom n c = n ≤ c.statement
 
--- literals of one statement rise with their places
+-- the literals of one statement are sorted by their places
 all_literals : (n : ℕ) (c : ConstText) (cs : List ConstText) → Belongs n c → AllByRecursion (Belongs n) cs → AllByRecursion (λ p. c.place ≤ p) (places_of cs) → AllByRecursion (LiteralUpTo c) cs
 all_literals n c [] is own up = tt
 all_literals n c (d ∷ cs) is own up = (inr (is ∙ sym own.0, up.0), all_literals n c cs is own.1 up.1)
@@ -31,7 +31,7 @@ own_rise : (n : ℕ) (cs : List ConstText) → AllByRecursion (Belongs n) cs →
 own_rise n [] own up = tt
 own_rise n (c ∷ cs) own up = (all_literals n c cs own.0 own.1 up.0, own_rise n cs own.1 up.1)
 
--- what the statements from the one of number n on add: literals that rise, and brackets that rise
+-- what the statements from number n on add: sorted literals and sorted brackets
 record Stands (n : ℕ) (before : List ConstText) (out : ScriptOut) : Type 0 where
   new : List ConstText
   is : out.consts ≡ before ++ new

@@ -1,5 +1,5 @@
--- What typing numbers by statements stands so among the `;` tokens: the trees of a text are cut at
--- them, and typing keeps to the trees.
+-- Typing numbers statements as the `;` tokens do: the trees of a text are cut at these tokens, and
+-- typing keeps to the trees.
 use Rattle.std.specs.List.{AllByRecursion}
 use Rattle.std.proofs.Common.{◌≡◌, ◌+◌, ◌∙◌, sym, ap, subst, arith, inl, inr, ℕ, List, [], ◌∷◌, ◌++◌, length, take, drop, append_assoc, append-nil, Ok}
 use Rattle.std.proofs.lemmas.List.{take-append-drop}
@@ -41,7 +41,7 @@ module _ (bytes : List ℕ) where
   literals_own n [] own at = tt
   literals_own n (c ∷ cs) own at = (own.0 ∙ sym at.0, literals_own n cs own.1 at.1)
 
-  -- what the statements from the one of number n on add: literals and rows that are in them
+  -- what the statements from number n on add: literals and rows that are in them
   record Stands (n : ℕ) (before : List ConstText) (out : ScriptOut) : Type 0 where
     new : List ConstText
     is : out.consts ≡ before ++ new
@@ -83,7 +83,7 @@ wrong_names_are_held bytes e h = (h.trees, h.read.tree, typing_refuses_what_is_h
 pub text_is_numbered : TextIsNumbered
 text_is_numbered bytes out h = typing_keeps_numbers bytes h.trees out (trees_are_numbered bytes h.trees h.script.read.tree).0 h.script.typed
 
--- a refusal at a place behind some tokens, which names their `;`
+-- a refusal at a place after some tokens that names the number of `;` among them
 module _ (bytes : List ℕ) (e : Refusal) where
   names_behind : (l before r : List PlacedSymbol) → HasTokens bytes l → l ≡ before ++ r → e.place ≡ first_place r (length bytes) → e.statement ≡ 1 + ends_among before → e.statement ≡ statement_number bytes e.place
   names_behind l before r (ts, are, is) parts at says = says ∙ sym (place_behind bytes ts are l before r is parts) ∙ ap (statement_number bytes) (sym at)

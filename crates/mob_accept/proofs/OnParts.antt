@@ -1,4 +1,4 @@
--- What holds of a whole list holds of a part of it.
+-- What holds for the elements of a list holds for those of a list within it.
 use Rattle.std.specs.List.{AllByRecursion}
 use Rattle.std.proofs.Common.{List}
 use Rattle.mob_typed.specs.Written.{Rises}

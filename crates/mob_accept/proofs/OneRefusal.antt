@@ -1,4 +1,4 @@
--- A text that is refused by itself has one refusal.
+-- A text that is refused for its own content has one refusal.
 use Rattle.std.proofs.Common.{arith, ◌≡◌, ◌∙◌, ◌≤◌, sym, inl, inr, ℕ, List, length}
 use Rattle.std.specs.Prelude.{◌⊎◌}
 use Rattle.mob_ast.specs.declared.refusal.Refusal.{Refusal}
@@ -23,7 +23,7 @@ wrong_name_once bytes d e h k =
     let other = k.first in
     cc
 
--- a text that is not too long
+-- the text of either refusal is not too long
 is_short : (bytes : List ℕ) (e : Refusal) → IsNoScript bytes e ⊎ IsWrongName bytes e → length bytes ≤ script_limit
 is_short bytes e (inl h) = h.short
 is_short bytes e (inr h) = h.read.short

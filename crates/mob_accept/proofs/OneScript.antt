@@ -1,4 +1,4 @@
--- A text is judged in one way.
+-- Each text has one judgement.
 use Rattle.std.proofs.Common.{arith, ◌≡◌, refl, subst, inl, inr, ℕ, List, []}
 use Rattle.mob_ast.specs.Trees.{StatementParts}
 use Rattle.mob_grammar.specs.Symbols.{PlacedSymbol}
@@ -11,7 +11,7 @@ use Rattle.mob_typed.specs.Statements.{ScriptOut}
 use Rattle.mob_accept.specs.Accepts.{IsTypedAs}
 use Rattle.mob_accept.specs.Outcomes.{HasOneScript, NeverTakenAndRefused}
 
--- tokens have one tree: what the reading of them gives
+-- a list of tokens has one tree: the one that the reader gives
 one_tree : (l : List PlacedSymbol) (x y : List StatementParts) → IsScript l x → IsScript l y → x ≡ y
 one_tree l x y h k = script_only l y x (read_script.complete l y [] k refl) h
 

@@ -1,4 +1,4 @@
--- Tokens in order lie within their text.
+-- Ordered tokens lie within their text.
 use Rattle.std.proofs.Common.{◌≤◌, arith, ℕ, List, [], ◌∷◌}
 use Rattle.mob_chars.specs.declared.token.Token.{Token}
 use Rattle.mob_chars.specs.Layout.{InOrder}

@@ -1,5 +1,5 @@
--- A text that is taken stands in written order: its tokens rise, the places of its trees are among
--- those of its tokens, and its literals are gathered in the order of its trees.
+-- Accepted texts are in written order: their tokens are sorted, the places of the trees are places
+-- of tokens, and the literals are gathered in the order of the trees.
 use Rattle.std.specs.List.{AllByRecursion}
 use Rattle.std.proofs.Common.{◌≤◌, arith, ℕ, List, [], ◌∷◌, map}
 use Rattle.mob_chars.specs.declared.token.Token.{Token}

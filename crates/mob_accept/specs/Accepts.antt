@@ -1,5 +1,5 @@
--- Which texts are scripts that are taken, and why a text is refused by itself, before any literal
--- or file is looked at.
+-- Which texts are accepted as scripts, and why a text is refused for its own content, before any
+-- literal or file is read.
 use Rattle.std.specs.Prelude.{◌≡◌, ◌≢◌, ◌⊎◌, ◌<◌, ◌≤◌, ℕ, List, length, Ok, Err}
 use Rattle.mob_ast.specs.declared.refusal.Kind.TheVariants.{NoMemory, Limit}
 use Rattle.mob_ast.specs.declared.refusal.Refusal.{Refusal}
@@ -19,12 +19,12 @@ pub record HasTrees (bytes : List ℕ) (trees : List StatementParts) : Type 0 wh
   pub tree : IsTreeOf bytes trees
   pub light : IsLightText bytes
 
--- the text has trees, and this is what they are with names and types
+-- the text has these trees, and this is their typed script
 pub record IsTypedAs (bytes : List ℕ) (trees : List StatementParts) (out : ScriptOut) : Type 0 where
   pub read : HasTrees bytes trees
   pub typed : typed_script trees ≡ Ok out
 
--- the text is a script that is taken, and this is what it is with names and types
+-- the text is accepted, and this is its typed script
 pub record IsAccepted (bytes : List ℕ) (out : ScriptOut) : Type 0 where
   pub trees : List StatementParts
   pub script : IsTypedAs bytes trees out
@@ -34,13 +34,13 @@ pub record IsTooLong (bytes : List ℕ) (e : Refusal) : Type 0 where
   pub long : script_limit < length bytes
   pub says : e ≡ record { kind = Limit; statement = 1; place = script_limit }
 
--- the text is no script of the grammar, for this cause
+-- the text is not a script of the grammar, for this cause
 pub record IsNoScript (bytes : List ℕ) (e : Refusal) : Type 0 where
   pub short : length bytes ≤ script_limit
   pub cause : HasNoTree bytes e
   pub other : e.kind ≢ NoMemory
 
--- a name or a type is wrong, and this is the first
+-- a name or a type is wrong, and this is the first such refusal
 pub record IsWrongName (bytes : List ℕ) (e : Refusal) : Type 0 where
   pub trees : List StatementParts
   pub read : HasTrees bytes trees
@@ -50,10 +50,10 @@ pub record IsWrongName (bytes : List ℕ) (e : Refusal) : Type 0 where
 abbrev pub IsTextRefused : List ℕ → Refusal → Type 0
 IsTextRefused bytes e = IsTooLong bytes e ⊎ (IsNoScript bytes e ⊎ IsWrongName bytes e)
 
--- the text is no script that is taken
+-- the text is not accepted
 abbrev pub IsNotTaken : List ℕ → Type 0
 IsNotTaken bytes = (out : ScriptOut) → IsAccepted bytes out → ⊥
 
--- a refusal: a failed allocation, or that of a text that is no script that is taken, by its cause
+-- a refusal: a failed allocation, or the cause for which the text is not accepted
 abbrev pub IsAcceptRefusal : List ℕ → Refusal → Type 0
 IsAcceptRefusal bytes e = (e ≡ no_memory) ⊎ (IsTextRefused bytes e × IsNotTaken bytes)

@@ -1,30 +1,32 @@
-//! What holds of every text of a script. No code runs here.
+//! Laws of script texts: which are accepted, their order, and how places are numbered. No code runs
+//! here.
 ghost use Rattle.mob_accept.specs.Numbers.{OperatorsAreNumbered, TextIsNumbered, TreesAreNumbered, TypingKeepsNumbers, TypingRefusesInside, WrongNamesAreHeld, WrongNamesAreNumbered, WrongTokensAreNumbered};
 ghost use Rattle.mob_accept.specs.Outcomes.{HasOneScript, NeverTakenAndRefused, HasOneTextRefusal};
 ghost use Rattle.mob_accept.specs.Written.{AreWritten, TreesRise, TypingKeepsOrder};
 
-/// A text that is taken is one script, and no text is both taken and refused.
+/// An accepted text is exactly one script, and no text is both accepted and refused.
 pub fn one_script()
     ensures script { HasOneScript }
     ensures apart { NeverTakenAndRefused }
 {}
 
-/// A text that is refused by itself has one refusal: its kind, its statement and its place.
+/// A text that is refused for its own content has one refusal: its kind, its statement and its
+/// place.
 pub fn one_text_refusal()
     ensures refusal { HasOneTextRefusal }
 {}
 
-/// A text that is taken stands in written order: its literals, and the brackets of each INSERT. So
-/// do the trees of a text, and typing keeps their order.
+/// In an accepted text the literals are in written order, and so are the brackets of each INSERT.
+/// The trees of a text are in written order too, and typing keeps that order.
 pub fn text_is_written()
     ensures trees { TreesRise }
     ensures typing { TypingKeepsOrder }
     ensures order { AreWritten }
 {}
 
-/// A text that is taken is numbered by its `;` tokens: each literal is in the statement whose
-/// number it has, and each row, each operator and each aggregate in its statement. So are the trees
-/// of a text, and typing keeps their numbers.
+/// An accepted text is numbered by its `;` tokens. Each literal is in the statement whose number it
+/// has, and each row, operator and aggregate is in its own statement. The trees of a text are
+/// numbered in the same way, and typing keeps their numbers.
 pub fn text_is_numbered()
     ensures trees { TreesAreNumbered }
     ensures typing { TypingKeepsNumbers }
@@ -32,9 +34,9 @@ pub fn text_is_numbered()
     ensures operators { OperatorsAreNumbered }
 {}
 
-/// A refusal of a name, a type or a token names the statement in which its place is. Where the
-/// places that trees hold are numbered by the statements of a text, what typing refuses is. That of
-/// a name or a type stands at a place that the tree of its statement holds.
+/// A refusal of a name, a type or a token gives the number of the statement that its place is in.
+/// If the places that the trees hold are numbered by statement, so are the refusals of typing. A
+/// refusal of a name or a type has a place that the tree of its statement holds.
 pub fn refusals_are_numbered()
     ensures typing { TypingRefusesInside }
     ensures names { WrongNamesAreNumbered }

@@ -1,4 +1,4 @@
-//! Which texts are scripts that are taken, and the first refusal of one that is not.
+//! Decides whether a text is a script, and if not, gives its first refusal.
 #![tactic(auto)]
 
 pub mod laws;

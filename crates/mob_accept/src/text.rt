@@ -1,4 +1,4 @@
-// A script is judged as a text: length, characters, tokens, grammar, names and types.
+//! Judges a script as a text: length, characters, tokens, grammar, names and types.
 ghost use Rattle.std.specs.Prelude.{◌≡◌, IfOk, IfErr, List};
 ghost use Rattle.mob_ast.specs.Trees.{script_of};
 ghost use Rattle.mob_typed.specs.Statements.{ScriptOut, script_seen};
@@ -14,7 +14,7 @@ use std::alloc::Global;
 /// The greatest length of a script, in bytes.
 pub const SCRIPT_LIMIT: usize = 4_194_304;
 
-// The refusal of a text that is longer than the limit.
+// The refusal of a text that is longer than `SCRIPT_LIMIT`.
 fn too_long() -> Refusal
     ensures says { result ≡ record { kind = Kind.Limit; statement = 1; place = script_limit } }
 {
@@ -38,11 +38,11 @@ fn trees_of(alloc: Global, bytes: &[u8]) -> Result<Script, Refusal>
 }
 
 /// Judges a script as a text: its length, its characters, tokens and grammar, its names and types.
-/// It answers the typed script, or the first refusal in this order, with its place.
+/// Returns the typed script, or the first refusal in this order.
 ///
-/// A text that is longer than 4,194,304 bytes is refused by `Limit` at that place. The other
-/// refusals are those of `parse` and `type_script`. Out of memory is `NoMemory`, with the
-/// statement and the place 0.
+/// The place of a refusal is in bytes from 0. A text longer than 4,194,304 bytes is refused with
+/// `Limit` at place 4,194,304 of statement 1. The other refusals are those of `parse` and
+/// `type_script`. If an allocation fails, the refusal is `NoMemory` with statement 0 and place 0.
 pub fn accept(alloc: Global, bytes: &[u8]) -> Result<Typed, Refusal>
     ensures accepted { IfOk result (λ t. IsAccepted bytes.now (script_seen t)) }
     ensures only { IfOk result (λ t. (o : ScriptOut) → IsAccepted bytes.now o → o ≡ script_seen t) }

@@ -1,4 +1,4 @@
--- How the tokens lie, along the text.
+-- The places of tokens, proved along the text.
 use Rattle.std.specs.Prelude.{IfSome}
 use Rattle.std.proofs.Common.{◌≡◌, ◌<◌, ◌≤◌, ◌+◌, ◌-◌, ◌∙◌, ℕ, zero, suc, List, [], ◌∷◌, ◌++◌, length, drop, length-drop, Bool, true, false, cond, Option, Some, None, Result, Ok, Err, refl, sym, ap, subst, arith}
 use Rattle.mob_chars.specs.declared.token.TokenKind.{TokenKind}
@@ -9,7 +9,7 @@ use Rattle.mob_chars.specs.Tokens.{token_at, token, end_at, before_others, from_
 use Rattle.mob_chars.specs.Layout.{Leads, here, blank, comment, next, BeginsNone, InOrder, TokensAreLaid, FaultsAreStuck, TokensAreInOrder}
 use Rattle.mob_chars.proofs.Sizes.{token_within, gap_upto}
 
--- what the tokens from a place on are, or where none begins
+-- the tokens from a place on lead to the end, or to a place at which none begins
 abbrev pub Says : ℕ → List ℕ → Result (List Token) ℕ → Type 0
 Says p l (Ok ts) = (all : List Token) × (ts ≡ all ++ end_at (p + length l) ∷ []) × Leads p l all (p + length l) []
 Says p l (Err q) = (all : List Token) × (m : List ℕ) × Leads p l all q m × BeginsNone m
@@ -24,7 +24,7 @@ gap_leads : (v : Bool) (b : ℕ) (l : List ℕ) (g p q : ℕ) (ts : List Token) 
 gap_leads true b l g p q ts m is e way = let P : ℕ → Type 0 = λ n. Leads (p + n) (drop n (b ∷ l)) ts q m in comment (sym is) (subst P (sym e) way)
 gap_leads false b l g p q ts m is e way = blank_leads (is_blank b) b l g p q ts m refl e way
 
--- the same text, its place written otherwise
+-- the same text, its place written in another form
 moved : (p q : ℕ) (l : List ℕ) (r : Result (List Token) ℕ) → p ≡ q → Says p l r → Says q l r
 moved p q l r e h = let P : ℕ → Type 0 = λ n. Says n l r in subst P e h
 

@@ -1,4 +1,4 @@
--- Where the signs stand longest first, the first that a text begins with is the longest.
+-- If longer signs come first, the first sign at the front of a text is the longest.
 use Rattle.std.specs.Prelude.{nat_eq, ◌&&◌, IfSome}
 use Rattle.std.specs.List.{starts_with}
 use Rattle.std.proofs.Common.{◌≡◌, ◌≤◌, ◌<◌, ◌∙◌, ◌⊎◌, inl, inr, ℕ, List, [], ◌∷◌, length, Bool, true, false, cond, Option, Some, None, refl, sym, ap, subst, arith}
@@ -15,7 +15,7 @@ both true true h = (refl, refl)
 both true false h = (refl, h)
 both false b h = (h, absurd (cc h))
 
--- no sign is longer than n
+-- no sign has more than n bytes
 abbrev pub bounded : ℕ → List (List ℕ) → Bool
 bounded n [] = true
 bounded n (s ∷ ss) = leb (length s) n && bounded n ss
@@ -43,7 +43,7 @@ first_is_longest (s ∷ ss) l h =
     let p = both (bounded (length s) ss) (descending ss) h in
     ap (cond (starts_with nat_eq l s) (Some (length s))) (first_is_longest ss l p.1) ∙ ap (λ o. cond (starts_with nat_eq l s) o (longest_sign ss l)) (sym (within (length s) ss l p.0))
 
--- each sign has a character
+-- each sign has at least one byte
 abbrev pub filled : List (List ℕ) → Bool
 filled [] = true
 filled (s ∷ ss) = leb 1 (length s) && filled ss

@@ -1,4 +1,4 @@
--- Each gap and each token lies within the text, and each token has a byte.
+-- Each gap and each token lies within the text, and each token has at least one byte.
 use Rattle.std.specs.Prelude.{◌==◌, ◌||◌, IfSome, option_map, take_while, not}
 use Rattle.std.proofs.Common.{◌≡◌, ◌<◌, ◌≤◌, ◌+◌, ◌∙◌, inl, inr, ℕ, zero, suc, List, [], ◌∷◌, length, drop, length-drop, Bool, true, false, cond, Option, Some, None, refl, sym, ap, subst, arith}
 use Rattle.std.specs.List.{prefix_len}
@@ -52,7 +52,7 @@ exponent_upto (b ∷ l) = cond_upto (is_exponent_letter b) (power_length l) 0 (l
 number_upto : (l : List ℕ) → number_length l ≤ length l
 number_upto l = omega (arith, mantissa_upto l, exponent_upto (drop (mantissa_length l) l), length-drop (mantissa_length l) l)
 
--- a point alone has no digit before it, and is counted itself
+-- a mantissa that begins with a point has at least the byte of that point
 point_first : (b : ℕ) (l : List ℕ) (n : ℕ) → n ≡ digits_length (b ∷ l) → is_point b ≡ true → 0 < n + fraction_length (drop n (b ∷ l))
 point_first b l zero e h = let P : Bool → Type 0 = λ v. 0 < 0 + cond v (1 + digits_length l) 0 in subst P (sym h) (omega arith)
 point_first b l (suc n) e h = omega arith

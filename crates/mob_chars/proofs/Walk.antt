@@ -1,4 +1,4 @@
--- The tokens so far, and the others.
+-- The tokens found so far, and the remaining ones.
 use Rattle.std.proofs.Common.{◌≡◌, ◌<◌, ◌≤◌, ◌+◌, ◌-◌, ◌∙◌, ℕ, zero, suc, List, [], ◌∷◌, ◌++◌, length, take, drop, length-drop, get_or, Some, None, Result, Ok, Err, refl, sym, ap, arith, append_assoc}
 use Rattle.std.proofs.lemmas.List.{drop_more, drop_all, take_all, drop-drop}
 use Rattle.mob_chars.specs.declared.token.TokenKind.{TokenKind}
@@ -14,7 +14,7 @@ pub before_one : (ts : List Token) (t : Token) (r : Result (List Token) ℕ) →
 before_one ts t (Ok us) = ap Ok (sym (append_assoc ts (t ∷ []) us))
 before_one ts t (Err p) = refl
 
--- bytes that are passed over
+-- skipped bytes
 pub passed : (l : List ℕ) (p k : ℕ) → k ≤ length l → tokens_from l p k ≡ tokens_from (drop k l) (p + k) 0
 unfolding tokens_from
 passed [] p zero h = ap (λ q. tokens_from [] q 0) (omega arith)
@@ -63,6 +63,6 @@ pub at_end : (s : List ℕ) (i : ℕ) → length s ≤ i → tokens_from (drop i
 unfolding tokens_from
 at_end s i h = ap (λ l. tokens_from l i 0) (drop_all i s h)
 
--- the slice from i on
+-- the slice from i to the end
 pub slice_from : (s : List ℕ) (i : ℕ) → take (length s - i) (drop i s) ≡ drop i s
 slice_from s i = take_all (length s - i) (drop i s) (omega (arith, length-drop i s))

@@ -1,5 +1,4 @@
--- How tokens lie in their text: one behind the other, with blanks and comments between them and
--- nothing else.
+-- How tokens lie in their text: in order, with only blanks and comments between them.
 use Rattle.std.specs.Prelude.{◌≡◌, ◌+◌, ◌<◌, ◌≤◌, ◌++◌, ℕ, List, [], ◌∷◌, length, drop, true, Some, None, Ok, Err}
 use Rattle.mob_chars.specs.declared.token.TokenKind.{TokenKind}
 use Rattle.mob_chars.specs.declared.token.Token.{Token}
@@ -7,8 +6,8 @@ use Rattle.mob_language.specs.Language.{is_blank}
 use Rattle.mob_chars.specs.Scan.{begins_comment, comment_length, gap_length}
 use Rattle.mob_chars.specs.Tokens.{token_at, token, end_at, tokens_of}
 
--- `Leads p l ts q m`: from the place p, where the text goes on as l, the tokens ts with blanks and
--- comments before, between and behind them lead to the place q, where it goes on as m.
+-- `Leads p l ts q m`: the tokens ts lead from the place p, at which the rest of the text is l, to
+-- the place q, at which it is m. Blanks and comments may be before, between and after them.
 pub data Leads : ℕ → List ℕ → List Token → ℕ → List ℕ → Type 0 where
   here : {p : ℕ} {l : List ℕ} → Leads p l [] p l
   blank : {p q b : ℕ} {l m : List ℕ} {ts : List Token} → is_blank b ≡ true → Leads (p + 1) l ts q m → Leads p (b ∷ l) ts q m
@@ -17,28 +16,28 @@ pub data Leads : ℕ → List ℕ → List Token → ℕ → List ℕ → Type 0
   next : {p q n : ℕ} {l m : List ℕ} {k : TokenKind} {ts : List Token} → gap_length l ≡ 0 → token_at l ≡ Some (k, n)
       → Leads (p + n) (drop n l) ts q m → Leads p l (token k p n ∷ ts) q m
 
--- the tokens of a whole text: they lead to its end, and the last of them is that end
+-- the tokens of a whole text: they lead to its end, and the last one marks that end
 pub record IsLaid (text : List ℕ) (ts : List Token) : Type 0 where
   pub all : List Token
   pub parts : ts ≡ all ++ end_at (length text) ∷ []
   pub leads : Leads 0 text all (length text) []
 
--- a text that goes on, but with no gap and no token: a character that begins none, or a string that
--- is not closed
+-- a text that goes on with no gap and no token: at a character that begins none, or at a string
+-- that is not closed
 pub record BeginsNone (l : List ℕ) : Type 0 where
   pub goes_on : 0 < length l
   pub no_gap : gap_length l ≡ 0
   pub no_token : token_at l ≡ None
 
--- a text in which tokens lead to a place where none begins
+-- a text whose tokens lead to a place at which no token begins
 pub record IsStuck (text : List ℕ) (place : ℕ) : Type 0 where
   pub before : List Token
   pub rest : List ℕ
   pub leads : Leads 0 text before place rest
   pub none_begins : BeginsNone rest
 
--- Between the places p and e the tokens stand in order: each begins where the one before it has
--- ended, or later.
+-- Between the places p and e the tokens are in order: each begins at or after the end of the one
+-- before.
 abbrev pub InOrder : ℕ → ℕ → List Token → Type 0
 InOrder p e [] = p ≤ e
 InOrder p e (t ∷ ts) = (p ≤ t.from) × (t.from ≤ t.to) × InOrder t.to e ts
@@ -47,7 +46,7 @@ InOrder p e (t ∷ ts) = (p ≤ t.from) × (t.from ≤ t.to) × InOrder t.to e t
 abbrev pub TokensAreLaid : Type 0
 TokensAreLaid = (text : List ℕ) (ts : List Token) → tokens_of text ≡ Ok ts → IsLaid text ts
 
--- a text without tokens has none at the place of its fault, and tokens before it
+-- a text without tokens has tokens up to the place of its fault, and none begins there
 abbrev pub FaultsAreStuck : Type 0
 FaultsAreStuck = (text : List ℕ) (place : ℕ) → tokens_of text ≡ Err place → IsStuck text place
 

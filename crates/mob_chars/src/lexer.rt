@@ -1,4 +1,4 @@
-//! The tokens of a text, from its front to its end.
+//! Splits a text into tokens, from front to end.
 ghost use Rattle.std.specs.Prelude.{◌≡◌, ◌<◌, ◌≤◌, ◌^◌, length, IfSome, IfOk, IfErr, Ok};
 ghost use Rattle.mob_chars.specs.Tokens.{token_at, tokens_of, IsLexFault};
 
@@ -10,7 +10,7 @@ use mob_list::fault::Fault;
 use mob_list::items::Items;
 use std::alloc::Global;
 
-// The kind and the length of the token that the text begins with.
+// The kind and the length of the token at the front of the text; `None` if no token begins there.
 fn token_length(text: &[u8]) -> Option<(TokenKind, usize)>
     requires some { 0 < length text.now }
     ensures value { result ≡ token_at text.now }
@@ -28,11 +28,11 @@ fn token_length(text: &[u8]) -> Option<(TokenKind, usize)>
     }
 }
 
-/// The tokens of a text, in order; the last is its end. Only blanks and comments stand between
+/// The tokens of a text, in order; the last one marks its end. Only blanks and comments are between
 /// them.
 ///
-/// The fault is a place exactly where a character begins no token or a string is not closed, with
-/// the first such place.
+/// The fault is a place exactly if a character begins no token or a string is not closed, and it is
+/// the first such place. `NoMemory` if an allocation fails.
 pub fn tokens(alloc: Global, text: &str) -> Result<Items<Token>, LexFault>
     requires short { length text.now < 2 ^ 32 }
     ensures all { IfOk result (λ ts. tokens_of text.now ≡ Ok ts) }

@@ -1,4 +1,4 @@
-//! The tokens of a script: words, numbers, strings and signs, with blanks and comments between
+//! Splits a script into tokens: words, numbers, strings and signs, with blanks and comments between
 //! them.
 #![tactic(auto)]
 

@@ -1,4 +1,4 @@
-//! How long the gap, word, number, string or sign at the front of a text is.
+//! Measures the gap, word, number, string or sign at the front of a text. Lengths are in bytes.
 ghost use Rattle.std.specs.Prelude.{◌≡◌, ◌<◌, ◌≤◌, ◌+◌, ◌^◌, length, map, IfSome};
 ghost use Rattle.mob_language.specs.Language.{is_blank, is_digit};
 ghost use Rattle.mob_chars.specs.Scan.{is_letter, begins_number, word_length, digits_length, mantissa_length, with_digits, exponent_length, number_length, quoted_length, comment_length, gap_length};
@@ -18,14 +18,14 @@ pub fn is_digit(byte: u8) -> bool
     byte.is_ascii_digit()
 }
 
-/// Whether a byte is one of the letters a to z, in either case, or `_`: what a word begins with.
+/// Whether a byte can begin a word: a letter from a to z, in either case, or `_`.
 pub fn is_letter(byte: u8) -> bool
     ensures letter { result ≡ is_letter byte }
 {
     matches!(byte, b'a'..=b'z' | b'A'..=b'Z' | b'_')
 }
 
-/// How many letters, digits and `_` come first.
+/// The number of letters, digits and `_` at the front.
 pub fn word_length(text: &[u8]) -> usize
     ensures value { result ≡ word_length text.now }
 {
@@ -34,14 +34,14 @@ pub fn word_length(text: &[u8]) -> usize
         .count()
 }
 
-/// How many digits come first.
+/// The number of digits at the front.
 pub fn digits_length(text: &[u8]) -> usize
     ensures value { result ≡ digits_length text.now }
 {
     text.iter().take_while(|b| is_digit(**b)).count()
 }
 
-/// Whether a number comes first: a digit, or a point and a digit.
+/// Whether a number is at the front: a digit, or a point and a digit.
 pub fn begins_number(text: &[u8]) -> bool
     ensures begins { result ≡ begins_number text.now }
 {
@@ -52,7 +52,7 @@ pub fn begins_number(text: &[u8]) -> bool
     }
 }
 
-/// The length of the digits that come first, with at most one point among them.
+/// The length of the digits at the front, with at most one point among them.
 pub fn mantissa_length(text: &[u8]) -> usize
     ensures value { result ≡ mantissa_length text.now }
     ensures within { result ≤ length text.now }
@@ -64,8 +64,8 @@ pub fn mantissa_length(text: &[u8]) -> usize
     }
 }
 
-/// The length of the exponent that comes first: `e` or `E`, an optional sign and one digit or more;
-/// 0 where there is none.
+/// The length of the exponent at the front: `e` or `E`, an optional sign and at least one digit; 0
+/// if there is none.
 pub fn exponent_length(text: &[u8]) -> usize
     ensures value { result ≡ exponent_length text.now }
     ensures within { result ≤ length text.now }
@@ -77,7 +77,7 @@ pub fn exponent_length(text: &[u8]) -> usize
     }
 }
 
-// The length of a mark and the digits behind it, where there is a digit; else 0.
+// The length of a mark and the digits after it, if there is a digit; else 0.
 fn with_digits(mark: usize, digits: usize) -> usize
     requires fits { mark + digits < 2 ^ 64 }
     ensures value { result ≡ with_digits mark digits }
@@ -85,7 +85,7 @@ fn with_digits(mark: usize, digits: usize) -> usize
     if digits == 0 { 0 } else { mark + digits }
 }
 
-/// The length of the number that comes first.
+/// The length of the number at the front.
 pub fn number_length(text: &[u8]) -> usize
     ensures value { result ≡ number_length text.now }
     ensures within { result ≤ length text.now }
@@ -94,8 +94,8 @@ pub fn number_length(text: &[u8]) -> usize
     mantissa + exponent_length(&text[mantissa..])
 }
 
-/// The length of a string up to its closing quote, behind its opening quote; none where it is not
-/// closed.
+/// The length of a string from after its opening quote up to and including its closing quote;
+/// `None` if it is not closed.
 pub fn quoted_length(text: &[u8]) -> Option<usize>
     ensures value { result ≡ quoted_length text.now }
     ensures within { IfSome result (λ n. (0 < n) × (n ≤ length text.now)) }
@@ -113,15 +113,15 @@ pub fn quoted_length(text: &[u8]) -> Option<usize>
     None
 }
 
-/// The length of a comment up to the line feed that ends it or to the end of the text, the line
-/// feed left out.
+/// The length of the comment at the front, up to the end of the text or the line feed that ends it;
+/// the line feed is not included.
 pub fn comment_length(text: &[u8]) -> usize
     ensures value { result ≡ comment_length text.now }
 {
     text.iter().take_while(|b| **b != b'\n').count()
 }
 
-/// The length of the blank or comment that comes first; 0 where there is none.
+/// The length of the blank or comment at the front; 0 if there is none.
 pub fn gap_length(text: &[u8]) -> usize
     ensures value { result ≡ gap_length text.now }
     ensures within { result ≤ length text.now }
@@ -141,7 +141,7 @@ static SIGNS: [&'static [u8]; 42] = [
     b";", b".",
 ];
 
-/// The length of the longest sign that the text begins with; none where it begins with no sign.
+/// The length of the longest sign at the front of the text; `None` if there is none.
 pub fn sign_length(text: &[u8]) -> Option<usize>
     ensures value { result ≡ sign_length text.now }
     ensures within { IfSome result (λ n. (0 < n) × (n ≤ length text.now)) }
@@ -149,7 +149,7 @@ pub fn sign_length(text: &[u8]) -> Option<usize>
     first_sign(&SIGNS, text)
 }
 
-// The length of the first of the signs that the text begins with.
+// The length of the first of these signs that is at the front of the text.
 fn first_sign(signs: &[&[u8]], text: &[u8]) -> Option<usize>
     ensures first { result ≡ first_sign (map (λ s. s.now) signs.now) text.now }
 {

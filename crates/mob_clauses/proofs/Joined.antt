@@ -1,4 +1,4 @@
--- The conditions of ON, one after the other.
+-- The conditions of ON, one after another.
 use Rattle.std.proofs.Common.{◌≡◌, ◌∙◌, ◌<◌, ◌+◌, ◌-◌, refl, sym, ap, ℕ, zero, suc, List, [], ◌∷◌, ◌++◌, length, map, take, drop, get_or, Option, Result, Ok}
 use Rattle.std.specs.Prelude.{option_map, slice_range}
 use Rattle.std.proofs.lemmas.List.{drop_more}
@@ -29,7 +29,7 @@ map_take f (suc n) (x ∷ xs) = ap (λ ys. f x ∷ ys) (map_take f n xs)
 pub part_seen : (from : List ScopeTable) (a b : ℕ) → sources_of (slice_range from a b) ≡ slice_range (sources_of from) a b
 part_seen from a b = map_take source_of (b - a) (drop a from) ∙ ap (take (b - a)) (map_drop source_of a from)
 
--- the ON of each table behind the first, of which those before the one of this number are made
+-- the ON of each table after the first, if those before this position are typed
 module _ (s : ScopeParts) (k n : ℕ) (fs : List FromTable) (i : ℕ) (done : List (Option TypedTree)) (cs : List ConstText) (whole : Result (List (Option TypedTree) × List ConstText) Mistake)
     (so_far : whole ≡ behind done (joins_from s k n (map from_of (drop i fs))) cs) where
   module _ (f : FromTable) (within : i < length fs) (at : f ≡ get_or fs i f) (start : ℕ) (begins : start ≡ source_start k n (option_map tree_of f.on)) where

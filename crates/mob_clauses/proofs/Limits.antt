@@ -51,7 +51,7 @@ module _ (bs : List ℕ) (h : is_limit bs ≡ true) where
   limit_parsed (Ok n) p = ap (λ v. Some v) (p.1 ∙ ap (digits_value 10) no_plus) ∙ sym value
   limit_parsed (Err e) p = absurd (p (subst (λ ds. IsNumeral 10 ds) (sym no_plus) numeral, subst (λ ds. digits_value 10 ds < 2 ^ 64) (sym no_plus) fits))
 
--- and that number is below 10 to the 18th
+-- that number is below 10 to the 18th
 pub limit_small : (text : List ℕ) (n : ℕ) → limit_value text ≡ Some n → n < 10 ^ 18
 limit_small text n h = by (is_limit text) refl h
   where

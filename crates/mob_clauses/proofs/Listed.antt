@@ -1,4 +1,4 @@
--- The columns of a select list, one item after the other, and those of GROUP BY.
+-- The columns of a select list, one item after another, and those of GROUP BY.
 use Rattle.std.proofs.Common.{◌≡◌, ◌∙◌, ◌<◌, ◌+◌, sym, ap, ℕ, List, [], ◌∷◌, length, map, drop, get_or, ◌++◌, ◌≤◌, Option, Result, Ok}
 use Rattle.std.proofs.lemmas.List.{drop_more, drop_all}
 use Rattle.mob_ast.specs.declared.expression.Expr.{Expr}
@@ -13,7 +13,7 @@ use Rattle.mob_expression.proofs.Wrongs.{fails_along, fails_bind}
 use Rattle.mob_clauses.specs.Keys.{typed_group, with_groups}
 use Rattle.mob_clauses.specs.Outputs.{ColumnNumbers, OutputLists, with_item, with_items}
 
--- the columns of a list of which the items before the one of this number are made
+-- the columns of a select list, if the items before this position are typed
 module _ (s : ScopeParts) (g : Option (List ColumnNumbers)) (items : List Item) (i : ℕ) (o : OutputLists) (cs : List ConstText) (whole : Result (OutputLists × List ConstText) Mistake)
     (so_far : whole ≡ with_items s g o (map item_of (drop i items)) cs) where
   module _ (x : Item) (within : i < length items) (at : x ≡ get_or items i x) where
@@ -32,7 +32,7 @@ module _ (s : ScopeParts) (g : Option (List ColumnNumbers)) (items : List Item) 
   pub items_made : drop i items ≡ [] → whole ≡ Ok (o, cs)
   items_made gone = so_far ∙ ap (λ ys. with_items s g o (map item_of ys) cs) gone
 
--- the columns of GROUP BY of which those before this one are typed
+-- the columns of GROUP BY, if those before this position are typed
 module _ (s : ScopeParts) (groups : List Expr) (i : ℕ) (done : List TypedTree) (whole : Result (List TypedTree) Mistake) (so_far : whole ≡ with_groups s done (map tree_of (drop i groups))) where
   module _ (x : Expr) (within : i < length groups) (at : x ≡ get_or groups i x) where
     abbrev later : TypedTree → Result (List TypedTree) Mistake

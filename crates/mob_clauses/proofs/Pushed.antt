@@ -1,4 +1,4 @@
--- Columns, as far as they are listed.
+-- The columns that are listed so far.
 use Rattle.std.proofs.Common.{◌≡◌, ◌∙◌, ◌≤◌, length, append-nil, ap, ℕ, ◌+◌, List, [], ◌∷◌, drop, sym, ◌++◌, append_assoc, Some, Result, Ok}
 use Rattle.std.specs.Prelude.{slice_get}
 use Rattle.std.proofs.lemmas.List.{drop_all}
@@ -34,12 +34,12 @@ column_pushed from k j columns name ty p before after h number pushed =
 pub columns_done : (from k : ℕ) (columns : ColumnList) (p : ℕ) (before : List Output) → length columns ≤ k → before ++ columns_of_table from k (drop k columns) p ≡ before
 columns_done from k columns p before last = ap (λ cs. before ++ columns_of_table from k cs p) (drop_all k columns last) ∙ append-nil before
 
--- what stops where there is nothing to refuse is a failed allocation
+-- a fault of a step that refuses nothing is a failed allocation
 pub still_free : {X Y : Type 0} (e : Fault Mistake) (x : X) (y : Y) → StopsTyping e (good x) → StopsTyping e (good y)
 still_free (Because wrong) x y h = absurd (cc)
 still_free NoMemory x y h = tt
 
--- one item more of a list
+-- one more item of a list
 pub list_more : {A : Type 0} (xs : List A) (k : ℕ) (x : A) (before after : List A) → slice_get xs k ≡ Some x → after ≡ before ++ x ∷ [] → before ++ drop k xs ≡ after ++ drop (k + 1) xs
 list_more xs k x before after h pushed =
     ap (λ ys. before ++ ys) (drop_at xs k x h) ∙ sym (append_assoc before (x ∷ []) (drop (k + 1) xs)) ∙ ap (λ ys. ys ++ drop (k + 1) xs) (sym pushed)

@@ -1,5 +1,5 @@
--- The clauses of a SELECT behind its FROM in written order: the select list, ON, WHERE, GROUP BY,
--- ORDER BY and LIMIT.
+-- The clauses of a SELECT after its tables of FROM, in written order: the select list, ON, WHERE,
+-- GROUP BY, ORDER BY and LIMIT.
 use Rattle.std.specs.Prelude.{ℕ, List, [], ◌∷◌, Bool, false, Option, None, map, option_map, Ok}
 use Rattle.mob_ast.specs.declared.types.Word.{Word}
 use Rattle.mob_ast.specs.Trees.{Tree, SelectParts}
@@ -15,14 +15,14 @@ use Rattle.mob_clauses.specs.declared.clauses.Tables.{Tables}
 use Rattle.mob_clauses.specs.declared.clauses.Conditions.{Conditions as ConditionsOf}
 use Rattle.mob_clauses.specs.declared.clauses.Arrangement.{Arrangement}
 
--- the tables of FROM, with the names that they go by there
+-- the tables of FROM with their names or aliases
 abbrev pub named_tables : List (List ℕ × ScopeTableParts) → Tables
 named_tables from = record { numbers = map (λ t. t.1.table) from; names = map (λ t. t.0) from }
 
 abbrev pub scope_tables : ScopeParts → Tables
 scope_tables scope = named_tables scope.from
 
--- ON of each table, and WHERE
+-- the ON of each table, and WHERE
 pub record ConditionParts : Type 0 where
   pub joins : List (Option TypedTree)
   pub cond : Option TypedTree
@@ -40,7 +40,7 @@ pub record ArrangementParts : Type 0 where
 abbrev pub typed_arrangement : ScopeParts → Option (List ColumnNumbers) → OutputLists → SelectParts → TypingStep ArrangementParts
 typed_arrangement scope g o s cs = with_groups scope [] s.groups >>= λ gs. typed_keys scope g o s.keys cs >>= λ k. limit_of s.limit >>= λ l. Ok (record { groups = gs; keys = k.0; key_items = map (key_item o) s.keys; limit = l }, k.1)
 
--- what the clauses make together
+-- the typed SELECT of its clauses
 abbrev pub select_made : Tables → SelectParts → Bool → OutputLists → ConditionParts → ArrangementParts → TypedSelectParts
 select_made t s grouped o c r = record {
   distinct = s.distinct;
@@ -57,7 +57,7 @@ select_made t s grouped o c r = record {
   limit = r.limit;
 }
 
--- The typed SELECT over these tables of FROM, or what is wrong first.
+-- The typed SELECT over these tables of FROM, or the first mistake.
 abbrev pub typed_clauses : ScopeParts → SelectParts → TypingStep TypedSelectParts
 typed_clauses scope s cs = do
   o ← with_items scope (grouping (is_grouped s) scope s.groups) no_outputs s.items cs
@@ -65,11 +65,11 @@ typed_clauses scope s cs = do
   r ← typed_arrangement scope (grouping (is_grouped s) scope s.groups) o.0 s c.1
   Ok (select_made (scope_tables scope) s (is_grouped s) o.0 c.0 r.0, r.1)
 
--- A DELETE is typed as the SELECT of one table with its condition and no item.
+-- A DELETE is typed as a SELECT of one table with its condition and without items.
 abbrev pub rows_to_go : Word → Option Tree → SelectParts
 rows_to_go table cond = record { distinct = false; items = []; from = record { table = table; alias = None; on = None } ∷ []; cond = cond; groups = []; keys = []; limit = None }
 
--- the program's conditions, and its arrangement, as such values
+-- the program's conditions as plain values; then its arrangement
 abbrev pub conditions_seen : ConditionsOf → ConditionParts
 conditions_seen c = record { joins = map (option_map typed_of) c.joins; cond = option_map typed_of c.cond }
 

@@ -1,4 +1,4 @@
--- The conditions of a SELECT: those of WHERE and of ON.
+-- The conditions of a SELECT: WHERE and ON.
 use Rattle.std.specs.Prelude.{not, ◌+◌, ℕ, Bool, List, [], ◌∷◌, Option, Some, None, Ok, slice_range}
 use Rattle.mob_ast.specs.declared.types.SqlType.{SqlType}
 use Rattle.mob_ast.specs.declared.types.SqlType.TheVariants as sql
@@ -11,7 +11,7 @@ use Rattle.mob_expression.specs.Steps.{TypingStep, one_more}
 use Rattle.mob_scope.specs.Scopes.{ScopeParts}
 use Rattle.mob_expression.specs.Expressions.{typed_expression}
 
--- the place of an expression as a whole
+-- the place of the root of an expression
 abbrev pub tree_place : Tree → ℕ
 tree_place (tree n p args) = p
 
@@ -23,9 +23,9 @@ abbrev pub condition : ScopeParts → Option Tree → TypingStep (Option TypedTr
 condition s None cs = Ok (None, cs)
 condition s (Some t) cs = typed_expression s t cs >>= λ r. unless (not (is_bool (type_of r.0))) kind.NoSuchOperator (tree_place t) >>= λ _. Ok (Some r.0, r.1)
 
--- A source of FROM is a table with those that are left-joined to it. That of table n begins at the
--- table itself, or, where the table is left-joined, where the source of the table before it does:
--- at table k.
+-- A source of FROM is a table with those that are left-joined to it. The source of table n begins
+-- at the table itself; or, if the table is left-joined, at table k, at which the source of the
+-- table before it begins.
 abbrev pub source_start : ℕ → ℕ → Option Tree → ℕ
 source_start k n None = n
 source_start k n (Some on) = k
@@ -34,8 +34,8 @@ source_start k n (Some on) = k
 abbrev pub seen_by_on : ScopeParts → ℕ → ℕ → ScopeParts
 seen_by_on s k n = record { from = slice_range s.from k (n + 1); first = k; statement = s.statement }
 
--- the ON of each of these tables, the first of which is table n; the source of the table before it
--- begins at table k
+-- the ON of each of these tables, numbered from n; the source of the table before them begins at
+-- table k
 abbrev pub joins_from : ScopeParts → ℕ → ℕ → List FromParts → TypingStep (List (Option TypedTree))
 joins_from s k n [] cs = Ok ([], cs)
 joins_from s k n (f ∷ fs) cs = one_more (condition (seen_by_on s (source_start k n f.on) n) f.on) (joins_from s (source_start k n f.on) (n + 1) fs) cs
@@ -43,7 +43,7 @@ joins_from s k n (f ∷ fs) cs = one_more (condition (seen_by_on s (source_start
 abbrev pub no_join : TypingStep (Option TypedTree)
 no_join cs = Ok (None, cs)
 
--- the ON of each table of FROM; the first table is joined to none
+-- the ON of each table of FROM; the first table has none
 abbrev pub typed_joins : ScopeParts → List FromParts → TypingStep (List (Option TypedTree))
 typed_joins s [] cs = Ok ([], cs)
 typed_joins s (f ∷ fs) cs = one_more no_join (joins_from s 0 1 fs) cs

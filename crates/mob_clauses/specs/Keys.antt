@@ -24,26 +24,26 @@ use Rattle.mob_expression.specs.Expressions.{typed_expression}
 use Rattle.mob_clauses.specs.Conditions.{tree_place}
 use Rattle.mob_clauses.specs.Outputs.{ColumnNumbers, OutputLists, is_ungrouped}
 
--- a key, and a column of GROUP BY, is of one of these types
+-- a key, or a column of GROUP BY, has one of these types
 abbrev pub is_key : SqlType → Bool
 is_key ty = has_type (sql.Bool ∷ sql.Int ∷ sql.Numeric ∷ sql.Text ∷ sql.Moment ∷ []) ty
 
--- a column that is found is one of GROUP BY where it is of such a type
+-- a column that is found can be in GROUP BY if it has such a type
 abbrev pub group_of : ℕ → Found → Result TypedTree Mistake
 group_of p f = unless (not (is_key f.ty)) kind.NoSuchOperator p >>= λ _. Ok (typed (op.Column f.from f.column) f.ty p none)
 
--- GROUP BY names columns alone
+-- GROUP BY names only columns
 abbrev pub typed_group : ScopeParts → Tree → Result TypedTree Mistake
 typed_group s (tree (node.Column t c) p args) = column_named s t c >>= group_of p
 typed_group s (tree _ p args) = refuse kind.NoSuchOperator p
 
--- the columns of GROUP BY in order, behind those that are typed
+-- the columns of GROUP BY in order, after those already typed
 abbrev pub with_groups : ScopeParts → List TypedTree → List Tree → Result (List TypedTree) Mistake
 with_groups s done [] = Ok done
 with_groups s done (t ∷ ts) = typed_group s t >>= λ g. with_groups s (done ++ g ∷ []) ts
 
--- the number of the column of the answer that an expression means where it is one bare word: the
--- first of this name behind AS
+-- the number of the column of the answer that an expression means, if it is a bare word: the first
+-- one with this name after AS
 abbrev pub alias_node : OutputLists → Node → Option ℕ
 alias_node o (node.Column None c) = option_map (λ a. a.1) (entry_from 0 o.aliases c.text)
 alias_node o _ = None
@@ -56,7 +56,7 @@ abbrev pub value_type : TypedTree → Option Agg → SqlType
 value_type t None = type_of t
 value_type t (Some a) = a.ty
 
--- a column of the answer by its number, with its expression and the type of its value
+-- the column of the answer with this number: its number, its expression and the type of its value
 abbrev pub output_at : OutputLists → ℕ → Option (ℕ × (TypedTree × SqlType))
 output_at o k = option_and_then (λ t. option_map (λ a. (k, (t, value_type t a))) (slice_get o.aggs k)) (option_map (λ x. x.0) (slice_get o.columns k))
 
@@ -68,7 +68,7 @@ abbrev pub key_item : OutputLists → KeyParts → Option ℕ
 key_item o k = option_map (λ x. x.0) (aliased o k.value)
 
 -- A key that means a column of the answer is that column. In a grouped SELECT any other key is a
--- column of GROUP BY. A key is typed first and then judged.
+-- column of GROUP BY. A key is typed first and then checked.
 abbrev pub plain_key : ScopeParts → Option (List ColumnNumbers) → Tree → TypingStep TypedTree
 plain_key s g t cs = typed_expression s t cs >>= λ r. unless (not (is_key (type_of r.0))) kind.NoSuchOperator (tree_place t) >>= λ _. unless (is_ungrouped g r.0) kind.NoSuchOperator (tree_place t) >>= λ _. Ok r
 
@@ -84,7 +84,7 @@ abbrev pub typed_keys : ScopeParts → Option (List ColumnNumbers) → OutputLis
 typed_keys s g o [] cs = Ok ([], cs)
 typed_keys s g o (k ∷ ks) cs = one_more (typed_key s g o k) (typed_keys s g o ks) cs
 
--- a LIMIT has digits alone, 1 to 18 of them
+-- a LIMIT has 1 to 18 digits and nothing else
 abbrev pub is_limit : List ℕ → Bool
 is_limit text = list_all is_ascii_digit text && nat_le 1 (length text) && nat_le (length text) 18
 

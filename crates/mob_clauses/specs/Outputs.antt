@@ -1,4 +1,4 @@
--- The columns of the answer: the select list of a SELECT, grouped or not.
+-- The columns of the answer: the select list of a SELECT, which may be grouped.
 use Rattle.std.specs.Prelude.{◌==◌, ◌&&◌, ◌||◌, not, ◌+◌, ℕ, List, [], ◌∷◌, ◌++◌, Bool, true, false, Option, Some, None, Result, Ok, Err, codes, length, map, decimal, if◌then◌else◌}
 use Rattle.std.specs.List.{list_any, flat_map}
 use Rattle.mob_ast.specs.declared.types.Word.{Word}
@@ -35,7 +35,7 @@ is_aggregate_item (every p) = false
 is_aggregate_item (one t a) = is_aggregate_call t
 is_aggregate_item (count_all p a) = true
 
--- a SELECT is grouped where it has GROUP BY or an item that is an aggregate
+-- a SELECT is grouped if it has GROUP BY or an item that is an aggregate
 abbrev pub is_grouped : SelectParts → Bool
 is_grouped s = not (length s.groups == 0) || list_any is_aggregate_item s.items
 
@@ -47,13 +47,12 @@ abbrev pub column_numbers : Result Found Mistake → List ColumnNumbers
 column_numbers (Ok f) = (f.from, f.column) ∷ []
 column_numbers (Err w) = []
 
--- the column that GROUP BY names, where its name is found; where it is not, it is refused in its
--- place
+-- the column that GROUP BY names, if its name is found; otherwise typing GROUP BY refuses it
 abbrev pub group_column : ScopeParts → Tree → List ColumnNumbers
 group_column s (tree (node.Column t c) p args) = column_numbers (column_named s t c)
 group_column s (tree _ p args) = []
 
--- the columns of GROUP BY where a SELECT is grouped; None where it is not
+-- the columns of GROUP BY if a SELECT is grouped; else None
 abbrev pub grouping : Bool → ScopeParts → List Tree → Option (List ColumnNumbers)
 grouping grouped scope groups = if grouped then Some (flat_map (group_column scope) groups) else None
 
@@ -65,7 +64,7 @@ abbrev pub is_column : List ColumnNumbers → TypedTree → Bool
 is_column columns (typed (op.Column f k) ty p args) = list_any (is_same_column (f, k)) columns
 is_column columns (typed _ ty p args) = false
 
--- whether a SELECT is grouped, and not by this expression
+-- whether a SELECT is grouped, but not by this expression
 abbrev pub is_ungrouped : Option (List ColumnNumbers) → TypedTree → Bool
 is_ungrouped None t = false
 is_ungrouped (Some columns) t = not (is_column columns t)
@@ -73,18 +72,18 @@ is_ungrouped (Some columns) t = not (is_column columns t)
 abbrev pub any_ungrouped : Option (List ColumnNumbers) → List Output → Bool
 any_ungrouped g columns = list_any (λ c. is_ungrouped g c.0) columns
 
--- the columns of a table of FROM as columns of the answer, the first of which has number k
+-- the columns of a table of FROM as columns of the answer, numbered from k
 abbrev pub columns_of_table : ℕ → ℕ → ColumnList → ℕ → List Output
 columns_of_table from k [] p = []
 columns_of_table from k (c ∷ cs) p = (typed (op.Column from k) c.1 p none, c.0) ∷ columns_of_table from (k + 1) cs p
 
--- all columns of all tables of FROM, the first of which has number n
+-- all columns of all tables of FROM, numbered from n
 abbrev pub all_outputs : ℕ → List (List ℕ × ScopeTableParts) → ℕ → List Output
 all_outputs n [] p = []
 all_outputs n (s ∷ ss) p = columns_of_table n 0 s.1.columns p ++ all_outputs (n + 1) ss p
 
--- The name of a column of the answer: the one behind AS, or that of the column, or `c` and its
--- position from 1.
+-- The name of a column of the answer: the one after AS, that of the column, or `c` and its position
+-- from 1.
 abbrev pub numbered_name : ℕ → List ℕ
 numbered_name n = codes "c" ++ decimal (n + 1)
 
@@ -103,12 +102,12 @@ abbrev pub count_name : Option Word → ℕ → List ℕ
 count_name None k = numbered_name k
 count_name (Some a) k = a.text
 
--- the names behind AS so far, each with the number of its column
+-- the names after AS so far, each with the number of its column
 abbrev pub with_alias : List (List ℕ × ℕ) → Option Word → ℕ → List (List ℕ × ℕ)
 with_alias aliases None k = aliases
 with_alias aliases (Some a) k = aliases ++ (a.text, k) ∷ []
 
--- the columns of the answer so far, the aggregate of each, and the names behind AS
+-- the columns of the answer so far, the aggregate of each, and the names after AS
 pub record OutputLists : Type 0 where
   pub columns : List Output
   pub aggs : List (Option Agg)
@@ -118,7 +117,7 @@ pub record OutputLists : Type 0 where
 abbrev pub Value : Type 0
 Value = TypedTree × Option Agg
 
--- the program's value of an item as such a value
+-- the program's value of an item as a plain value
 abbrev pub value_seen : TExpr × Option Agg → Value
 value_seen v = (typed_of v.0, v.1)
 
@@ -126,19 +125,19 @@ value_seen v = (typed_of v.0, v.1)
 abbrev pub counting : ℕ → Value
 counting p = (typed op.Null sql.Text p none, Some (record { kind = CountAll; ty = sql.Int; place = p }))
 
--- the only one of these, where there is one alone
+-- the only one of these; None if there is not exactly one
 abbrev pub lone_operand : List TypedTree → Option TypedTree
 lone_operand (t ∷ []) = Some t
 lone_operand _ = None
 
--- an aggregate over its one operand, which is of a type that it takes
+-- an aggregate over its one operand, whose type it must take
 abbrev pub aggregated : List ℕ → ℕ → List TypedTree → Result Value Mistake
 aggregated f p ts = found kind.NoSuchOperator p (lone_operand ts) >>= λ t. found kind.NoSuchOperator p (aggregate_row f (type_of t)) >>= λ a. Ok (t, Some (record { kind = a.0; ty = a.1; place = p }))
 
 abbrev pub aggregate_value : ScopeParts → List ℕ → ℕ → Trees → TypingStep Value
 aggregate_value s f p args cs = typed_operands s args cs >>= λ r. aggregated f p r.0 >>= λ v. Ok (v, r.1)
 
--- an expression that is no aggregate is in a grouped SELECT a column of GROUP BY
+-- in a grouped SELECT an expression without an aggregate is a column of GROUP BY
 abbrev pub plain_value : ScopeParts → Option (List ColumnNumbers) → Tree → TypingStep Value
 plain_value s g t cs = typed_expression s t cs >>= λ r. unless (is_ungrouped g r.0) kind.NoSuchOperator (tree_place t) >>= λ _. Ok ((r.0, None), r.1)
 
@@ -146,18 +145,18 @@ abbrev pub item_value : ScopeParts → Option (List ColumnNumbers) → Tree → 
 item_value s g (tree (node.Call f) p args) cs = if is_aggregate f then aggregate_value s f p args cs else plain_value s g (tree (node.Call f) p args) cs
 item_value s g t cs = plain_value s g t cs
 
--- one column more
+-- one more column
 abbrev pub with_output : OutputLists → Value → List ℕ → Option Word → OutputLists
 with_output o v name a = record { columns = o.columns ++ (v.0, name) ∷ []; aggs = o.aggs ++ v.1 ∷ []; aliases = with_alias o.aliases a (length o.columns) }
 
 abbrev pub no_agg : Output → Option Agg
 no_agg o = None
 
--- the columns that `*` stands for
+-- the columns that `*` gives
 abbrev pub with_all : OutputLists → List Output → OutputLists
 with_all o more = record { columns = o.columns ++ more; aggs = o.aggs ++ map no_agg more; aliases = o.aliases }
 
--- `*` asks for a FROM, and stands for each of its columns
+-- `*` needs a FROM, and gives each of its columns
 abbrev pub with_every : ScopeParts → Option (List ColumnNumbers) → OutputLists → ℕ → Result OutputLists Mistake
 with_every s g o p = unless (length s.from == 0) kind.UnknownName p >>= λ _. unless (any_ungrouped g (all_outputs 0 s.from p)) kind.NoSuchOperator p >>= λ _. Ok (with_all o (all_outputs 0 s.from p))
 
@@ -174,6 +173,6 @@ with_items s g o (i ∷ is) cs = with_item s g o i cs >>= λ r. with_items s g r
 abbrev pub no_outputs : OutputLists
 no_outputs = record { columns = []; aggs = []; aliases = [] }
 
--- the program's columns of the answer as such a value
+-- the program's columns of the answer as plain values
 abbrev pub outputs_seen : Outputs → OutputLists
 outputs_seen o = record { columns = map output_of o.columns.items; aggs = o.aggs.items; aliases = map (λ a. (a.0.now, a.1)) o.aliases.items }

@@ -1,4 +1,4 @@
-//! The clauses of a SELECT together.
+//! Types all clauses of a SELECT or a DELETE together.
 ghost use Rattle.std.specs.Prelude.{◌≡◌, option_map};
 ghost use Rattle.mob_ast.specs.declared.types.Word.{Word};
 ghost use Rattle.mob_ast.specs.Trees.{tree_of, select_of};
@@ -25,35 +25,35 @@ use std::alloc::Global;
 /// The tables of FROM of a SELECT.
 #[derive(Drop)]
 pub struct Tables {
-    /// Their numbers.
+    /// The numbers of the tables.
     pub numbers: Items<u32>,
-    /// The names that they go by.
+    /// The name of each table in this SELECT: the alias, if it has one.
     pub names: Items<Text>,
 }
 
 /// The conditions of a SELECT.
 #[derive(Drop)]
 pub struct Conditions {
-    /// The ON of each table of FROM.
+    /// The ON of each table of FROM; `None` for a table that is not left-joined.
     pub joins: Items<Option<TExpr>>,
-    /// The condition of WHERE.
+    /// The condition of WHERE, if there is one.
     pub cond: Option<TExpr>,
 }
 
 /// GROUP BY, ORDER BY and LIMIT of a SELECT.
 #[derive(Drop)]
 pub struct Arrangement {
-    /// The columns of GROUP BY.
+    /// The columns of GROUP BY; empty without it.
     pub groups: Items<TExpr>,
-    /// The keys of ORDER BY; true for DESC.
+    /// The keys of ORDER BY; true means DESC.
     pub keys: Items<(TExpr, bool)>,
-    /// For each key the number of the column of the answer that it means.
+    /// For each key that is an AS name, the number of that column of the answer; else `None`.
     pub key_items: Items<Option<u32>>,
-    /// The number of LIMIT.
+    /// The number of LIMIT, if there is one.
     pub limit: Option<u64>,
 }
 
-// ON of each table, and WHERE.
+// The ON of each table, and WHERE.
 fn typed_conditions(
     alloc: Global,
     scope: &Scope<'_>,
@@ -97,7 +97,7 @@ fn typed_arrangement(
     })
 }
 
-// The typed SELECT that the clauses make together.
+// Makes the typed SELECT of its clauses.
 fn select_made(
     select: &SelectTree,
     grouped: bool,
@@ -138,7 +138,8 @@ fn select_made(
 }
 
 /// Types a SELECT over its tables of FROM. Clauses are typed in written order: the select list, ON,
-/// WHERE, GROUP BY, ORDER BY and LIMIT. Returns the typed SELECT, or its first refusal.
+/// WHERE, GROUP BY, ORDER BY and LIMIT. Returns the typed SELECT, or the first mistake. `NoMemory`
+/// if an allocation fails.
 pub fn typed_clauses(
     alloc: Global,
     scope: &Scope<'_>,
@@ -156,8 +157,8 @@ pub fn typed_clauses(
     Ok(select_made(select, grouped, tables, outputs, conditions, arrangement))
 }
 
-/// Types a DELETE over its table: a SELECT with its condition and no column of an answer. Returns
-/// the first refusal of the condition, where there is one.
+/// Types a DELETE over its table, as a SELECT with its condition and without columns of an answer.
+/// Returns it, or the first mistake of the condition.
 pub fn clauses_to_go(
     alloc: Global,
     scope: &Scope<'_>,

@@ -1,4 +1,4 @@
-//! The conditions of a SELECT: those of WHERE and of ON.
+//! Types the conditions of a SELECT: WHERE and ON.
 ghost use Rattle.std.specs.Prelude.{◌≡◌, Ok, map, option_map};
 ghost use Rattle.mob_ast.specs.Trees.{tree_of, from_of};
 ghost use Rattle.mob_scope.specs.Answers.{AnswersAs};
@@ -18,7 +18,7 @@ use mob_scope::scope::{Scope, number};
 use mob_typed::{ConstText, TExpr};
 use std::alloc::Global;
 
-/// The place of an expression as a whole.
+/// The place of the root of an expression.
 #[tactic(auto, using(mob_expression::proofs::TreeFacts::tree_is))]
 pub fn tree_place(e: &Expr) -> u32
     ensures own_place { result ≡ tree_place (tree_of e.now) }
@@ -26,7 +26,8 @@ pub fn tree_place(e: &Expr) -> u32
     e.place
 }
 
-/// A typed condition. It is a bool; an expression of another type is refused at its place.
+/// Types a condition. Returns it, or the first mistake. It must be a bool; an expression of another
+/// type is `NoSuchOperator` at its place.
 pub fn condition(
     alloc: Global,
     scope: &Scope<'_>,
@@ -54,7 +55,7 @@ fn is_bool(ty: SqlType) -> bool
     matches!(ty, SqlType::Bool)
 }
 
-// The number of the first table of the source that this table of FROM is in.
+// The number of the first table in the source of this table of FROM.
 fn source_start(start: usize, place: usize, on: &Option<Expr>) -> usize
     ensures begins { result ≡ source_start start place (option_map tree_of on.now) }
 {
@@ -65,7 +66,7 @@ fn source_start(start: usize, place: usize, on: &Option<Expr>) -> usize
 }
 
 // What the ON of this table of FROM sees: the tables of its source up to the table itself. A number
-// past 32 bits is answered as out of memory, and so is a table that FROM does not have.
+// beyond 32 bits is reported as out of memory, and so is a table that FROM does not have.
 #[tactic(auto, using(crate::proofs::Joined::part_seen))]
 fn seen_by_on<'a>(
     scope: &Scope<'a>,
@@ -106,7 +107,7 @@ fn typed_on(
     condition(alloc, &seen, consts, on)
 }
 
-// The ON of each table of FROM but the first, appended to that of the first.
+// The ON of each table of FROM after the first, appended to the entry of the first.
 fn joins_behind(
     alloc: Global,
     scope: &Scope<'_>,
@@ -131,7 +132,8 @@ fn joins_behind(
     Ok(joins)
 }
 
-/// The ON of each table of FROM in order, or the first refusal. The first table has none.
+/// Types the ON of each table of FROM in order. The first table has none. Returns them, or the
+/// first mistake.
 pub fn typed_joins(
     alloc: Global,
     scope: &Scope<'_>,

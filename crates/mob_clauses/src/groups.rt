@@ -1,4 +1,4 @@
-//! Whether a SELECT is grouped, and by which columns.
+//! Decides whether a SELECT is grouped, and by which columns.
 ghost use Rattle.std.specs.Prelude.{◌≡◌, ◌++◌, Ok, map};
 ghost use Rattle.std.specs.List.{list_any, flat_map};
 ghost use Rattle.mob_ast.specs.Trees.{tree_of, item_of, select_of};
@@ -61,7 +61,7 @@ pub fn is_grouped(select: &SelectTree) -> bool
     any_aggregate(select.items.as_slice())
 }
 
-// Adds the column that GROUP BY names, where its name is found.
+// Adds the column that GROUP BY names, if its name is found.
 #[tactic(auto, using(mob_expression::proofs::TreeFacts::tree_is))]
 fn push_group_column(
     scope: &Scope<'_>,
@@ -83,7 +83,7 @@ fn push_group_column(
     }
 }
 
-// The columns that GROUP BY names. A name that is not found is left out.
+// The columns that GROUP BY names. Names that are not found are left out.
 fn group_columns(
     alloc: Global,
     scope: &Scope<'_>,
@@ -98,8 +98,9 @@ fn group_columns(
     Ok(columns)
 }
 
-/// The columns that GROUP BY names, each by the numbers of its table and column; None where the
-/// SELECT is not grouped. A name that is not found is left out: its clause refuses it later.
+/// The columns that GROUP BY names, each by the numbers of its table and column; `None` if the
+/// SELECT is not grouped. Names that are not found are left out: typing GROUP BY refuses them
+/// later.
 pub fn grouping(
     alloc: Global,
     grouped: bool,
@@ -142,7 +143,7 @@ fn is_column(columns: &[(u32, u32)], e: &TExpr) -> bool
     }
 }
 
-/// Whether a SELECT is grouped and this expression is none of its GROUP BY columns.
+/// Whether a SELECT is grouped and this expression is not a GROUP BY column.
 pub fn is_ungrouped(groups: &Option<Items<(u32, u32)>>, e: &TExpr) -> bool
     ensures ungrouped { result ≡ is_ungrouped groups.now (typed_of e.now) }
 {
@@ -152,7 +153,7 @@ pub fn is_ungrouped(groups: &Option<Items<(u32, u32)>>, e: &TExpr) -> bool
     }
 }
 
-/// Whether a SELECT is grouped and one of these columns is none of its GROUP BY columns.
+/// Whether a SELECT is grouped and any of these columns is not a GROUP BY column.
 pub fn any_ungrouped(groups: &Option<Items<(u32, u32)>>, columns: &[(TExpr, Text)]) -> bool
     ensures ungrouped { result ≡ any_ungrouped groups.now (map output_of columns.now) }
 {

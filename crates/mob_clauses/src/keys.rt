@@ -1,4 +1,4 @@
-//! The columns of GROUP BY, the keys of ORDER BY and the number of LIMIT.
+//! Types the columns of GROUP BY, the keys of ORDER BY and the number of LIMIT.
 ghost use Rattle.std.specs.Prelude.{◌≡◌, [], Ok, map, option_map, slice_get};
 ghost use Rattle.mob_ast.specs.Trees.{tree_of, key_of};
 ghost use Rattle.mob_scope.specs.Answers.{AnswersAs};
@@ -36,7 +36,7 @@ fn is_key(ty: SqlType) -> bool
     )
 }
 
-// A column that is found as one of GROUP BY, which is of a type of keys.
+// A column that is found, as one of GROUP BY; its type must have an order.
 fn group_of(alloc: Global, place: u32, found: Found) -> Result<TExpr, Fault<Mistake>>
     ensures judged { AnswersAs typed_of result (group_of place found) }
 {
@@ -44,7 +44,7 @@ fn group_of(alloc: Global, place: u32, found: Found) -> Result<TExpr, Fault<Mist
     Ok(column_leaf(alloc, found, place))
 }
 
-// A column of GROUP BY.
+// Types a column of GROUP BY.
 #[tactic(auto, using(mob_expression::proofs::TreeFacts::tree_is))]
 fn typed_group(alloc: Global, scope: &Scope<'_>, e: &Expr) -> Result<TExpr, Fault<Mistake>>
     ensures typed { AnswersAs typed_of result (typed_group (scope_of scope.now) (tree_of e.now)) }
@@ -61,7 +61,7 @@ fn typed_group(alloc: Global, scope: &Scope<'_>, e: &Expr) -> Result<TExpr, Faul
     }
 }
 
-/// The columns of GROUP BY in order, or the first refusal.
+/// Types the columns of GROUP BY in order. Returns them, or the first mistake.
 pub fn typed_groups(
     alloc: Global,
     scope: &Scope<'_>,
@@ -77,7 +77,7 @@ pub fn typed_groups(
     Ok(done)
 }
 
-// The number of the column that has this name behind AS.
+// The number of the first column with this AS name.
 fn alias_index(aliases: &[(&str, usize)], name: &str) -> Option<usize>
     ensures first { result ≡ option_map (λ a. a.1) (entry_from 0 (map (λ a. (a.0.now, a.1)) aliases.now) name.now) }
 {
@@ -89,7 +89,7 @@ fn alias_index(aliases: &[(&str, usize)], name: &str) -> Option<usize>
     None
 }
 
-// The number of the column of the answer that a bare word means by its name behind AS.
+// The number of the column of the answer that a bare word means by its AS name.
 #[tactic(auto, using(mob_expression::proofs::TreeFacts::tree_is))]
 fn alias_number(outputs: &Outputs<'_>, e: &Expr) -> Option<usize>
     ensures by_alias { result ≡ alias_number (outputs_seen outputs.now) (tree_of e.now) }
@@ -103,7 +103,7 @@ fn alias_number(outputs: &Outputs<'_>, e: &Expr) -> Option<usize>
     }
 }
 
-// The expression of the column of this number.
+// The expression of the column with this number.
 fn column_at(columns: &[(TExpr, Text)], index: usize) -> Option<&TExpr>
     ensures column { option_map (λ t. typed_of t.now) result ≡ option_map (λ o. o.0) (slice_get (map output_of columns.now) index) }
 {
@@ -121,7 +121,7 @@ fn value_type(value: &TExpr, agg: Option<Agg>) -> SqlType
     }
 }
 
-// A column of the answer by its number, with its expression and the type of its value.
+// The column of the answer with this number: its number, its expression and the type of its value.
 fn output_at<'a>(outputs: &'a Outputs<'_>, index: usize) -> Option<(usize, (&'a TExpr, SqlType))>
     ensures output { option_map (λ r. (r.0, (typed_of r.1.0.now, r.1.1))) result ≡ output_at (outputs_seen outputs.now) index }
 {
@@ -130,7 +130,7 @@ fn output_at<'a>(outputs: &'a Outputs<'_>, index: usize) -> Option<(usize, (&'a 
     Some((index, (value, value_type(value, *agg))))
 }
 
-// The column of the answer that a bare word means by its name behind AS.
+// The column of the answer that a bare word means by its AS name.
 fn aliased<'a>(outputs: &'a Outputs<'_>, e: &Expr) -> Option<(usize, (&'a TExpr, SqlType))>
     ensures by_alias { option_map (λ r. (r.0, (typed_of r.1.0.now, r.1.1))) result ≡ aliased (outputs_seen outputs.now) (tree_of e.now) }
 {
@@ -148,7 +148,8 @@ fn key_item(outputs: &Outputs<'_>, key: &Key) -> Result<Option<u32>, Fault<Mista
     }
 }
 
-/// For each key the number of the column of the answer that it means by its name behind AS.
+/// For each key that is an AS name, the number of that column of the answer; else `None`. Its only
+/// error is `NoMemory`, a failed allocation.
 pub fn key_items(
     alloc: Global,
     outputs: &Outputs<'_>,
@@ -164,7 +165,7 @@ pub fn key_items(
     Ok(items)
 }
 
-// A key that means no column of the answer, typed first and then judged.
+// Types a key that is not an AS name, and then checks its type and its group.
 fn plain_key(
     alloc: Global,
     scope: &Scope<'_>,
@@ -190,7 +191,7 @@ fn plain_key(
     Ok(value)
 }
 
-// The expression of a key, which is that of the column of the answer that it means, if any.
+// The expression of a key; that of the column of the answer if the key is an AS name.
 fn key_value(
     alloc: Global,
     scope: &Scope<'_>,
@@ -222,7 +223,7 @@ fn typed_key(
     Ok((value, key.descending))
 }
 
-/// The keys of ORDER BY in order, or the first refusal.
+/// Types the keys of ORDER BY in order. Returns them, or the first mistake.
 pub fn typed_keys(
     alloc: Global,
     scope: &Scope<'_>,
@@ -247,7 +248,7 @@ fn is_limit(text: &[u8]) -> bool
     has_digits_alone(text) && text.len() >= 1 && text.len() <= 18
 }
 
-// The number of 1 to 18 digits; None for another text.
+// The number of a text of 1 to 18 digits; `None` for any other text.
 fn limit_value(text: &str) -> Option<u64>
     ensures number { result ≡ limit_value text.now }
 {
@@ -258,7 +259,7 @@ fn limit_value(text: &str) -> Option<u64>
     }
 }
 
-/// The number of LIMIT. A text that is not 1 to 18 digits is refused.
+/// The number of LIMIT. A text other than 1 to 18 digits is `BadCount` at its place.
 pub fn limit_of(limit: &Option<Word>) -> Result<Option<u64>, Fault<Mistake>>
     ensures number { AnswersAs (λ n. n) result (limit_of limit.now) }
 {

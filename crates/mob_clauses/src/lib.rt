@@ -1,5 +1,5 @@
 //! Types the clauses of a SELECT over its tables of FROM: the select list, ON, WHERE, GROUP BY,
-//! ORDER BY and LIMIT. The first error is refused with its place.
+//! ORDER BY and LIMIT. Returns the first mistake with its place.
 #![tactic(auto)]
 
 mod clauses;

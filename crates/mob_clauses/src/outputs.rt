@@ -1,4 +1,4 @@
-//! The columns of the answer: the select list.
+//! Types the select list, which gives the columns of the answer.
 ghost use Rattle.std.specs.Prelude.{◌≡◌, ◌++◌, ◌∷◌, [], map, option_map, length, IfOk, OnOk, Ok};
 ghost use Rattle.mob_ast.specs.Trees.{tree_of, trees_of, item_of, one};
 ghost use Rattle.mob_scope.specs.Answers.{AnswersAs};
@@ -24,15 +24,14 @@ use mob_scope::scope::{Scope, ScopeTable, number};
 use mob_typed::{Agg, ConstText, TExpr};
 use std::alloc::{AllocError, Global};
 
-/// The columns of the answer so far, the aggregate of each, and the AS names with the number of
-/// their column.
+/// The columns of the answer so far, the aggregate of each, and the AS names.
 #[derive(Drop)]
 pub struct Outputs<'a> {
     /// The columns, each with its name.
     pub columns: Vec<(TExpr, Text)>,
-    /// For each column the aggregate over its expression, where it is one.
+    /// For each column the aggregate over its expression, or `None`.
     pub aggs: Vec<Option<Agg>>,
-    /// The names behind AS.
+    /// The names after AS, each with the number of its column, from 0.
     pub aliases: Vec<(&'a str, usize)>,
 }
 
@@ -96,7 +95,7 @@ fn tree_name(alloc: Global, e: &Expr, position: usize) -> Result<Text, AllocErro
     }
 }
 
-// `c` and the position from 1.
+// `c` and the position, counted from 1.
 fn numbered_name(alloc: Global, position: usize) -> Result<Text, AllocError>
     ensures numbered { IfOk result (λ t. t ≡ numbered_name position) }
 {
@@ -131,7 +130,7 @@ fn count_name(alloc: Global, alias: &Option<Word>, position: usize) -> Result<Te
     }
 }
 
-// Notes the name behind AS.
+// Records the name after AS, if there is one.
 fn push_alias<'a>(
     aliases: &mut Vec<(&'a str, usize)>,
     alias: &'a Option<Word>,
@@ -145,7 +144,7 @@ fn push_alias<'a>(
     Ok(())
 }
 
-// The expression of an aggregate and the aggregate over it.
+// Applies an aggregate to its operand. Returns the operand's expression and the aggregate.
 fn aggregated(
     name: &str,
     place: u32,
@@ -168,7 +167,7 @@ fn aggregated(
     Ok((value, Some(Agg { kind, ty, place })))
 }
 
-// The only one of these expressions, where there is one alone.
+// The only one of these expressions; `None` if there is not exactly one.
 fn lone_operand(args: Vec<TExpr>) -> Option<TExpr>
     ensures alone { option_map typed_of result ≡ lone_operand (map typed_of args.items) }
 {
@@ -177,7 +176,7 @@ fn lone_operand(args: Vec<TExpr>) -> Option<TExpr>
     if args.is_empty() { Some(last) } else { None }
 }
 
-// An aggregate over its operand.
+// Types an aggregate and its operand.
 fn aggregate_value(
     alloc: Global,
     scope: &Scope<'_>,
@@ -192,7 +191,7 @@ fn aggregate_value(
     aggregated(name, place, args)
 }
 
-// An expression that is no aggregate.
+// Types an expression without an aggregate.
 fn plain_value(
     alloc: Global,
     scope: &Scope<'_>,
@@ -212,7 +211,7 @@ fn plain_value(
     Ok((value, None))
 }
 
-// The value of an item: an expression, or an aggregate over one.
+// Types the value of an item: an expression, or an aggregate over one.
 #[tactic(auto, using(mob_expression::proofs::TreeFacts::tree_is))]
 fn item_value(
     alloc: Global,
@@ -252,7 +251,7 @@ fn push_output<'a>(
     Ok(())
 }
 
-// Adds an expression of the select list.
+// Types an expression of the select list and adds it.
 fn push_one<'a>(
     alloc: Global,
     scope: &Scope<'_>,
@@ -288,19 +287,19 @@ fn push_count<'a>(
     push_output(outputs, (value, Some(agg)), name, alias)
 }
 
-// Adds no aggregate for each of these columns.
+// Adds `None` for each of these columns.
 fn push_no_aggs(aggs: &mut Vec<Option<Agg>>, columns: &[(TExpr, Text)]) -> Result<(), AllocError>
     ensures behind { OnOk result (aggs.new.items ≡ aggs.old.items ++ map no_agg (map output_of columns.now)) }
 {
     for column in columns {
-        // Each column gets one entry, whichever column it is.
+        // Every column gets the same entry.
         let _value = &column.0;
         aggs.push(None)?;
     }
     Ok(())
 }
 
-// Adds columns behind those that there are.
+// Appends columns to others.
 fn push_more(columns: &mut Vec<(TExpr, Text)>, more: Vec<(TExpr, Text)>) -> Result<(), AllocError>
     ensures behind { OnOk result (map output_of columns.new.items ≡ map output_of columns.old.items ++ map output_of more.items) }
 {
@@ -322,7 +321,7 @@ fn all_outputs(
     Ok(columns)
 }
 
-// Adds the columns that `*` stands for.
+// Adds the columns that `*` gives.
 fn push_every(
     alloc: Global,
     scope: &Scope<'_>,
@@ -350,7 +349,7 @@ fn push_every(
     Ok(())
 }
 
-// Adds an entry of the select list.
+// Types an entry of the select list and adds its columns.
 fn push_item<'a>(
     alloc: Global,
     scope: &Scope<'_>,
@@ -370,7 +369,7 @@ fn push_item<'a>(
     }
 }
 
-/// The columns of the answer, or the first refusal of the select list.
+/// Types the select list. Returns the columns of the answer, or the first mistake.
 pub fn outputs_of<'a>(
     alloc: Global,
     scope: &Scope<'_>,

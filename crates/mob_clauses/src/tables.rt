@@ -1,4 +1,4 @@
-//! The tables of FROM as they stand in a typed SELECT.
+//! The tables of FROM in a typed SELECT.
 ghost use Rattle.std.specs.Prelude.{◌≡◌, IfOk};
 ghost use Rattle.mob_scope.specs.Scopes.{sources_of};
 ghost use Rattle.mob_clauses.specs.Clauses.{named_tables};
@@ -9,7 +9,7 @@ use mob_list::text::Text;
 use mob_scope::scope::ScopeTable;
 use std::alloc::{AllocError, Global};
 
-/// The tables of FROM, with the names that they go by there.
+/// The tables of FROM with their names or aliases. An error means that an allocation failed.
 pub fn scope_tables(alloc: Global, sources: &[ScopeTable<'_>]) -> Result<Tables, AllocError>
     ensures tables { IfOk result (λ t. t ≡ named_tables (sources_of sources.now)) }
 {

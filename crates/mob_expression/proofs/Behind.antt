@@ -1,5 +1,4 @@
--- Lists of what steps of typing give: those that are there, and what the steps that follow add to
--- them.
+-- Lists made by steps of typing: the entries made so far, and those that the remaining steps add.
 use Rattle.std.proofs.Common.{◌≡◌, ◌∙◌, ◌<◌, ◌+◌, refl, sym, ap, ℕ, List, [], ◌∷◌, ◌++◌, length, drop, get_or, Result, Ok, Err}
 use Rattle.std.proofs.lemmas.List.{drop_more}
 use Rattle.mob_typed.specs.declared.typed.ConstText.{ConstText}
@@ -8,7 +7,7 @@ use Rattle.mob_scope.specs.Answers.{Mistake, ◌>>=◌, StopsTyping}
 use Rattle.mob_expression.specs.Steps.{TypingStep, one_more}
 use Rattle.mob_expression.proofs.Wrongs.{fails_along, fails_bind}
 
--- what is there, and behind it what a step gives
+-- the entries of a list, then those that a step gives
 abbrev pub behind : {A : Type 0} → List A → TypingStep (List A) → TypingStep (List A)
 behind [] others cs = others cs
 behind (x ∷ xs) others cs = behind xs others cs >>= λ r. Ok (x ∷ r.0, r.1)
@@ -18,7 +17,7 @@ bind_both (Ok x) f g = refl
 bind_both (Err w) f g = refl
 
 module _ {A : Type 0} (first : TypingStep A) (others : TypingStep (List A)) (cs : List ConstText) where
-  -- one more behind what is there
+  -- one more entry
   pub one_behind : (done : List A) → behind done (one_more first others) cs ≡ (first cs >>= λ r. behind (done ++ r.0 ∷ []) others r.1)
   one_behind [] = refl
   one_behind (x ∷ xs) =
@@ -32,7 +31,7 @@ module _ {A : Type 0} (first : TypingStep A) (others : TypingStep (List A)) (cs 
       let next : A × List ConstText → Result (List A × List ConstText) Mistake = λ r. behind (done ++ r.0 ∷ []) others r.1 in
       fails_along f (first cs >>= next) (behind done (one_more first others) cs) (one_behind done) (fails_bind f (first cs) next h)
 
--- nothing follows
+-- no more entries
 pub none_behind : {A : Type 0} (done : List A) (cs : List ConstText) → behind done (λ ds. Ok ([], ds)) cs ≡ Ok (done, cs)
 none_behind [] cs = refl
 none_behind (x ∷ xs) cs = ap (λ r. r >>= λ l. Ok (x ∷ l.0, l.1)) (none_behind xs cs)
@@ -41,7 +40,7 @@ pub same_behind : {A : Type 0} (f g : TypingStep (List A)) (cs : List ConstText)
 same_behind f g cs is [] = is
 same_behind f g cs is (x ∷ xs) = ap (λ r. r >>= λ l. Ok (x ∷ l.0, l.1)) (same_behind f g cs is xs)
 
--- a step for each entry of a list, of which those before the one of this number are made
+-- a step for each entry of a list, if those before this position are made
 module _ {X A : Type 0} (step : X → TypingStep A) (steps : List X → TypingStep (List A)) (more : (x : X) (xs : List X) (cs : List ConstText) → steps (x ∷ xs) cs ≡ one_more (step x) (steps xs) cs)
     (none : (cs : List ConstText) → steps [] cs ≡ Ok ([], cs)) (xs : List X) (i : ℕ) (done : List A) (cs : List ConstText) (whole : Result (List A × List ConstText) Mistake)
     (so_far : whole ≡ behind done (steps (drop i xs)) cs) where

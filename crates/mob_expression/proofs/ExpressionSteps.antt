@@ -1,4 +1,4 @@
--- The typing of an expression in memory, step by step.
+-- The typing of an expression in the program, step by step.
 use Rattle.std.proofs.Common.{◌≡◌, ◌∙◌, refl, sym, ap, subst, ℕ, List, [], ◌∷◌, Option, Some, None, Result, Ok, Err}
 use Rattle.std.specs.Prelude.{option_map}
 use Rattle.mob_ast.specs.declared.expression.Node.{Node}
@@ -16,7 +16,7 @@ use Rattle.mob_expression.specs.Expressions.{typed_before_operands, finished, or
 use Rattle.mob_expression.proofs.TreeFacts.{tree_is}
 use Rattle.mob_expression.proofs.Wrongs.{fails_bind, fails_along}
 
--- operands by their list
+-- operands as a list
 pub operands_more : (s : ScopeParts) (x : Expr) (xs : List Expr) (cs : List ConstText) → typed_operands s (trees_of (x ∷ xs)) cs ≡ one_more (typed_expression s (tree_of x)) (typed_operands s (trees_of xs)) cs
 unfolding typed_operands
 operands_more s x xs cs = refl

@@ -1,4 +1,4 @@
--- Whether a digit other than 0 stands before what ends the digits, byte by byte.
+-- Whether a digit other than 0 comes before the byte that ends the digits, byte by byte.
 use Rattle.std.proofs.Common.{◌≡◌, ◌∙◌, refl, ap, ℕ, ◌==◌, List, [], ◌∷◌, Bool, true, false, ◌||◌, not, cond}
 use Rattle.std.specs.Prelude.{take_while}
 use Rattle.std.specs.List.{list_any}

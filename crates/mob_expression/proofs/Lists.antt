@@ -1,4 +1,4 @@
--- Lists that are made entry by entry.
+-- Lists made entry by entry.
 use Rattle.std.proofs.Common.{◌≡◌, ◌∙◌, ◌<◌, ◌≤◌, ap, ℕ, ◌+◌, List, [], ◌∷◌, ◌++◌, append_assoc, length, map, Some, drop, get_or, sym}
 use Rattle.std.specs.Prelude.{slice_get}
 use Rattle.std.proofs.lemmas.Option.{slice_get_within, slice_get-get_or}
@@ -12,7 +12,7 @@ drop_at xs k x h =
     let within = slice_get_within xs k x h in
     drop_more xs k x within ∙ ap (λ y. y ∷ drop (k + 1) xs) (some_same (get_or xs k x) x (sym (slice_get-get_or xs k x within) ∙ h))
 
--- a list that is made of another in two steps, of which the entries before this one are made
+-- a list that is made of another in two steps, if the entries before this one are made
 module _ {A B C : Type 0} (f : A → B) (g : B → C) (xs : List A) (i : ℕ) where
   pub mapped_more : (x : A) (done after : List C) → i < length xs → x ≡ get_or xs i x → after ≡ done ++ g (f x) ∷ [] → done ++ map g (map f (drop i xs)) ≡ after ++ map g (map f (drop (i + 1) xs))
   mapped_more x done after within at pushed =

@@ -1,4 +1,4 @@
--- Trees and typed trees as they stand in memory, one level at a time.
+-- Trees and typed trees of the program, unfolded one level at a time.
 use Rattle.std.proofs.Common.{◌≡◌, ◌<◌, ◌≤◌, length, get_or, arith, ◌∙◌, refl, sym, ap, ℕ, List, [], ◌∷◌, Option, Some, None, Bool, true, false, cond}
 use Rattle.mob_ast.specs.declared.expression.Expr.{Expr}
 use Rattle.mob_ast.specs.declared.expression.Expr.TheViews.{out-Expr}
@@ -31,7 +31,7 @@ digits_of_more [] many = refl
 digits_of_more (y ∷ []) many = absurd (omega arith)
 digits_of_more (y ∷ z ∷ es) many = refl
 
--- a list of operands by its length
+-- a list of operands, by its length
 pub only_one : (es : List Expr) (x : Expr) → length es < 2 → x ≡ get_or es 0 x → 1 ≤ length es → Some (tree_of x) ≡ only (trees_of es)
 only_one [] x few at some = absurd (omega arith)
 only_one (y ∷ []) x few at some = ap (λ e. Some (tree_of e)) at

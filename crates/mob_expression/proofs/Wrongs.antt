@@ -1,4 +1,4 @@
--- What is wrong first in a part is so in the whole.
+-- The first mistake in a part is the first mistake in the whole.
 use Rattle.std.proofs.Common.{◌≡◌, ◌∙◌, ap, Result}
 use Rattle.mob_list.specs.declared.fault.Fault.{Fault}
 use Rattle.mob_list.specs.declared.fault.Fault.TheVariants.{Because, NoMemory}

@@ -1,5 +1,5 @@
--- Names and types of expressions: the typed tree of a tree, or what is wrong first. What is settled
--- before the operands comes first, then the operands from left to right, then the operator.
+-- Names and types of expressions: the typed tree of a tree, or the first mistake. First comes what
+-- does not depend on typed operands, then the operands from left to right, then the operator.
 use Rattle.std.specs.Prelude.{◌&&◌, ◌||◌, not, ℕ, List, [], ◌∷◌, ◌++◌, Bool, true, false, Option, Some, None, Result, Ok, codes, length, is_some, option_map, option_and_then, if◌then◌else◌}
 use Rattle.std.specs.Str.{bytes_eq}
 use Rattle.mob_ast.specs.declared.types.TypeWord.{TypeWord}
@@ -25,7 +25,7 @@ use Rattle.mob_scope.specs.Scopes.{ScopeParts}
 use Rattle.mob_scope.specs.Columns.{column_named}
 use Rattle.mob_expression.specs.Words.{type_named, literal_type, number_type, is_zero}
 
--- a constant of this type and text, of the statement of number n, takes the next number
+-- a constant with this type and text, of statement n, takes the next number
 abbrev pub next_constant : ℕ → SqlType → List ℕ → ℕ → TypingStep ℕ
 next_constant n ty text p cs = Ok (length cs, cs ++ record { ty = ty; text = text; statement = n; place = p } ∷ [])
 
@@ -33,12 +33,12 @@ next_constant n ty text p cs = Ok (length cs, cs ++ record { ty = ty; text = tex
 abbrev pub constant : ScopeParts → SqlType → List ℕ → ℕ → TypingStep TypedTree
 constant s ty text p cs = next_constant s.statement ty text p cs >>= λ r. Ok (typed (op.Const r.0) ty p none, r.1)
 
--- the string and its place, where a cast has a bare string alone
+-- the string and its place, if the only operand is a bare string
 abbrev pub string_of : Tree → Option (List ℕ × ℕ)
 string_of (tree (node.Str s) p args) = Some (s, p)
 string_of (tree _ p args) = None
 
--- the only one of these trees, where there is one alone
+-- the only one of these trees; None if there is not exactly one
 abbrev pub only : Trees → Option Tree
 only no_trees = None
 only (more_trees t no_trees) = Some t
@@ -47,7 +47,7 @@ only (more_trees t (more_trees u us)) = None
 abbrev pub lone_string : Trees → Option (List ℕ × ℕ)
 lone_string ts = option_and_then string_of (only ts)
 
--- a bare string under a cast is read as the type at once
+-- a cast of a bare string is a constant of that type
 abbrev pub cast_of_string : ScopeParts → TypeWord → ℕ → Option (List ℕ × ℕ) → TypingStep (Option TypedTree)
 cast_of_string s w p None cs = Ok (None, cs)
 cast_of_string s w p (Some text) cs = found kind.UnknownName w.name.place (type_named w.name.text w.inner) >>= λ ty. constant s ty text.0 text.1 cs >>= λ r. Ok (Some (typed op.Cast ty p (more r.0 none)), r.1)
@@ -59,8 +59,8 @@ typed_string s w text p cs = found kind.UnknownName w.name.place (literal_type w
 abbrev pub settled : TypingStep TypedTree → TypingStep (Option TypedTree)
 settled step cs = step cs >>= λ r. Ok (Some r.0, r.1)
 
--- What is settled before the operands: constants, columns, a cast of a bare string, and functions
--- that are refused for their irrational results.
+-- What does not depend on typed operands: constants, columns, casts of a bare string, and functions
+-- that are refused because their results may be irrational.
 unfoldable pub typed_before_operands : ScopeParts → Node → ℕ → Trees → TypingStep (Option TypedTree)
 typed_before_operands s node.Null p args cs = Ok (Some (typed op.Null sql.Text p none), cs)
 typed_before_operands s node.True p args cs = settled (constant s sql.Bool (codes "true") p) cs
@@ -99,12 +99,12 @@ unfoldable mutual
   digits_in no_trees = None
   digits_in (more_trees t ts) = if is_none_left ts then digits_of t else None
 
--- the digits of the second of two operands, where it is a number literal
+-- the digits of the second of two operands, if it is a number literal
 abbrev pub divisor_of : Trees → Option (List ℕ)
 divisor_of no_trees = None
 divisor_of (more_trees a ts) = option_and_then digits_of (only ts)
 
--- whether it divides by 0, where the divisor is a literal that is 0 or not, or none
+-- whether it divides by 0; the divisor is a literal that is 0 or not, or None
 abbrev pub divides_by_zero : Op → Option Bool → Bool
 divides_by_zero op.Divide (Some zero) = zero
 divides_by_zero _ _ = false
@@ -116,8 +116,8 @@ are_linear _ = false
 abbrev pub missing_sign : List ℕ → List SqlType → Kind
 missing_sign name ts = if is_irrational form.Sign name then kind.Irrational else if bytes_eq name (codes "*") && are_linear ts then kind.LinearProduct else kind.NoSuchOperator
 
--- Why an operator has no line in the table for these types. An aggregate has none inside an
--- expression: it is a whole item of the select list.
+-- Why the table has no line for an operator with these types. No line has an aggregate, since an
+-- aggregate is a whole item of the select list.
 abbrev pub missing : Form → List ℕ → List SqlType → Kind
 missing form.Word name ts = kind.NoSuchOperator
 missing form.Sign name ts = missing_sign name ts
@@ -127,13 +127,13 @@ abbrev pub applied : Form → List ℕ → ℕ → Option Bool → List TypedTre
 applied f name p divisor ts None = refuse (missing f name (types_of ts)) p
 applied f name p divisor ts (Some a) = unless (divides_by_zero a.0 divisor) kind.ZeroDivisor p >>= λ _. Ok (typed a.0 a.1 p (typed_trees ts))
 
--- an operator on typed operands, by the table; the second is a number literal that is 0 or not, or
--- none
+-- an operator for typed operands, by the table; the divisor is a number literal that is 0 or not,
+-- or None
 abbrev pub operated : Form → List ℕ → ℕ → Option Bool → List TypedTree → Result TypedTree Mistake
 operated f name p divisor ts = applied f name p divisor ts (found_in table f name (types_of ts) (is_some divisor))
 
--- a value of the first type may be made one of the second: an int a numeric, a tint a tfrac, and
--- each one of its own type
+-- a value of the first type can be cast to the second: an int to numeric, a tint to tfrac, and each
+-- type to itself
 abbrev pub can_cast : SqlType → SqlType → Bool
 can_cast a b = same_type a b || (same_type a sql.Int && same_type b sql.Numeric) || (same_type a sql.TInt && same_type b sql.TFrac)
 
@@ -144,7 +144,7 @@ can_cast_all _ b = false
 abbrev pub cast : TypeWord → ℕ → List TypedTree → Result TypedTree Mistake
 cast w p ts = found kind.UnknownName w.name.place (type_named w.name.text w.inner) >>= λ ty. unless (not (can_cast_all (types_of ts) ty)) kind.NoSuchOperator p >>= λ _. Ok (typed op.Cast ty p (typed_trees ts))
 
--- the operator on its typed operands
+-- the operator of a node, applied to its typed operands
 unfoldable pub finished : Node → ℕ → Trees → List TypedTree → Result TypedTree Mistake
 finished (node.Call f) p args ts = operated form.Call f p None ts
 finished (node.Sign g) p args ts = operated form.Sign g p (option_map is_zero (divisor_of args)) ts
@@ -160,11 +160,11 @@ abbrev pub or_later : TypingStep TypedTree → Option TypedTree → TypingStep T
 or_later later None cs = later cs
 or_later later (Some t) cs = Ok (t, cs)
 
--- the operator on its operands, with the constants after them
+-- the operator of a node, applied to its typed operands, with the constants after them
 abbrev pub on_operands : Node → ℕ → Trees → List TypedTree × List ConstText → Result (TypedTree × List ConstText) Mistake
 on_operands n p args r = finished n p args r.0 >>= λ t. Ok (t, r.1)
 
--- The typed tree of an expression and the constants after it, or what is wrong first.
+-- The typed tree of an expression and the constants after it, or the first mistake.
 unfoldable mutual
   pub typed_expression : ScopeParts → Tree → TypingStep TypedTree
   typed_expression s (tree n p args) cs = typed_before_operands s n p args cs >>= λ e. or_later (λ ds. typed_operands s args ds >>= on_operands n p args) e.0 e.1

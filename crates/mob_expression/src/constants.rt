@@ -1,4 +1,4 @@
-//! Constants, and what else is settled before operands are looked at.
+//! Types constants, columns and everything else that does not depend on typed operands.
 ghost use Rattle.std.specs.Prelude.{◌≡◌, None, Some, option_map};
 ghost use Rattle.mob_ast.specs.Trees.{tree_of, trees_of};
 ghost use Rattle.mob_expression.specs.Steps.{TypesTo};
@@ -25,7 +25,7 @@ pub fn leaf(alloc: Global, op: Op, ty: SqlType, place: u32) -> TExpr
     with_args(op, ty, place, Vec::new(alloc))
 }
 
-/// The typed expression of a column that a name stands for.
+/// The typed expression of a column.
 pub fn column_leaf(alloc: Global, found: Found, place: u32) -> TExpr
     ensures tree { typed_of result ≡ typed (Op.Column found.from found.column) found.ty place none }
 {
@@ -36,8 +36,8 @@ pub fn column_leaf(alloc: Global, found: Found, place: u32) -> TExpr
     leaf(alloc, op, found.ty, place)
 }
 
-/// Adds a constant of this type and text, of the statement of this number. Returns the constant's
-/// number.
+/// Appends a constant of this type and text, for the statement with this number. Returns the number
+/// of the constant, from 0. Its only error is `NoMemory`, a failed allocation.
 pub fn next_constant(
     alloc: Global,
     statement: u32,
@@ -59,7 +59,7 @@ pub fn next_constant(
     Ok(index)
 }
 
-/// The only one of these expressions, where there is one alone.
+/// The only one of these expressions; `None` if there is not exactly one.
 #[tactic(auto, using(crate::proofs::TreeFacts::only_one, crate::proofs::TreeFacts::only_none, crate::proofs::TreeFacts::only_more))]
 pub fn only(args: &[Expr]) -> Option<&Expr>
     ensures alone { option_map (λ e. tree_of e.now) result ≡ only (trees_of args.now) }
@@ -70,7 +70,7 @@ pub fn only(args: &[Expr]) -> Option<&Expr>
     }
 }
 
-// The string and its place, where the operands are a bare string alone.
+// The string and its place, if the only operand is a bare string.
 fn lone_string(args: &[Expr]) -> Option<(&str, u32)>
     ensures alone { option_map (λ r. (r.0.now, r.1)) result ≡ lone_string (trees_of args.now) }
 {
@@ -81,7 +81,7 @@ fn lone_string(args: &[Expr]) -> Option<(&str, u32)>
     }
 }
 
-// A bare string under a cast is read as the type at once.
+// Types a cast of a bare string, which is read as a constant of that type.
 fn cast_of_string(
     alloc: Global,
     scope: &Scope<'_>,
@@ -107,7 +107,7 @@ fn cast_of_string(
     Ok(Some(with_args(Op::Cast, ty, place, args)))
 }
 
-// The typed expression of a constant of this type and text, which takes the next number.
+// The typed expression of a constant with this type and text, which takes the next number.
 fn settled_constant(
     alloc: Global,
     scope: &Scope<'_>,
@@ -122,7 +122,7 @@ fn settled_constant(
     Ok(Some(leaf(alloc, Op::Const(index), ty, place)))
 }
 
-// A typed string, which is settled at once.
+// Types a typed string, which is a constant.
 fn settled_string(
     alloc: Global,
     scope: &Scope<'_>,
@@ -142,8 +142,8 @@ fn settled_string(
     settled_constant(alloc, scope, consts, ty, text, place)
 }
 
-/// What is settled before the operands: constants, columns, a cast of a bare string, and functions
-/// that are refused for their irrational results.
+/// Types what does not depend on typed operands: constants, columns, casts of a bare string, and
+/// functions that are refused because their results may be irrational. `None` for everything else.
 #[tactic(auto, unfolding(crate::specs::Expressions::typed_before_operands))]
 pub(crate) fn typed_before_operands(
     alloc: Global,

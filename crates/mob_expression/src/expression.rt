@@ -1,4 +1,4 @@
-//! Names and types of expressions.
+//! Types expressions.
 ghost use Rattle.std.specs.Prelude.{map};
 ghost use Rattle.mob_ast.specs.Trees.{tree_of, trees_of};
 ghost use Rattle.mob_expression.specs.Steps.{TypesTo};
@@ -16,8 +16,7 @@ use mob_scope::scope::Scope;
 use mob_typed::{ConstText, TExpr};
 use std::alloc::Global;
 
-/// The typed tree of an expression, whose constants come behind those so far, or what is wrong
-/// first.
+/// The typed tree of an expression, or the first mistake. New constants are appended to `consts`.
 #[cycle(expression)]
 pub fn type_expr(
     alloc: Global,
@@ -34,7 +33,7 @@ pub fn type_expr(
     finished(alloc, &e.node, e.place, &e.args, args)
 }
 
-/// The typed trees of operands from left to right, or what is wrong first.
+/// The typed trees of operands from left to right, or the first mistake.
 #[cycle(expression)]
 pub fn type_operands(
     alloc: Global,

@@ -1,6 +1,6 @@
-//! Names and types of expressions: each name becomes a number, each expression gets its operator
-//! and its type, and each constant its number in written order; or the first thing that is wrong is
-//! said, with its place.
+//! Names and types of expressions. Each name becomes a number, each expression gets its operator
+//! and its type, and each constant its number in written order. Otherwise the first mistake is
+//! returned, with its place.
 #![tactic(auto)]
 
 pub mod constants;

@@ -1,4 +1,4 @@
-//! Operators on typed operands.
+//! Applies operators to typed operands.
 ghost use Rattle.std.specs.Prelude.{◌≡◌, ◌||◌, List, option_map, map, IfOk};
 ghost use Rattle.mob_operators.specs.Aggregates.{is_aggregate};
 ghost use Rattle.mob_operators.specs.Lookup.{has_function};
@@ -43,7 +43,7 @@ pub fn is_signed(sign: &str) -> bool
     sign == "-" || sign == "+"
 }
 
-// Whether a number literal under any number of signs is 0; None for another expression.
+// Whether a number literal under any number of signs is 0; `None` for any other expression.
 #[tactic(auto, using(crate::proofs::TreeFacts::digits_is))]
 fn literal_of(e: &Expr) -> Option<bool>
     ensures zero { result ≡ option_map is_zero (digits_of (tree_of e.now)) }
@@ -64,7 +64,8 @@ fn literal_of(e: &Expr) -> Option<bool>
     }
 }
 
-// Whether the second of two operands is a number literal that is 0; None where it is none.
+// Whether the second of two operands is a number literal that is 0; `None` if it is not a number
+// literal.
 #[tactic(auto, using(crate::proofs::TreeFacts::divisor_second, crate::proofs::TreeFacts::divisor_few, crate::proofs::TreeFacts::divisor_many))]
 fn divisor_of(args: &[Expr]) -> Option<bool>
     ensures zero { result ≡ option_map is_zero (divisor_of (trees_of args.now)) }
@@ -75,14 +76,14 @@ fn divisor_of(args: &[Expr]) -> Option<bool>
     }
 }
 
-// Whether a function or an aggregate has this name.
+// Whether this is the name of a function or an aggregate.
 fn is_known(name: &str) -> bool
     ensures known { result ≡ (has_function table name.now || is_aggregate name.now) }
 {
     is_function(name) || is_aggregate(name)
 }
 
-// Why an operator has no line in the table for these types.
+// Why the table has no line for an operator with these types.
 fn missing(form: Form, name: &str, types: &[SqlType]) -> Kind
     ensures cause { result ≡ missing form name.now types.now }
 {
@@ -129,8 +130,8 @@ fn divides_by_zero(op: Op, divisor: Option<bool>) -> bool
     }
 }
 
-// The operator on operands of these types, and the type of its result; the second operand is a
-// number literal that is 0 or not, or none.
+// The operator for operands of these types, and the type of its result. `divisor` says whether the
+// second operand is a number literal that is 0; `None` if it is not a number literal.
 fn operated(
     form: Form,
     name: &str,
@@ -193,7 +194,7 @@ fn can_cast_all(types: &[SqlType], to: SqlType) -> bool
     }
 }
 
-// The operator of a node on operands of these types, and the type of its result.
+// The operator of a node for operands of these types, and the type of its result.
 #[tactic(auto, unfolding(crate::specs::Expressions::finished))]
 fn operator_of(
     node: &Node,
@@ -219,7 +220,7 @@ fn operator_of(
     }
 }
 
-/// The operator on its typed operands.
+/// Applies the operator of a node to its typed operands.
 pub(crate) fn finished(
     alloc: Global,
     node: &Node,

@@ -1,4 +1,5 @@
-//! Words and numbers of a script: which type they name, and what a number is worth.
+//! Words and numbers of a script: the types that words name, the type of a number, and whether it
+//! is 0.
 ghost use Rattle.std.specs.Prelude.{◌≡◌, ◌==◌, ◌||◌, map};
 ghost use Rattle.std.specs.List.{list_all};
 ghost use Rattle.std.specs.Char.{is_ascii_digit};
@@ -32,7 +33,7 @@ static GEOMETRY_WORDS: [(&'static str, SqlType); 2] = [
     ("polygon", SqlType::Polygon),
 ];
 
-// The type of this name among these.
+// The type with this name in the list.
 fn type_among(words: &[(&str, SqlType)], name: &str) -> Option<SqlType>
     ensures first { result ≡ type_among (map (λ w. (w.0.now, w.1)) words.now) name.now }
 {
@@ -72,7 +73,7 @@ pub fn type_named(word: &TypeWord) -> Option<SqlType>
     }
 }
 
-/// The type of a number: int where it is of digits alone, else numeric.
+/// The type of a number: int if it has only digits, else numeric.
 pub(crate) fn number_type(text: &str) -> SqlType
     ensures by_digits { result ≡ number_type text.now }
 {
@@ -90,21 +91,21 @@ pub fn has_digits_alone(text: &[u8]) -> bool
     text.iter().all(|b| b.is_ascii_digit())
 }
 
-/// Whether a number is 0: no digit of it before any exponent and any slash is another than 0.
+/// Whether a number is 0: it has no digit other than 0 before its exponent and its slash.
 pub(crate) fn is_zero(text: &str) -> bool
     ensures zero { result ≡ is_zero text.now }
 {
     !has_figure(text.as_bytes())
 }
 
-// Whether a byte ends the digits of which one other than 0 is looked for.
+// Whether a byte ends the digits that decide whether a number is 0.
 fn ends_figures(b: u8) -> bool
     ensures end { result ≡ (is_exponent_letter b || b == 47) }
 {
     b == b'e' || b == b'E' || b == b'/'
 }
 
-// Whether a digit other than 0 stands before any letter of an exponent and any slash.
+// Whether a digit other than 0 comes before any letter of an exponent and any slash.
 #[tactic(auto, using(crate::proofs::Figures::no_figure, crate::proofs::Figures::figure_first, crate::proofs::Figures::figure_later, crate::proofs::Figures::figures_end))]
 fn has_figure(text: &[u8]) -> bool
     ensures figure { result ≡ has_figure text.now }
@@ -135,7 +136,7 @@ fn is_blank(b: u8) -> bool
     b == b' ' || b == b'\t' || b == b'\r' || b == b'\n'
 }
 
-// A loop, since a script may have any number of blanks, and a call for each would take stack.
+// A loop, since a script may have any number of blanks, and recursion would take stack for each.
 fn skip_blanks(text: &[u8]) -> &[u8]
     ensures behind_blanks { result.now ≡ skip_blanks text.now }
 {
@@ -149,7 +150,7 @@ fn skip_blanks(text: &[u8]) -> &[u8]
     rest
 }
 
-// Whether a text begins with this word in letters of either case.
+// Whether a text begins with this word, ignoring case.
 fn begins_with_word(text: &[u8], word: &[u8]) -> bool
     ensures begins { result ≡ begins_with_word text.now word.now }
 {
@@ -162,7 +163,7 @@ fn begins_with_word(text: &[u8], word: &[u8]) -> bool
     letter.to_ascii_lowercase() == *small && begins_with_word(text, word)
 }
 
-// A loop, as that over blanks.
+// A loop, for the same reason as in `skip_blanks`.
 fn skip_digits(text: &[u8]) -> &[u8]
     ensures behind_digits { result.now ≡ skip_digits text.now }
 {
@@ -176,8 +177,8 @@ fn skip_digits(text: &[u8]) -> &[u8]
     rest
 }
 
-// What stands behind a digit or more, `;` and the blanks round it, where `rest` begins so, else the
-// whole text.
+// The text after at least one digit, `;` and the blanks around it, if `rest` begins with these;
+// else the whole text.
 fn after_digits<'a>(whole: &'a [u8], rest: &'a [u8]) -> &'a [u8]
     ensures behind_number { result.now ≡ after_digits whole.now rest.now }
 {
@@ -193,8 +194,8 @@ fn after_digits<'a>(whole: &'a [u8], rest: &'a [u8]) -> &'a [u8]
     }
 }
 
-// What stands behind `SRID=`, its number, `;` and the blanks round it, where the text begins so,
-// else the text. Whether there is such an SRID is said when the text is read.
+// The text after `SRID=`, its number, `;` and the blanks around it, if it begins with these; else
+// the whole text. Whether the SRID is valid is checked when the text is read.
 fn after_srid(text: &[u8]) -> &[u8]
     ensures behind_srid { result.now ≡ after_srid text.now }
 {
@@ -204,7 +205,7 @@ fn after_srid(text: &[u8]) -> &[u8]
     after_digits(text, &text[5..])
 }
 
-// Whether a text of geometry is a polygon's.
+// Whether a text of a geometry is that of a polygon.
 fn is_polygon(text: &[u8]) -> bool
     ensures polygon { result ≡ is_polygon text.now }
 {
@@ -221,7 +222,7 @@ fn geometry_type(text: &str) -> SqlType
     }
 }
 
-/// The type of a typed string: `geometry` alone is decided by the string.
+/// The type of a typed string. For `geometry` without brackets the string decides.
 pub fn literal_type(word: &TypeWord, text: &str) -> Option<SqlType>
     ensures named { result ≡ literal_type word.now.name.text word.now.inner text.now }
 {

@@ -1,4 +1,4 @@
--- Worked examples, by hand: which texts are boxes of the plane, and what they say.
+-- Examples, worked by hand: which texts are boxes, and which box each denotes.
 use Rattle.std.proofs.Common.{◌≡◌, true, pos, Option, None, codes, refl}
 use Rattle.std.specs.Prelude.{is_some}
 use Rattle.mob_language.specs.Language.{Text}
@@ -14,27 +14,27 @@ use Rattle.mob_geotext.specs.Boxes.{open_bracket_at, corner_at, corners_at, spac
 abbrev read : Text → Option NotedBox
 read text = all_of (within_blanks_at (written_box_at (pos 0))) text
 
--- letters of either case, and blanks beside each bracket and comma and at both ends
+-- mixed letter case, and blanks beside each bracket and comma and at both ends
 in_full : is_some (read (codes " stbox  x ( ( 2 , -1/2 ) , ( 0 , 3 ) ) ")) ≡ true
 unfolding written_box_at with_space_at time_alone_at space_and_time_at space_alone_at corners_at corner_at open_bracket_at close_bracket_at comma_at some_blanks_at number_value_at numeral_at sign_at digits_at tail_at over_at decimal_at point_at exponent_at power_at
 in_full = refl
 
--- a blank stands behind the word
+-- a blank must follow the word
 no_blank : read (codes "STBOXX((0,0),(1,1))") ≡ None
 unfolding written_box_at some_blanks_at
 no_blank = refl
 
--- and none between X and T
+-- no blank may be between X and T
 parted : read (codes "STBOX X T(((0,0),(1,1)),[2001-01-01,2001-01-02])") ≡ None
 unfolding written_box_at with_space_at time_alone_at space_and_time_at space_alone_at some_blanks_at
 parted = refl
 
--- one corner is no box
+-- one corner does not make a box
 one_corner : read (codes "STBOX X((0,0))") ≡ None
 unfolding written_box_at with_space_at time_alone_at space_and_time_at space_alone_at corners_at corner_at open_bracket_at close_bracket_at comma_at some_blanks_at number_value_at numeral_at sign_at digits_at tail_at over_at decimal_at point_at exponent_at power_at
 one_corner = refl
 
--- a box has no reference system
+-- a box has no SRID
 other_system : read (codes "SRID=0;STBOX X((0,0),(1,1))") ≡ None
 unfolding written_box_at
 other_system = refl

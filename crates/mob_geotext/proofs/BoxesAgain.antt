@@ -1,4 +1,4 @@
--- A box that is printed is read again as itself, and a text has one reading as a box.
+-- A printed box reads back as itself, and a text has at most one reading as a box.
 use Rattle.std.proofs.Common.{◌≡◌, ℤ, [], ◌++◌, Option, Some, None, Ok, true, false, refl, sym, ap, subst, ◌∙◌, codes, inl, inr}
 use Rattle.std.specs.Prelude.{◌||◌, ◌⊎◌, is_some, IfSome, MatchOption}
 use Rattle.std.proofs.lemmas.Bool.{and_parts}
@@ -30,11 +30,11 @@ use Rattle.mob_geotext.proofs.SpansAgain.{note, span_said_by}
 use Rattle.mob_geotext.proofs.SpansRead.{true_false}
 use Rattle.mob_geotext.proofs.PolygonsAgain.{comma_alone}
 
--- a text has one reading
+-- a text has at most one reading
 pub one_box : (day : ℤ) → HasOneReading (boxes day)
 one_box day text = settled (boxes day) text (one_value (boxes_exact day) refl text) (λ s v w a b. some_is v w (sym a ∙ b))
 
--- ---- the parts as they are printed
+-- ---- the printed parts
 
 begin_said : open_bracket (codes "(") tt
 begin_said = record { meant = (tt, []); said = record { front = codes "("; back = []; whole = refl; first = refl; second = record { is = refl; each = tt } }; is = refl }
@@ -64,7 +64,7 @@ corner_said_by x y h k = record {
   is = refl;
 }
 
--- the corners of an area as its text says them
+-- the corners of an area, as its text has them
 abbrev noted : Area → NotedCorners
 noted a = record { first = Some (record { x = a.xmin; y = a.ymin }); second = Some (record { x = a.xmax; y = a.ymax }) }
 
@@ -94,7 +94,7 @@ closed_said day s h = record {
   is = refl;
 }
 
--- a form of a box behind its word and a space
+-- a form of a box after its word and a space
 worded : (day : ℤ) (text : Text) (b : NotedBox) → (time_alone day text b) ⊎ (with_space day text b) → written_box day (codes "STBOX " ++ text) b
 worded day text b said = record {
   meant = (tt, (tt, b));

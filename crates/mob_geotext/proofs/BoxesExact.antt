@@ -1,4 +1,4 @@
--- The reader of boxes reads exactly the texts of boxes.
+-- The reader of boxes accepts exactly the texts of boxes.
 use Rattle.std.proofs.Common.{◌≡◌, ℕ, ℤ, [], ◌∷◌, ◌++◌, Bool, false, refl, sym, ◌∙◌, rules, codes}
 use Rattle.std.specs.Prelude.{nat_eq}
 use Rattle.std.specs.Char.{to_ascii_lowercase}
@@ -95,7 +95,7 @@ time_exact : (day : ℤ) → Exact (time_alone day) (time_alone_at day) Any
 unfolding time_alone_at
 time_exact day = means_exact time_said (after_any (any_case_exact (codes "t")) (then_byte_stops (spaced_exact 40 [] refl) (closed_exact day) (closed_blank day) (closed_byte day)))
 
--- ---- which of them it is: by the first letter
+-- ---- the first letter decides which form it is
 
 abbrev begins_t : ℕ → Bool
 begins_t c = nat_eq (to_ascii_lowercase c) 116
@@ -133,7 +133,7 @@ with_space_exact : (day : ℤ) → Exact (with_space day) (with_space_at day) An
 unfolding with_space_at
 with_space_exact day = means_exact (λ (v : Unit {0} × NotedBox). v.1) (after_any (any_case_exact (codes "x")) (either_exact day))
 
--- the letter is not another one
+-- the letter is not the other one
 x_no_t : (c : ℕ) → to_ascii_lowercase c ≡ 120 → begins_t c ≡ false
 x_no_t c e = rw e refl
 

@@ -1,4 +1,4 @@
--- What the reader of boxes answers, by what it reads.
+-- The answers of the reader of boxes, by what it reads.
 use Rattle.std.proofs.Common.{◌≡◌, ℤ, Bool, true, false, cond, Option, Some, None, Ok, Err, refl, sym, subst, ◌∙◌}
 use Rattle.std.specs.Prelude.{◌&&◌, is_some, MatchOption}
 use Rattle.std.proofs.lemmas.Bool.{and_parts}
@@ -22,7 +22,7 @@ use Rattle.mob_geotext.proofs.SpansRead.{true_false, has_bounds}
 
 -- ---- the sides
 
--- the rectangle, where both corners fit
+-- the rectangle, if both corners fit
 pub record HasArea (c : NotedCorners) : Type 0 where
   pub area : Area
   pub is : area_of c ≡ Some area
@@ -35,7 +35,7 @@ has_area c h = by_corners c.first c.second refl refl h
     by_corners (Some a) None e f h = absurd (true_false (sym h))
     by_corners None b e f h = absurd (true_false (sym h))
 
--- all sides, where they fit
+-- all coordinates and ends fit
 pub record HasSides (b : NotedBox) : Type 0 where
   pub sides : BoxOf
   pub is : sides_said b ≡ Some sides
@@ -51,7 +51,7 @@ sides (Both c s) h =
 
 -- ---- what the parts of the code make
 
--- both dimensions, where the span has an instant
+-- both dimensions, if the span has an instant
 pub both_sound : (a : Option Area) (o : Option SpanOf) → box_in_both a (o >>= bounded) ≡ (box_in_both a o >>= with_instant)
 both_sound None o = refl
 both_sound (Some x) None = refl
@@ -61,7 +61,7 @@ both_sound (Some x) (Some s) = by_test (has_instant s)
     by_test true = refl
     by_test false = refl
 
--- a test that keeps a box, and one that does not
+-- the test for an instant, with a box that passes it and one that does not
 kept : (r p : BoxOf) → ◌≡◌ {A = Option BoxOf} (Some p) (with_instant r) → (span_stands r.time ≡ true) × (r ≡ p)
 kept r p e = by_test (span_stands r.time) refl e
   where
@@ -76,7 +76,7 @@ not_kept r e = by_test (span_stands r.time) refl e
     by_test true h e = absurd cc
     by_test false h e = h
 
--- ---- what the code answers
+-- ---- the answers of the code
 
 abbrev whole_box : ℤ → Text → Option NotedBox
 whole_box day bytes = all_of (within_blanks_at (written_box_at day)) bytes

@@ -1,9 +1,9 @@
--- Texts with a comma alone between each two, as a loop writes them.
+-- Texts separated by commas without spaces, as a loop writes them.
 use Rattle.std.proofs.Common.{◌≡◌, List, [], ◌∷◌, ◌++◌, map, codes, sym, ap, ◌∙◌, append_assoc, append-nil}
 use Rattle.std.specs.List.{join_with_byte}
 use Rattle.mob_language.specs.Language.{Text}
 
--- what stands behind the first of the texts
+-- the texts after the first one, each after a comma
 abbrev pub more_joined : {A : Type 0} → (A → Text) → List A → Text
 more_joined text [] = []
 more_joined text (x ∷ xs) = codes "," ++ (text x ++ more_joined text xs)

@@ -1,4 +1,4 @@
--- A text has one reading as a span, one as a span set, and one as a polygon.
+-- A text has at most one reading as a span, as a span set and as a polygon.
 use Rattle.std.proofs.Common.{◌≡◌, ℤ, List, Option, Some, None, refl, sym, ◌∙◌}
 use Rattle.std.specs.Prelude.{MatchOption}
 use Rattle.mob_ratio.specs.Ratio.{Ratio}
@@ -17,7 +17,7 @@ use Rattle.mob_geotext.proofs.PolygonsExact.{polygons_exact}
 pub one_span : (day : ℤ) → HasOneReading (spans day)
 one_span day text = settled (spans day) text (one_value (spans_exact day) refl text) (λ s v w a b. some_is v w (sym a ∙ b))
 
--- one list of spans stands for one set
+-- one list of spans denotes one set
 abbrev StandsFor : Option (List SpanOf) → List SpanOf → Type 0
 StandsFor o set = MatchOption o ⊥ (λ rs. IsSpanSet set × ((t : Ratio) → in_some set t ≡ in_some rs t))
 

@@ -1,4 +1,4 @@
--- Polygons that are printed are read again as themselves.
+-- Printed polygons read back as themselves.
 use Rattle.std.proofs.Common.{◌≡◌, ◌≤◌, List, [], ◌∷◌, ◌++◌, map, length, Bool, true, false, Option, Some, Ok, refl, sym, subst, ◌∙◌, codes, arith, length-append}
 use Rattle.std.specs.Prelude.{MatchOption, None, nat_eq, flat_map, not}
 use Rattle.std.specs.List.{join_with_byte, list_any}
@@ -21,7 +21,7 @@ use Rattle.mob_geotext.specs.Polygons.{within_brackets, vertex, written_ring, wr
 use Rattle.mob_geotext.specs.PolygonText.{in_brackets, vertex_text, ring_text, polygon_text, HaveFittingCoordinates, IsReadablePolygon}
 use Rattle.mob_geotext.proofs.SpansRead.{true_false}
 
--- ---- lists in brackets, as they are printed
+-- ---- printed lists in brackets
 
 pub comma_alone : comma (codes ",") tt
 comma_alone = record {
@@ -49,7 +49,7 @@ bracketed_said inner v h = record {
 
 -- ---- points and rings
 
--- a point as its text says it, and a ring
+-- a point as its text has it; then a ring
 abbrev note : Point → Option Point
 note p = Some p
 
@@ -91,7 +91,7 @@ each_ring (ring ∷ rings) long h =
     let both = or_parts (is_short_ring ring) (list_any is_short_ring rings) long in
     (ring_plain ring both.0 (fits_first ring (all_points rings) h), each_ring rings both.1 (fits_second ring (all_points rings) h))
 
--- ---- what is read of them
+-- ---- what is read from them
 
 points_there : (ring : List Point) → traverse (λ p. p) (notes ring) ≡ Some ring
 points_there [] = refl

@@ -1,4 +1,4 @@
--- The reader of polygons reads exactly the texts of polygons.
+-- The reader of polygons accepts exactly the texts of polygons.
 use Rattle.std.proofs.Common.{◌≡◌, ℕ, [], ◌∷◌, ◌++◌, Bool, false, refl, sym, ap, subst, ◌∙◌, append_assoc, codes}
 use Rattle.std.specs.Char.{to_ascii_lowercase}
 use Rattle.mob_language.specs.Language.{Text, Language, ◌▷◌, Word, AreAll, Separated, blanks, is_blank, in_middle, within_blanks}
@@ -46,7 +46,8 @@ close_exact = then_byte_stops (many_exact is_blank) (word_exact (codes ")")) (wo
 bracket_ends : Ends 41
 bracket_ends = record { moment = refl; blank = refl; digit = refl; t = refl }
 
--- neither a comma nor the rest of a number stands before what closes a bracket
+-- a closing bracket and the blanks before it begin neither with a comma nor with the rest of a
+-- number
 close_no_comma : (text rest : Text) (v : Text × Unit {0}) → (blanks ▷ Word (codes ")")) text v → NoComma (text ++ rest)
 close_no_comma text rest v s =
     let is : text ++ rest ≡ s.front ++ (41 ∷ rest) = ap (λ (t : Text). t ++ rest) s.whole ∙ append_assoc s.front s.back rest ∙ ap (λ (t : Text). s.front ++ (t ++ rest)) s.second in
@@ -61,8 +62,7 @@ close_byte text v said e = word_byte 41 [] said.back v.1 said.second (back_nil s
 pub comma_continues : NoHead comma continues
 comma_continues = means_head (then_head (many_head blank_stops) (word_then_head 44 [] continues refl))
 
--- members in brackets: what stands behind a list of them is no further member, where no comma
--- stands there
+-- members in brackets: no further member follows a list of them if no comma follows it
 bracketed_exact : {A : Type 0} {l : Language A} {H : Text → Type 0} (r : TextReader A) → Exact (Separated l comma) (separated_at r comma_at) H → NoHead l is_blank → HasByte l
     → ((text rest : Text) (v : Text × Unit {0}) → (blanks ▷ Word (codes ")")) text v → H (text ++ rest)) → Exact (within_brackets (Separated l comma)) (bracketed_at r) Any
 unfolding bracketed_at
@@ -78,7 +78,7 @@ bracketed_byte = means_byte in_middle (then_byte _ (then_byte blanks (word_byte 
 
 -- ---- a ring
 
--- what may stand behind the points of a ring
+-- what may follow the points of a ring
 abbrev AfterPoints : Text → Type 0
 AfterPoints rest = NoComma rest × Stops continues rest
 
@@ -109,7 +109,7 @@ polygon_exact : Exact written_polygon written_polygon_at Any
 unfolding written_polygon_at
 polygon_exact = means_exact polygon_said (after_any (any_case_exact (codes "polygon")) (then_byte_stops (many_exact is_blank) rings_exact bracketed_blank bracketed_byte))
 
--- a polygon begins with the letter p, small or capital
+-- a polygon begins with the letter p, in either case
 polygon_head : (test : ℕ → Bool) → ((c : ℕ) → to_ascii_lowercase c ≡ 112 → test c ≡ false) → NoHead written_polygon test
 polygon_head test h = means_head (byte_head (blanks ▷ written_rings) (any_case_head 112 (codes "olygon") test h) (any_case_byte 112 (codes "olygon")))
 

@@ -1,4 +1,4 @@
--- What the reader of polygons answers, by what it reads.
+-- The answers of the reader of polygons, by what it reads.
 use Rattle.std.proofs.Common.{◌≡◌, ℕ, ◌+◌, ◌<◌, ◌≤◌, refl, List, length, get_or, take, true, false, Option, Some, None, Ok, Err, sym, subst, ◌∙◌, arith}
 use Rattle.std.specs.Prelude.{MatchOption, flat_map, nat_lt}
 use Rattle.std.proofs.lemmas.Bool.Decides.{nat_tests}

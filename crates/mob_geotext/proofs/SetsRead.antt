@@ -1,4 +1,4 @@
--- What the reader of span sets answers, by what it reads.
+-- The answers of the reader of span sets, by what it reads.
 use Rattle.std.proofs.Common.{◌≡◌, ℤ, List, [], ◌∷◌, Bool, true, false, cond, Option, Some, None, Ok, Err, refl, sym, subst, ◌∙◌}
 use Rattle.std.specs.Prelude.{◌&&◌, MatchOption}
 use Rattle.std.specs.List.{list_all}
@@ -19,7 +19,7 @@ use Rattle.mob_geotext.proofs.SpansRead.{true_false, has_bounds}
 
 -- ---- lists of spans
 
--- each of the spans, where all of their ends fit
+-- the ends of each span fit
 pub record HaveBounds (ss : List NotedSpan) : Type 0 where
   pub bounds : List SpanOf
   pub are : traverse bounds_of ss ≡ Some bounds
@@ -42,7 +42,7 @@ by_tests r rs true true = refl
 by_tests r rs true false = refl
 by_tests r rs false c = refl
 
--- where all ends fit, the spans are made where some instant is in each
+-- if all ends fit, the spans are made exactly if each has an instant
 pub sound_all : (ss : List NotedSpan) (rs : List SpanOf) → traverse bounds_of ss ≡ Some rs → traverse sound_span ss ≡ cond (list_all has_instant rs) (Some rs) None
 sound_all [] rs e =
     let is : [] ≡ rs = some_is [] rs e in
@@ -72,7 +72,7 @@ not_all_kept rs e = by_test (list_all has_instant rs) refl e
     by_test true h e = absurd cc
     by_test false h e = h
 
--- ---- what the code answers
+-- ---- the answers of the code
 
 abbrev whole_set : ℤ → Text → Option (List NotedSpan)
 whole_set day bytes = all_of (within_blanks_at (noted_spans_at day)) bytes

@@ -1,4 +1,4 @@
--- Spans and span sets that are printed are read again as themselves.
+-- Printed spans and span sets read back as themselves.
 use Rattle.std.proofs.Common.{◌≡◌, ◌≢◌, ℕ, ℤ, ◌≤◌, List, [], ◌∷◌, ◌++◌, map, length, Bool, true, false, cond, Option, Some, Ok, refl, sym, subst, ◌∙◌, codes, arith}
 use Rattle.std.specs.Prelude.{MatchOption, nat_eq, nat_lt}
 use Rattle.std.specs.List.{list_all}
@@ -19,7 +19,7 @@ use Rattle.mob_geotext.specs.SpanText.{span_text, span_set_text}
 use Rattle.mob_geotext.proofs.SpansRead.{true_false}
 use Rattle.mob_geotext.specs.Printable.{HasDatedEnds, HaveDatedEnds}
 
--- a span as its text says it
+-- a span as its text has it
 abbrev pub note : SpanOf → NotedSpan
 note s = record { lower = Some s.lower; upper = Some s.upper; lower_inc = s.lower_inc; upper_inc = s.upper_inc }
 

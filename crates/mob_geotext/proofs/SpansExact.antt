@@ -1,4 +1,4 @@
--- The readers of spans and of span sets read exactly their texts.
+-- The readers of spans and of span sets accept exactly their texts.
 use Rattle.std.proofs.Common.{ℤ, [], ◌++◌, sym, subst, refl}
 use Rattle.mob_language.specs.Language.{◌▷◌, Separated, blanks, is_blank, in_middle, within_blanks}
 use Rattle.mob_language.specs.Readers.{then_at, separated_at, within_blanks_at}

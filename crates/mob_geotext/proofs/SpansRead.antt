@@ -1,4 +1,4 @@
--- What the reader of spans answers, by what it reads.
+-- The answers of the reader of spans, by what it reads.
 use Rattle.std.proofs.Common.{◌≡◌, ℤ, Bool, true, false, cond, Option, Some, None, Ok, Err, refl, sym, ap, subst, ◌∙◌}
 use Rattle.std.specs.Prelude.{◌&&◌, is_some, IfSome, MatchOption}
 use Rattle.mob_ratio.specs.Ratio.{Ratio}
@@ -17,7 +17,7 @@ use Rattle.mob_geotext.proofs.SpansExact.{spans_exact}
 pub true_false : true ≡ false → ⊥
 true_false e = absurd cc
 
--- both ends, where they fit
+-- both ends fit
 pub record HasBounds (s : NotedSpan) : Type 0 where
   pub bounds : SpanOf
   pub is : bounds_of s ≡ Some bounds
@@ -30,7 +30,7 @@ has_bounds s h = by_ends s.lower s.upper refl refl h
     by_ends (Some a) None e f h = absurd (true_false (sym h))
     by_ends None b e f h = absurd (true_false (sym h))
 
--- ---- a span in which some instant is
+-- ---- a span with an instant
 
 pub made_span : (o : Option SpanOf) (r : SpanOf) → IfSome o (λ s. s ≡ r) → MatchOption o (has_instant r ≡ false) (λ s. has_instant s ≡ true) → o ≡ bounded r
 made_span None r is there = subst (λ (b : Bool). ◌≡◌ {A = Option SpanOf} None (cond b (Some r) None)) (sym there) refl
@@ -38,7 +38,7 @@ made_span (Some s) r is there =
     let h : has_instant r ≡ true = subst (λ (x : SpanOf). has_instant x ≡ true) is there in
     subst (λ (b : Bool). ◌≡◌ {A = Option SpanOf} (Some s) (cond b (Some r) None)) (sym h) (ap (λ (x : SpanOf). Some x) is)
 
--- a test that keeps a span, and one that does not
+-- the test for an instant, with a span that passes it and one that does not
 pub kept : (r p : SpanOf) → ◌≡◌ {A = Option SpanOf} (Some p) (bounded r) → (has_instant r ≡ true) × (r ≡ p)
 kept r p e = by_test (has_instant r) refl e
   where
@@ -53,7 +53,7 @@ not_kept r e = by_test (has_instant r) refl e
     by_test true h e = absurd cc
     by_test false h e = h
 
--- ---- what the code answers
+-- ---- the answers of the code
 
 abbrev whole_span : ℤ → Text → Option NotedSpan
 whole_span day bytes = all_of (within_blanks_at (noted_span_at day)) bytes

@@ -1,4 +1,4 @@
--- The texts of boxes as they are printed, and which of them are read again.
+-- The printed texts of boxes, and which of them read back.
 use Rattle.std.specs.Prelude.{[], ◌++◌, codes, Option, Some, None, IfSome, ℤ}
 use Rattle.mob_frac.specs.Fits.{Fits}
 use Rattle.mob_language.specs.Language.{Text}
@@ -35,7 +35,7 @@ pub record HasFittingSides (a : Area) : Type 0 where
   pub ymin : Fits a.ymin
   pub ymax : Fits a.ymax
 
--- the coordinates of a box fit, and its span lies in the years 0001 to 9999
+-- the coordinates of a box fit, and its span is in the years 0001 to 9999
 pub record HasDatedSides (day : ℤ) (b : BoxOf) : Type 0 where
   pub space : IfSome b.space HasFittingSides
   pub time : IfSome b.time (HasDatedEnds day)

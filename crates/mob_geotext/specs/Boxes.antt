@@ -1,10 +1,10 @@
 -- The texts of boxes, and their form.
 --
--- A box is the word STBOX, a blank or more, and one of X, T and XT, which says its dimensions.
--- Behind X stand two corners of its rectangle in brackets, behind T a span of time, and behind XT
--- the two corners in brackets of their own, a comma and the span. The corners may be any two
--- opposite ones. Letters may be small or capital, and blanks may stand beside each bracket and each
--- comma, and at both ends of the whole.
+-- A box is the word STBOX, at least one blank, and one of X, T and XT, which gives its dimensions.
+-- X is followed by two corners of the rectangle in brackets, T by a span of time in brackets, and
+-- XT by the two corners in brackets of their own, a comma and the span. The corners may be any two
+-- opposite ones. Letters may be in any case, and blanks may be beside each bracket and comma and at
+-- both ends.
 use Rattle.std.specs.Prelude.{◌≡◌, codes, Bool, false, cond, ◌&&◌, Option, Some, None, is_some, MatchOption, ℤ}
 use Rattle.mob_ratio.specs.Ratio.{Ratio}
 use Rattle.mob_language.specs.Language.{Text, Language, ◌▷◌, ◌∣◌, Means, Word, AnyCase, blanks, spaced, within_blanks}
@@ -25,21 +25,21 @@ use Rattle.mob_geotext.specs.declared.boxes.NotedCorners.{NotedCorners}
 use Rattle.mob_geotext.specs.declared.boxes.NotedBox.{NotedBox}
 use Rattle.mob_geotext.specs.declared.boxes.NotedBox.TheVariants.{Space, Time, Both}
 
--- an opening bracket; blanks may stand behind it
+-- an opening bracket, which blanks may follow
 abbrev pub open_bracket : Language (Unit {0})
 open_bracket = Means (λ (v : Unit {0} × Text). tt) (Word (codes "(") ▷ blanks)
 
 abbrev pub corner_said : Unit {0} × (Option Ratio × (Unit {0} × (Option Ratio × Unit {0}))) → Option Point
 corner_said v = point_of v.1.0 v.1.1.1.0
 
--- (x,y): it stands for the point, where both coordinates fit
+-- (x,y): the point, if both coordinates fit
 abbrev pub corner : Language (Option Point)
 corner = Means corner_said (open_bracket ▷ (number_value ▷ (comma ▷ (number_value ▷ close_bracket))))
 
 abbrev pub corners_said : Option Point × (Unit {0} × (Option Point × Unit {0})) → NotedCorners
 corners_said v = record { first = v.0; second = v.1.1.0 }
 
--- two corners with a comma between, and a closing bracket
+-- two corners with a comma between them, and a closing bracket
 abbrev pub corners : Language NotedCorners
 corners = Means corners_said (corner ▷ (comma ▷ (corner ▷ close_bracket)))
 
@@ -47,14 +47,14 @@ corners = Means corners_said (corner ▷ (comma ▷ (corner ▷ close_bracket)))
 abbrev pub closed_span : ℤ → Language NotedSpan
 closed_span day = Means (λ (v : NotedSpan × Unit {0}). v.0) (noted_span day ▷ close_bracket)
 
--- ((x,y),(x,y)) behind X
+-- ((x,y),(x,y)) after X
 abbrev pub space_said : Unit {0} × NotedCorners → NotedBox
 space_said v = Space v.1
 
 abbrev pub space_alone : Language NotedBox
 space_alone = Means space_said (spaced (codes "(") ▷ corners)
 
--- T(((x,y),(x,y)),span) behind X
+-- T(((x,y),(x,y)),span) after X
 abbrev pub both_said : Unit {0} × (Unit {0} × (Unit {0} × (NotedCorners × (Unit {0} × NotedSpan)))) → NotedBox
 both_said v = Both v.1.1.1.0 v.1.1.1.1.1
 
@@ -68,7 +68,7 @@ time_said v = Time v.1.1
 abbrev pub time_alone : ℤ → Language NotedBox
 time_alone day = Means time_said (AnyCase (codes "t") ▷ (spaced (codes "(") ▷ closed_span day))
 
--- X, and the space with or without time
+-- X and the rectangle, with or without a span
 abbrev pub with_space : ℤ → Language NotedBox
 with_space day = Means (λ (v : Unit {0} × NotedBox). v.1) (AnyCase (codes "x") ▷ (space_and_time day ∣ space_alone))
 
@@ -79,9 +79,9 @@ box_said v = v.1.1
 abbrev pub written_box : ℤ → Language NotedBox
 written_box day = Means box_said (AnyCase (codes "stbox") ▷ (some_blanks ▷ (time_alone day ∣ with_space day)))
 
--- ---- what a text says of a box
+-- ---- the value of the text of a box
 
--- the rectangle with these corners, where their coordinates fit
+-- the rectangle with these corners, if their coordinates fit
 abbrev pub area_of : NotedCorners → Option Area
 area_of c = c.first >>= λ p. c.second >>= λ q. Some (area_between p q)
 
@@ -94,7 +94,7 @@ has_sides (Space c) = has_corners c
 has_sides (Time s) = has_ends s
 has_sides (Both c s) = has_corners c && has_ends s
 
--- the box with such dimensions, where they are there
+-- the box with these dimensions, if they are given
 abbrev pub box_in_space : Option Area → Option BoxOf
 box_in_space area = area >>= λ a. Some (record { space = Some a; time = None })
 
@@ -104,13 +104,13 @@ box_in_time span = span >>= λ s. Some (record { space = None; time = Some s })
 abbrev pub box_in_both : Option Area → Option SpanOf → Option BoxOf
 box_in_both area span = area >>= λ a. span >>= λ s. Some (record { space = Some a; time = Some s })
 
--- the dimensions that are said, where all coordinates and ends fit
+-- the dimensions of the text, if all coordinates and ends fit
 abbrev pub sides_said : NotedBox → Option BoxOf
 sides_said (Space c) = box_in_space (area_of c)
 sides_said (Time s) = box_in_time (bounds_of s)
 sides_said (Both c s) = box_in_both (area_of c) (bounds_of s)
 
--- the form of boxes: it is unsound where no instant is in its span
+-- the form of boxes; a box is unsound if its span has no instant
 abbrev pub boxes : ℤ → TextForm NotedBox BoxOf
 boxes day = record {
   shape = within_blanks (written_box day);
@@ -149,12 +149,12 @@ with_space_at day = means_at (λ (v : Unit {0} × NotedBox). v.1) (then_at (any_
 unfoldable pub written_box_at : ℤ → TextReader NotedBox
 written_box_at day = means_at box_said (then_at (any_case_at (codes "stbox")) (then_at some_blanks_at (or_at (time_alone_at day) (with_space_at day))))
 
--- ---- what is made of them
+-- ---- what the code makes of them
 
--- a box, where some instant is in its span
+-- a box, if its span has an instant
 abbrev pub with_instant : BoxOf → Option BoxOf
 with_instant r = cond (span_stands r.time) (Some r) None
 
--- the box that is said, where all of its sides fit and some instant is in its span
+-- the box of the text, if all of its coordinates and ends fit and its span has an instant
 abbrev pub sound_box : NotedBox → Option BoxOf
 sound_box b = sides_said b >>= with_instant

@@ -1,4 +1,4 @@
--- The texts of polygons as they are printed, and which of them are read again.
+-- The printed texts of polygons, and which of them read back.
 use Rattle.std.specs.Prelude.{◌≡◌, ◌≤◌, List, [], ◌∷◌, ◌++◌, map, length, codes, true}
 use Rattle.std.specs.List.{join_with_byte}
 use Rattle.mob_frac.specs.Fits.{Fits}
@@ -8,7 +8,7 @@ use Rattle.mob_plane.specs.Rings.{are_sound}
 use Rattle.mob_plane.specs.Corners.{all_points}
 use Rattle.mob_plane.specs.declared.point.Point.{Point}
 
--- members in brackets, with a comma alone between each two
+-- members in brackets, separated by commas without spaces
 abbrev pub in_brackets : List Text → Text
 in_brackets texts = codes "(" ++ (join_with_byte 44 texts ++ codes ")")
 
@@ -29,8 +29,8 @@ abbrev pub HaveFittingCoordinates : List Point → Type 0
 HaveFittingCoordinates [] = Unit {0}
 HaveFittingCoordinates (p ∷ points) = (Fits p.x × Fits p.y) × HaveFittingCoordinates points
 
--- a polygon whose printed text is read again: it has at most 1,000 points, whose coordinates fit as
--- those of each polygon of the code do
+-- a polygon whose printed text reads back: it has at most 1,000 points, and their coordinates fit,
+-- as they do in every polygon of the code
 pub record IsReadablePolygon (rings : List (List Point)) : Type 0 where
   pub sound : are_sound rings ≡ true
   pub few : length (all_points rings) ≤ 1000

@@ -1,9 +1,9 @@
 -- The texts of polygons, and their form.
 --
--- A polygon is the word POLYGON, its letters small or capital, and its rings in brackets with
--- commas between. A ring is its points in brackets with commas between, and such a point is its two
--- coordinates with blanks between. Blanks may stand beside each bracket and comma, and at both ends
--- of the whole. `SRID=0;` may stand before it, as before a point.
+-- A polygon is the word POLYGON, in any letter case, and its rings in brackets with commas between
+-- them. A ring is its points in brackets with commas between them, and such a point is its two
+-- coordinates with blanks between them. Blanks may be beside each bracket and comma, and at both
+-- ends. `SRID=0;` may come before a polygon, as before a point.
 use Rattle.std.specs.Prelude.{◌≡◌, List, length, Bool, true, false, codes, nat_lt, Option, Some, None, MatchOption, flat_map}
 use Rattle.mob_ratio.specs.Ratio.{Ratio}
 use Rattle.mob_language.specs.Language.{Text, Language, ◌▷◌, Word, AnyCase, Means, Separated, blanks, in_middle, within_blanks}
@@ -24,7 +24,7 @@ within_brackets l = Means in_middle ((Word (codes "(") ▷ blanks) ▷ (l ▷ (b
 abbrev pub vertex_said : Option Ratio × (Unit {0} × Option Ratio) → Option Point
 vertex_said v = point_of v.0 v.1.1
 
--- a point of a ring, where both of its coordinates fit
+-- a point of a ring, if both of its coordinates fit
 abbrev pub vertex : Language (Option Point)
 vertex = Means vertex_said (number_value ▷ (some_blanks ▷ number_value))
 
@@ -32,7 +32,7 @@ vertex = Means vertex_said (number_value ▷ (some_blanks ▷ number_value))
 abbrev pub written_ring : Language (List (Option Point))
 written_ring = within_brackets (Separated vertex comma)
 
--- one ring or more
+-- one or more rings
 abbrev pub written_rings : Language (List (List (Option Point)))
 written_rings = within_brackets (Separated written_ring comma)
 
@@ -43,20 +43,20 @@ polygon_said v = v.1.1
 abbrev pub written_polygon : Language (List (List (Option Point)))
 written_polygon = Means polygon_said (AnyCase (codes "polygon") ▷ (blanks ▷ written_rings))
 
--- a polygon, before which SRID=0; may stand
+-- a polygon, with or without SRID=0; before it
 abbrev pub polygon_value : Language (List (List (Option Point)))
 polygon_value = behind_srid written_polygon
 
--- all rings together have more than 1,000 points
+-- the rings have more than 1,000 points in total
 abbrev pub has_many_points : List (List (Option Point)) → Bool
 has_many_points rings = nat_lt 1000 (length (flat_map (λ r. r) rings))
 
--- the rings, where each coordinate fits
+-- the rings, if each coordinate fits
 abbrev pub rings_said : List (List (Option Point)) → Option (List (List Point))
 rings_said rings = traverse (traverse (λ p. p)) rings
 
--- The form of polygons: long where there are more than 1,000 points, and unsound where a ring is
--- short or open.
+-- The form of polygons. A polygon is too long if it has more than 1,000 points, and unsound if a
+-- ring has fewer than four points or is open.
 abbrev pub polygons : TextForm (List (List (Option Point))) (List (List Point))
 polygons = record {
   shape = within_blanks polygon_value;
@@ -74,7 +74,7 @@ within_brackets_at r = means_at in_middle (then_at (then_at (word_at (codes "(")
 unfoldable pub vertex_at : TextReader (Option Point)
 vertex_at = means_at vertex_said (then_at number_value_at (then_at some_blanks_at number_value_at))
 
--- members in brackets, with commas between
+-- members in brackets, with commas between them
 unfoldable pub bracketed_at : {A : Type 0} → TextReader A → TextReader (List A)
 bracketed_at r = within_brackets_at (separated_at r comma_at)
 

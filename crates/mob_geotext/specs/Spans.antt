@@ -1,9 +1,9 @@
 -- The texts of spans of time and of span sets, and their forms.
 --
--- A span is an opening bracket, two moments with a comma between, and a closing bracket; a square
--- bracket includes its end. A span set is one span or more in braces, with commas between; its
--- spans may overlap, and stand in any order. Blanks may stand beside each of these signs, and at
--- both ends of the whole.
+-- A span is an opening bracket, two moments with a comma between them, and a closing bracket; a
+-- square bracket includes its end. A span set is one or more spans in braces, with commas between
+-- them. The spans may overlap and be in any order. Blanks may be beside each of these signs, and at
+-- both ends.
 use Rattle.std.specs.Prelude.{◌≡◌, ℕ, List, length, Bool, true, false, ◌&&◌, cond, nat_eq, nat_lt, Option, Some, None, is_some, MatchOption, ℤ}
 use Rattle.std.specs.List.{list_all}
 use Rattle.mob_ratio.specs.Ratio.{Ratio}
@@ -20,7 +20,7 @@ use Rattle.mob_geotext.specs.declared.noted.NotedSpan.{NotedSpan}
 abbrev pub span_said : ℕ × (Option Ratio × (Unit {0} × (Option Ratio × ℕ))) → NotedSpan
 span_said v = record { lower = v.1.0; upper = v.1.1.1.0; lower_inc = nat_eq v.0 91; upper_inc = nat_eq v.1.1.1.1 93 }
 
--- a span, with its ends counted from a day
+-- a span, with its ends counted from this day
 abbrev pub noted_span : ℤ → Language NotedSpan
 noted_span day = Means span_said (opening ▷ (moment_value day ▷ (comma ▷ (moment_value day ▷ closing))))
 
@@ -32,11 +32,11 @@ noted_spans day = within_braces (Separated (noted_span day) comma)
 abbrev pub has_ends : NotedSpan → Bool
 has_ends s = is_some s.lower && is_some s.upper
 
--- the span that is said, where both ends fit
+-- the span of the text, if both ends fit
 abbrev pub bounds_of : NotedSpan → Option SpanOf
 bounds_of s = s.lower >>= λ a. s.upper >>= λ b. Some (record { lower = a; upper = b; lower_inc = s.lower_inc; upper_inc = s.upper_inc })
 
--- the form of spans: it is unsound where no instant is in it
+-- the form of spans; a span is unsound if it has no instant
 abbrev pub spans : ℤ → TextForm NotedSpan SpanOf
 spans day = record {
   shape = within_blanks (noted_span day);
@@ -50,8 +50,8 @@ spans day = record {
 abbrev pub has_many_ends : List NotedSpan → Bool
 has_many_ends ss = nat_lt 50000 (length ss)
 
--- The form of span sets: unsound where no instant is in some span; it stands for the set of the
--- instants that some span has.
+-- The form of span sets. A set is unsound if one of its spans has no instant. Its value is the set
+-- of the instants in any of its spans.
 abbrev pub span_sets : ℤ → TextForm (List NotedSpan) (List SpanOf)
 span_sets day = record {
   shape = within_blanks (noted_spans day);
@@ -69,12 +69,12 @@ noted_span_at day = means_at span_said (then_at opening_at (then_at (moment_valu
 unfoldable pub noted_spans_at : ℤ → TextReader (List NotedSpan)
 noted_spans_at day = means_at in_middle (then_at open_brace_at (then_at (separated_at (noted_span_at day) comma_at) close_brace_at))
 
--- ---- what is made of them
+-- ---- what the code makes of them
 
--- a span, where some instant is in it
+-- a span, if it has an instant
 abbrev pub bounded : SpanOf → Option SpanOf
 bounded r = cond (has_instant r) (Some r) None
 
--- the span that is said, where both ends fit and some instant is in it
+-- the span of the text, if both ends fit and it has an instant
 abbrev pub sound_span : NotedSpan → Option SpanOf
 sound_span s = bounds_of s >>= bounded

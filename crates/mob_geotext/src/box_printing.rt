@@ -1,4 +1,4 @@
-//! Boxes, printed.
+//! Prints boxes.
 ghost use Rattle.std.specs.Prelude.{◌≡◌, ◌++◌, codes, OnOk, OnErr, string_bytes};
 ghost use Rattle.mob_geotext.specs.BoxText.{corner_text, corners_text, box_text};
 ghost use Rattle.mob_geotext.specs.SpanText.{span_text};
@@ -71,7 +71,8 @@ fn push_box(stbox: &StBox, epoch: &Epoch, into: &mut String) -> Result<(), Alloc
 }
 
 /// Appends the text of a box, its lesser corner first: `STBOX X((x,y),(x,y))`, `STBOX T(span)` or
-/// `STBOX XT(((x,y),(x,y)),span)`. After `Err` the text is as before.
+/// `STBOX XT(((x,y),(x,y)),span)`. An error means that an allocation failed; the text is then
+/// unchanged.
 pub fn write_stbox(stbox: &StBox, epoch: &Epoch, into: &mut String) -> Result<(), AllocError>
     ensures ok { OnOk result (string_bytes into.new ≡ string_bytes into.old ++ box_text epoch.now stbox.now) }
     ensures err { OnErr result (string_bytes into.new ≡ string_bytes into.old) }

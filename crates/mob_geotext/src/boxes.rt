@@ -1,4 +1,4 @@
-//! Boxes, read from their texts.
+//! Reads boxes from their texts.
 ghost use Rattle.std.specs.Prelude.{◌≡◌, ◌≢◌, option_map, Err, true, IfSome};
 ghost use Rattle.mob_language.specs.Readers.{all_of, within_blanks_at};
 ghost use Rattle.mob_numeral.specs.declared.fault.ReadText.TheVariants.{NoMemory};
@@ -14,17 +14,18 @@ use mob_scalar::{Epoch, ReadText};
 use mob_span::Span;
 use mob_stbox::{Area, StBox};
 
-/// What a text says of two opposite corners of a rectangle. A corner is None where a coordinate of
-/// it does not fit.
+/// Two opposite corners of a rectangle, as read. A corner is `None` if one of its coordinates does
+/// not fit.
 #[derive(Drop)]
 pub struct NotedCorners {
-    /// The one that is written first.
+    /// The corner that is written first.
     pub first: Option<Point>,
     /// The other one.
     pub second: Option<Point>,
 }
 
-/// What a text says of a box, before its sides are known to fit and its span to hold an instant.
+/// A box as read, before it is known that its coordinates and ends fit and that its span has an
+/// instant.
 #[derive(Drop)]
 pub enum NotedBox {
     /// A rectangle.
@@ -35,7 +36,7 @@ pub enum NotedBox {
     Both(NotedCorners, NotedSpan),
 }
 
-/// What stands behind an opening bracket and the blanks after it.
+/// The text after an opening bracket and optional blanks.
 #[tactic(auto, unfolding(crate::specs::Boxes::open_bracket_at))]
 fn open_bracket_at(bytes: &[u8]) -> Option<&[u8]>
     ensures read { option_map (λ rest. (tt, rest.now)) result ≡ open_bracket_in bytes.now }
@@ -46,7 +47,7 @@ fn open_bracket_at(bytes: &[u8]) -> Option<&[u8]>
     }
 }
 
-/// The corner in front, where its coordinates fit, and what stands behind it.
+/// Reads a corner at the front. Returns it, if its coordinates fit, and the rest of the text.
 #[tactic(auto, unfolding(crate::specs::Boxes::corner_at, mob_scalar::specs::Brackets::comma_at))]
 fn corner_at(bytes: &[u8]) -> Option<(Option<Point>, &[u8])>
     ensures read { option_map (λ x. (x.0, x.1.now)) result ≡ corner_in bytes.now }
@@ -63,7 +64,7 @@ fn corner_at(bytes: &[u8]) -> Option<(Option<Point>, &[u8])>
     Some((point_of(x, y), rest))
 }
 
-/// Two corners and a closing bracket, and what stands behind it.
+/// Reads two corners and a closing bracket. Returns the corners and the rest of the text.
 #[tactic(auto, unfolding(crate::specs::Boxes::corners_at, mob_scalar::specs::Brackets::comma_at))]
 fn corners_at(bytes: &[u8]) -> Option<(NotedCorners, &[u8])>
     ensures read { option_map (λ x. (x.0, x.1.now)) result ≡ corners_in bytes.now }
@@ -79,7 +80,7 @@ fn corners_at(bytes: &[u8]) -> Option<(NotedCorners, &[u8])>
     Some((NotedCorners { first, second }, rest))
 }
 
-/// A span and a closing bracket, and what stands behind it.
+/// Reads a span and a closing bracket. Returns the span and the rest of the text.
 #[tactic(auto, unfolding(crate::specs::Boxes::closed_span_at))]
 fn closed_span_at<'a>(epoch: &Epoch, bytes: &'a [u8]) -> Option<(NotedSpan, &'a [u8])>
     ensures read { option_map (λ x. (x.0, x.1.now)) result ≡ closed_span_in epoch.now bytes.now }
@@ -91,7 +92,7 @@ fn closed_span_at<'a>(epoch: &Epoch, bytes: &'a [u8]) -> Option<(NotedSpan, &'a 
     Some((span, rest))
 }
 
-/// The rectangle in brackets behind `X`, and what stands behind it.
+/// Reads the rectangle in brackets after `X`. Returns it and the rest of the text.
 #[tactic(auto, unfolding(crate::specs::Boxes::space_alone_at))]
 fn space_alone_at(bytes: &[u8]) -> Option<(NotedBox, &[u8])>
     ensures read { option_map (λ x. (x.0, x.1.now)) result ≡ space_alone_in bytes.now }
@@ -103,7 +104,8 @@ fn space_alone_at(bytes: &[u8]) -> Option<(NotedBox, &[u8])>
     Some((NotedBox::Space(corners), rest))
 }
 
-/// The letter `T` behind `X` and the two dimensions in brackets, and what stands behind them.
+/// Reads the letter `T` after `X`, and both dimensions in brackets. Returns them and the rest of
+/// the text.
 #[tactic(auto, unfolding(crate::specs::Boxes::space_and_time_at, mob_scalar::specs::Brackets::comma_at))]
 fn space_and_time_at<'a>(epoch: &Epoch, bytes: &'a [u8]) -> Option<(NotedBox, &'a [u8])>
     ensures read { option_map (λ x. (x.0, x.1.now)) result ≡ space_and_time_in epoch.now bytes.now }
@@ -121,7 +123,7 @@ fn space_and_time_at<'a>(epoch: &Epoch, bytes: &'a [u8]) -> Option<(NotedBox, &'
     Some((NotedBox::Both(corners, span), rest))
 }
 
-/// The letter `T` and a span in brackets, and what stands behind it.
+/// Reads the letter `T` and a span in brackets. Returns the span and the rest of the text.
 #[tactic(auto, unfolding(crate::specs::Boxes::time_alone_at))]
 fn time_alone_at<'a>(epoch: &Epoch, bytes: &'a [u8]) -> Option<(NotedBox, &'a [u8])>
     ensures read { option_map (λ x. (x.0, x.1.now)) result ≡ time_alone_in epoch.now bytes.now }
@@ -134,7 +136,8 @@ fn time_alone_at<'a>(epoch: &Epoch, bytes: &'a [u8]) -> Option<(NotedBox, &'a [u
     Some((NotedBox::Time(span), rest))
 }
 
-/// The letter `X` and the rectangle, with or without time, and what stands behind it.
+/// Reads the letter `X` and the rectangle, with or without a span. Returns the box and the rest of
+/// the text.
 #[tactic(auto, unfolding(crate::specs::Boxes::with_space_at))]
 fn with_space_at<'a>(epoch: &Epoch, bytes: &'a [u8]) -> Option<(NotedBox, &'a [u8])>
     ensures read { option_map (λ x. (x.0, x.1.now)) result ≡ with_space_in epoch.now bytes.now }
@@ -149,7 +152,7 @@ fn with_space_at<'a>(epoch: &Epoch, bytes: &'a [u8]) -> Option<(NotedBox, &'a [u
     Some((noted, after))
 }
 
-/// The box in front, as it is written, and what stands behind it.
+/// Reads a box at the front, as written. Returns it and the rest of the text.
 #[tactic(auto, unfolding(crate::specs::Boxes::written_box_at))]
 fn written_box_at<'a>(epoch: &Epoch, bytes: &'a [u8]) -> Option<(NotedBox, &'a [u8])>
     ensures read { option_map (λ x. (x.0, x.1.now)) result ≡ written_box_in epoch.now bytes.now }
@@ -165,7 +168,7 @@ fn written_box_at<'a>(epoch: &Epoch, bytes: &'a [u8]) -> Option<(NotedBox, &'a [
     Some((noted, after))
 }
 
-/// All of the bytes, as a box with blanks at its ends.
+/// Reads all of the bytes as a box with optional blanks at both ends.
 fn noted_in_all(epoch: &Epoch, bytes: &[u8]) -> Option<NotedBox>
     ensures value { result ≡ all_of (within_blanks_at (written_box_in epoch.now)) bytes.now }
 {
@@ -196,7 +199,7 @@ fn has_sides(noted: &NotedBox) -> bool
     }
 }
 
-/// The rectangle between the corners, where their coordinates fit.
+/// The rectangle between the corners; `None` if a coordinate does not fit.
 fn area_of(corners: NotedCorners) -> Option<Area>
     ensures value { result ≡ area_said corners }
     ensures area { IfSome result (λ a. is_area a ≡ true) }
@@ -207,7 +210,7 @@ fn area_of(corners: NotedCorners) -> Option<Area>
     Some(Area::between(&one, &other))
 }
 
-/// The box with this rectangle.
+/// The box with this rectangle; `None` if there is none.
 fn box_in_space(area: Option<Area>) -> Option<StBox>
     requires area { IfSome area (λ a. is_area a ≡ true) }
     ensures value { result ≡ in_space area }
@@ -215,14 +218,14 @@ fn box_in_space(area: Option<Area>) -> Option<StBox>
     StBox::new(Some(area?), None)
 }
 
-/// The box with this span.
+/// The box with this span; `None` if there is none.
 fn box_in_time(span: Option<Span>) -> Option<StBox>
     ensures value { result ≡ in_time span }
 {
     StBox::new(None, Some(span?))
 }
 
-/// The box with this rectangle and this span.
+/// The box with this rectangle and this span; `None` if either is missing.
 fn box_in_both(area: Option<Area>, span: Option<Span>) -> Option<StBox>
     requires area { IfSome area (λ a. is_area a ≡ true) }
     ensures value { result ≡ in_both area span }
@@ -230,7 +233,7 @@ fn box_in_both(area: Option<Area>, span: Option<Span>) -> Option<StBox>
     StBox::new(Some(area?), Some(span?))
 }
 
-/// The box, where its sides fit and some instant is in its span.
+/// The box; `None` if a coordinate or an end does not fit, or its span has no instant.
 fn box_of(noted: NotedBox) -> Option<StBox>
     ensures value { result ≡ sound_box noted }
 {
@@ -241,13 +244,14 @@ fn box_of(noted: NotedBox) -> Option<StBox>
     }
 }
 
-/// The box that a text says. Instants count from midnight UTC of the epoch's day.
+/// Reads a box from its text, which has the form of MobilityDB. Instants are in seconds since
+/// midnight UTC of the epoch day.
 ///
-/// A box is `STBOX X((x,y),(x,y))`, `STBOX T(span)` or `STBOX XT(((x,y),(x,y)),span)`, its letters
-/// small or capital. The corners may be any two opposite ones. Blanks may stand beside each bracket
-/// and comma and at both ends, and one or more stand behind `STBOX`. The faults in order: `NotText`
-/// for any other text, `TooLarge` where a coordinate or an end has more than 62 bits, and `Unsound`
-/// where no instant is in the span. It takes no memory.
+/// A box is `STBOX X((x,y),(x,y))`, `STBOX T(span)` or `STBOX XT(((x,y),(x,y)),span)`, in any
+/// letter case. The corners may be any two opposite ones. Blanks may be beside each bracket and
+/// comma and at both ends, and at least one follows `STBOX`. The faults, in this order: `NotText`
+/// for any other text, `TooLarge` if a coordinate or an end has more than 62 bits, and `Unsound` if
+/// the span has no instant. It takes no memory.
 pub fn read_stbox(text: &str, epoch: &Epoch) -> Result<StBox, ReadText>
     ensures reading { Lit (boxes epoch.now) text.now result }
     ensures memory { result ≢ Err NoMemory }

@@ -1,5 +1,5 @@
-//! Texts of points, of polygons, of spans of time, of span sets and of boxes, each read exactly and
-//! printed.
+//! Reads the texts of points, polygons, spans of time, span sets and boxes exactly, and prints
+//! them.
 #![tactic(auto)]
 
 mod box_laws;

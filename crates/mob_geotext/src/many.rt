@@ -1,4 +1,4 @@
-//! Span sets, read from their texts.
+//! Reads span sets from their texts.
 ghost use Rattle.std.specs.Prelude.{◌≡◌, option_map, Option, IfOk};
 ghost use Rattle.std.specs.List.{list_all};
 ghost use Rattle.mob_language.specs.Readers.{all_of, separated_at as separated_in, within_blanks_at};
@@ -14,7 +14,7 @@ use mob_scalar::{Epoch, ReadText, fitting_each, separated_at};
 use mob_span::{Span, SpanSet};
 use std::alloc::{AllocError, Global};
 
-/// Spans with commas between, and what stands behind them.
+/// Reads spans with commas between them. Returns them and the rest of the text.
 fn listed_at<'a>(
     alloc: Global,
     epoch: &Epoch,
@@ -25,7 +25,7 @@ fn listed_at<'a>(
     separated_at(alloc, |rest| Ok(noted_span_at(epoch, rest)), bytes)
 }
 
-/// Spans in braces, and what stands behind them.
+/// Reads spans in braces. Returns them and the rest of the text.
 #[tactic(auto, unfolding(crate::specs::Spans::noted_spans_at, mob_scalar::specs::Brackets::open_brace_at, mob_scalar::specs::Brackets::close_brace_at))]
 fn noted_spans_at<'a>(
     alloc: Global,
@@ -46,7 +46,7 @@ fn noted_spans_at<'a>(
     }
 }
 
-/// All of the bytes, as spans in braces with blanks at both ends.
+/// Reads all of the bytes as spans in braces with optional blanks at both ends.
 fn noted_in_all(
     alloc: Global,
     epoch: &Epoch,
@@ -77,19 +77,20 @@ fn all_have_ends(noted: &[NotedSpan]) -> bool
     noted.iter().all(|span| has_ends(span))
 }
 
-/// The spans, where each of them has an instant.
+/// The spans; `None` if one of them has no instant, or an end that does not fit.
 fn spans_of(alloc: Global, noted: Vec<NotedSpan>) -> Result<Option<Vec<Span>>, AllocError>
     ensures made { IfOk result (λ o. option_map (λ v. v.items) o ≡ traverse sound_span noted.items) }
 {
     fitting_each(alloc, noted, |span| Ok(span_of(span)))
 }
 
-/// The set of instants that a text says. Instants count from midnight UTC of the epoch's day.
+/// Reads a span set from its text, which has the form of MobilityDB. Instants are in seconds since
+/// midnight UTC of the epoch day.
 ///
-/// A span set is one span or more in braces, with commas between. They may overlap, and stand in
-/// any order. The faults in order: `NotText` for any other text, `Limit` where the spans have more
-/// than 100,000 ends, `TooLarge` where an end has more than 62 bits, and `Unsound` where no instant
-/// is in some span.
+/// A span set is one or more spans in braces, with commas between them. They may overlap and be in
+/// any order. The faults, in this order: `NotText` for any other text, `Limit` if the spans have
+/// more than 100,000 ends, `TooLarge` if an end has more than 62 bits, and `Unsound` if a span has
+/// no instant. `NoMemory` if an allocation fails.
 pub fn read_span_set(alloc: Global, text: &str, epoch: &Epoch) -> Result<SpanSet, ReadText>
     ensures reading { Lit (span_sets epoch.now) text.now result }
 {

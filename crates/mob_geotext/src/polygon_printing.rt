@@ -1,4 +1,4 @@
-//! Polygons, printed.
+//! Prints polygons.
 ghost use Rattle.std.specs.Prelude.{◌≡◌, ◌++◌, map, OnOk, OnErr, string_bytes};
 ghost use Rattle.std.specs.List.{join_with_byte};
 ghost use Rattle.mob_plane.specs.Rings.{rings_of};
@@ -16,7 +16,7 @@ fn push_vertex(point: &Point, into: &mut String) -> Result<(), AllocError>
     write_number(&point.y, into)
 }
 
-/// The points, with a comma between each two.
+/// Appends the points, with commas between them.
 fn push_vertices(points: &[Point], into: &mut String) -> Result<(), AllocError>
     ensures written { OnOk result (string_bytes into.new ≡ string_bytes into.old ++ join_with_byte 44 (map vertex_text points.now)) }
 {
@@ -39,7 +39,7 @@ fn push_ring(ring: &[Point], into: &mut String) -> Result<(), AllocError>
     into.push_str(")")
 }
 
-/// The rings, with a comma between each two.
+/// Appends the rings, with commas between them.
 fn push_rings(rings: &[Vec<Point>], into: &mut String) -> Result<(), AllocError>
     ensures written { OnOk result (string_bytes into.new ≡ string_bytes into.old ++ join_with_byte 44 (map ring_text (rings_of rings.now))) }
 {
@@ -62,8 +62,8 @@ fn push_polygon(rings: &[Vec<Point>], into: &mut String) -> Result<(), AllocErro
     into.push_str(")")
 }
 
-/// Appends the text of a polygon, `POLYGON((x y,x y,x y,x y),(x y,x y,x y,x y))`. After `Err` the
-/// text is as before.
+/// Appends the text of a polygon, `POLYGON((x y,x y,x y,x y),(x y,x y,x y,x y))`. An error means
+/// that an allocation failed; the text is then unchanged.
 pub fn write_polygon(polygon: &Polygon, into: &mut String) -> Result<(), AllocError>
     ensures ok { OnOk result (string_bytes into.new ≡ string_bytes into.old ++ polygon_text polygon.now) }
     ensures err { OnErr result (string_bytes into.new ≡ string_bytes into.old) }

@@ -1,4 +1,4 @@
-//! Polygons, read from their texts.
+//! Reads polygons from their texts.
 ghost use Rattle.std.specs.Prelude.{◌≡◌, [], option_map, Option, IfOk};
 ghost use Rattle.mob_language.specs.Readers.{all_of, within_blanks_at, separated_at as separated_in};
 ghost use Rattle.mob_numeral.specs.Verdict.{Lit};
@@ -15,7 +15,7 @@ use mob_points::{point_of, srid_zero_at};
 use mob_scalar::{ReadText, separated_at};
 use std::alloc::{AllocError, Global};
 
-/// The point of two numbers, where both fit, and what stands behind it.
+/// Reads two numbers. Returns their point, if both fit, and the rest of the text.
 #[tactic(auto, unfolding(crate::specs::Polygons::vertex_at))]
 fn vertex_at(bytes: &[u8]) -> Option<(Option<Point>, &[u8])>
     ensures read { option_map (λ x. (x.0, x.1.now)) result ≡ vertex_in bytes.now }
@@ -30,7 +30,7 @@ fn vertex_at(bytes: &[u8]) -> Option<(Option<Point>, &[u8])>
     Some((point_of(x, y), rest))
 }
 
-/// Points with commas between, and what stands behind them.
+/// Reads points with commas between them. Returns them and the rest of the text.
 fn vertices_at<'a>(
     alloc: Global,
     bytes: &'a [u8],
@@ -40,7 +40,7 @@ fn vertices_at<'a>(
     separated_at(alloc, |rest| Ok(vertex_at(rest)), bytes)
 }
 
-/// The ring in front, and what stands behind it.
+/// Reads a ring at the front. Returns it and the rest of the text.
 #[tactic(auto, unfolding(crate::specs::Polygons::bracketed_at))]
 fn ring_at<'a>(
     alloc: Global,
@@ -60,7 +60,7 @@ fn ring_at<'a>(
     }
 }
 
-/// Rings with commas between, and what stands behind them.
+/// Reads rings with commas between them. Returns them and the rest of the text.
 fn listed_rings_at<'a>(
     alloc: Global,
     bytes: &'a [u8],
@@ -70,7 +70,7 @@ fn listed_rings_at<'a>(
     separated_at(alloc, |rest| ring_at(alloc, rest), bytes)
 }
 
-/// Rings in brackets, and what stands behind them.
+/// Reads rings in brackets. Returns them and the rest of the text.
 #[tactic(auto, unfolding(crate::specs::Polygons::bracketed_at))]
 fn rings_at<'a>(
     alloc: Global,
@@ -90,7 +90,7 @@ fn rings_at<'a>(
     }
 }
 
-/// The rings of the polygon in front, and what stands behind it.
+/// Reads a polygon at the front. Returns its rings and the rest of the text.
 #[tactic(auto, unfolding(crate::specs::Polygons::written_polygon_at))]
 fn written_polygon_at<'a>(
     alloc: Global,
@@ -104,7 +104,8 @@ fn written_polygon_at<'a>(
     rings_at(alloc, blanks(rest).1)
 }
 
-/// The rings of the polygon in front, before which `SRID=0;` may stand, and what stands behind it.
+/// Reads a polygon at the front, with or without `SRID=0;` before it. Returns its rings and the
+/// rest of the text.
 #[tactic(auto, unfolding(crate::specs::Polygons::polygon_value_at, mob_points::specs::Points::behind_srid_at))]
 fn polygon_value_at<'a>(
     alloc: Global,
@@ -116,7 +117,7 @@ fn polygon_value_at<'a>(
     written_polygon_at(alloc, rest)
 }
 
-/// All of the bytes, as the rings of a polygon with blanks at its ends.
+/// Reads all of the bytes as a polygon with optional blanks at both ends. Returns its rings.
 fn rings_in_all(
     alloc: Global,
     bytes: &[u8],
@@ -132,7 +133,7 @@ fn rings_in_all(
     }
 }
 
-/// Whether the rings have more than 1,000 points together.
+/// Whether the rings have more than 1,000 points in total.
 fn has_many_points(rings: &[Items<Option<Point>>]) -> bool
     ensures value { result ≡ many_points rings.now }
 {
@@ -146,7 +147,7 @@ fn has_many_points(rings: &[Items<Option<Point>>]) -> bool
     false
 }
 
-/// The points of a ring, where all of them are there.
+/// The points of a ring; `None` if one of them does not fit.
 fn fitting_ring(alloc: Global, ring: &[Option<Point>]) -> Result<Option<Vec<Point>>, AllocError>
     ensures made { IfOk result (λ o. option_map (λ v. v.items) o ≡ traverse (λ p. p) ring.now) }
 {
@@ -160,7 +161,7 @@ fn fitting_ring(alloc: Global, ring: &[Option<Point>]) -> Result<Option<Vec<Poin
     Ok(Some(points))
 }
 
-/// The points of all rings, where all of them are there.
+/// The points of all rings; `None` if one of them does not fit.
 fn fitting_rings(
     alloc: Global,
     rings: &[Items<Option<Point>>],
@@ -177,15 +178,15 @@ fn fitting_rings(
     Ok(Some(fitting))
 }
 
-/// The polygon that a text says.
+/// Reads a polygon from its text, which has the form of WKT.
 ///
-/// A polygon is `POLYGON((x y,x y,x y,x y),(x y,x y,x y,x y))`, its letters small or capital, of
-/// one ring or more, each of one point or more, with numbers as `read_number` reads them. Blanks
-/// may stand beside each bracket and comma and at both ends, and one or more stand between the two
-/// numbers of a point. `SRID=0;` may stand before it. The faults in order: `NotText` for any other
-/// text, `Limit` where the rings have more than 1,000 points together, `TooLarge` where a
-/// coordinate has more than 62 bits, and `Unsound` where a ring has fewer than four points, or its
-/// first and last points differ.
+/// A polygon is `POLYGON((x y,x y,x y,x y),(x y,x y,x y,x y))`, in any letter case, with one or
+/// more rings of one or more points each, and with numbers as `read_number` reads them. Blanks may
+/// be beside each bracket and comma and at both ends, and at least one is between the two numbers
+/// of a point. `SRID=0;` may come before it. The faults, in this order: `NotText` for any other
+/// text, `Limit` if the rings have more than 1,000 points in total, `TooLarge` if a coordinate has
+/// more than 62 bits, and `Unsound` if a ring has fewer than four points or its first and last
+/// points differ. `NoMemory` if an allocation fails.
 pub fn read_polygon(alloc: Global, text: &str) -> Result<Polygon, ReadText>
     ensures reading { Lit polygons text.now result }
 {

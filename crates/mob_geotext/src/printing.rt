@@ -1,4 +1,4 @@
-//! Spans and span sets, printed.
+//! Prints spans and span sets.
 ghost use Rattle.std.specs.Prelude.{◌≡◌, ◌++◌, map, cond, codes, OnOk, OnErr, string_bytes};
 ghost use Rattle.mob_scalar.specs.Brackets.{with_commas};
 ghost use Rattle.mob_geotext.specs.SpanText.{span_text, span_set_text};
@@ -37,7 +37,7 @@ fn push_span(span: &Span, epoch: &Epoch, into: &mut String) -> Result<(), AllocE
     push_closing(span.upper_inc(), into)
 }
 
-/// The spans, with a comma between each two.
+/// Appends the spans, with commas between them.
 fn push_spans(spans: &[Span], epoch: &Epoch, into: &mut String) -> Result<(), AllocError>
     ensures written { OnOk result (string_bytes into.new ≡ string_bytes into.old ++ with_commas (map (span_text epoch.now) spans.now)) }
 {
@@ -60,8 +60,8 @@ fn push_span_set(spans: &[Span], epoch: &Epoch, into: &mut String) -> Result<(),
     into.push_str("}")
 }
 
-/// Appends the text of a span: two moments in brackets, of which a square one includes its end.
-/// After `Err` the text is as before.
+/// Appends the text of a span: two moments between brackets; a square bracket includes its end. An
+/// error means that an allocation failed; the text is then unchanged.
 pub fn write_span(span: &Span, epoch: &Epoch, into: &mut String) -> Result<(), AllocError>
     ensures ok { OnOk result (string_bytes into.new ≡ string_bytes into.old ++ span_text epoch.now span.now) }
     ensures err { OnErr result (string_bytes into.new ≡ string_bytes into.old) }
@@ -71,7 +71,8 @@ pub fn write_span(span: &Span, epoch: &Epoch, into: &mut String) -> Result<(), A
     into.push_str(text.as_str())
 }
 
-/// Appends the text of a span set: its spans in braces. After `Err` the text is as before.
+/// Appends the text of a span set: its spans in braces. An error means that an allocation failed;
+/// the text is then unchanged.
 pub fn write_span_set(set: &SpanSet, epoch: &Epoch, into: &mut String) -> Result<(), AllocError>
     ensures ok { OnOk result (string_bytes into.new ≡ string_bytes into.old ++ span_set_text epoch.now set.now) }
     ensures err { OnErr result (string_bytes into.new ≡ string_bytes into.old) }

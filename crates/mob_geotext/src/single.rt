@@ -1,4 +1,4 @@
-//! Spans, read from their texts.
+//! Reads spans from their texts.
 ghost use Rattle.std.specs.Prelude.{◌≡◌, ◌≢◌, Err};
 ghost use Rattle.mob_language.specs.Readers.{all_of, within_blanks_at};
 ghost use Rattle.mob_numeral.specs.declared.fault.ReadText.TheVariants.{NoMemory};
@@ -10,7 +10,7 @@ use mob_numeral::blanks;
 use mob_scalar::{Epoch, ReadText};
 use mob_span::Span;
 
-/// All of the bytes, as a span with blanks at its ends.
+/// Reads all of the bytes as a span with optional blanks at both ends.
 fn noted_in_all(epoch: &Epoch, bytes: &[u8]) -> Option<NotedSpan>
     ensures value { result ≡ all_of (within_blanks_at (noted_span_in epoch.now)) bytes.now }
 {
@@ -23,12 +23,13 @@ fn noted_in_all(epoch: &Epoch, bytes: &[u8]) -> Option<NotedSpan>
     }
 }
 
-/// The span of time that a text says. Instants count from midnight UTC of the epoch's day.
+/// Reads a span of time from its text, which has the form of MobilityDB. Instants are in seconds
+/// since midnight UTC of the epoch day.
 ///
-/// A span is `[` or `(`, two moments with a comma between, and `]` or `)`. A square bracket
-/// includes its end. Blanks may stand beside each sign and at both ends. The faults in order:
-/// `NotText` for any other text, `TooLarge` where an end has more than 62 bits, and `Unsound` where
-/// no instant is in the span. It takes no memory.
+/// A span is `[` or `(`, two moments with a comma between them, and `]` or `)`. A square bracket
+/// includes its end. Blanks may be beside each sign and at both ends. The faults, in this order:
+/// `NotText` for any other text, `TooLarge` if an end has more than 62 bits, and `Unsound` if the
+/// span has no instant. It takes no memory.
 pub fn read_span(text: &str, epoch: &Epoch) -> Result<Span, ReadText>
     ensures reading { Lit (spans epoch.now) text.now result }
     ensures memory { result ≢ Err NoMemory }

@@ -1,4 +1,4 @@
--- The productions of statements are read.
+-- The readers of statements are lawful and read every text of their productions.
 use Rattle.std.proofs.Common.{◌≡◌, ◌∙◌, rules, inl, inr, ℕ, suc, length, ◌++◌, List, [], ◌∷◌, true, false, cond, Some, None, Ok, Err, refl, sym, ap, ap₂, subst, ◌<◌, ◌≤◌, ◌+◌, Bool, Option, arith}
 use Rattle.std.proofs.lemmas.Bool.{eq-eqb}
 use Rattle.mob_ast.specs.declared.types.Word.{Word}
@@ -21,7 +21,7 @@ use Rattle.mob_grammar.specs.Marks.{is, strength, clause}
 use Rattle.mob_grammar.proofs.Complete.{Stops, head_not, stops_mark}
 use Rattle.mob_grammar.proofs.ReadRules.{Complete, AtEnd, AtMark, Clause, Free, IsRead, NoDistinct, NoOpen, Piece, built_keeps, read_behind, read_built, read_closed, read_either, read_expression, read_if, read_list, read_mark, read_mark_leaf, read_name, read_number, read_plus_or_minus, read_string, read_then, read_type, read_weaker}
 
--- what may follow what
+-- what may follow a production
 other_mark : (m k : Mark) → is m k ≡ false → (r : List PlacedSymbol) → starts m r ≡ true → starts k r ≡ false
 other_mark m k e [] h = refl
 other_mark m k e (t ∷ r) h = ap (is_sign k) (token_is m t h) ∙ e
@@ -78,7 +78,7 @@ piece_other : (m : Mark) → is Comma m ≡ false → clause m < 1 → (r : List
 piece_other m e low r (inl h) = other_mark Comma m e r h
 piece_other m e low r (inr h) = clause_other 1 m r low h
 
--- what a mark begins ends an expression, where it binds nothing
+-- a mark that binds nothing ends an expression
 mark_ends : (m : Mark) → strength m ≡ 0 → (l : List PlacedSymbol) (p : ℕ) (u : List PlacedSymbol) → l ≡ sign m p ∷ u → Stops disjunction l
 mark_ends m loose l p u e = subst (Stops disjunction) (sym e) (omega arith)
 
@@ -91,7 +91,7 @@ direction_ends l a u (inl d) h = mark_ends Asc refl l d.0 d.1 d.2
 direction_ends l a u (inr (inl d)) h = mark_ends Desc refl l d.0 d.1 d.2
 direction_ends l a u (inr (inr d)) h = piece_ends l (subst Piece (sym d.1) h)
 
--- what follows a second name that may be left out, and tables that may be joined
+-- what may follow an optional second name, and an optional list of joined tables
 abbrev NoSecond : List PlacedSymbol → Type 0
 NoSecond r = (begins is_name r ≡ false) × (starts As r ≡ false)
 
@@ -159,7 +159,7 @@ signed_begins : {l r : List PlacedSymbol} {y : Tree} → FromSign l y r → begi
 signed_begins (inl d) = ap (begins is_string) d.2.0 ∙ plus_no_string d.0 d.2.1
 signed_begins (inr d) = number_begins is_string (λ w p. refl) (λ w p. refl) (λ p. refl) (λ p. refl) (λ p. refl) d
 
--- the parts of a SELECT
+-- the clauses of a SELECT
 part_keeps : {A : Type 0} (m : Mark) (k : ℕ) (F : Production A) (v : A) → clause m ≡ k → {l u : List PlacedSymbol} {x : A} → (m ▸ F ∣ Builds v) l x u → Clause (k + 1) u → Clause k l
 part_keeps m k F v e (inl d) h = subst (Clause k) (sym d.2) (omega arith)
 part_keeps m k F v e (inr d) h = let same = ap clause_at d.1 in omega arith
@@ -338,7 +338,7 @@ pub read_one : IsRead ((Phrase disjunction) ⇒ λ v_e. (Alias ⇒ λ v_a. (Buil
 unfolding one_item_at
 read_one = read_then (Phrase disjunction) (λ v_e. (Alias ⇒ λ v_a. (Builds (one v_e v_a)))) expression_at (λ v_e. (λ l. ((alias_at l) >>= λ x31. Ok (one v_e x31.0, x31.1)))) (Stops disjunction) Piece read_expression (λ v_e. (read_then Alias (λ v_a. (Builds (one v_e v_a))) alias_at (λ v_a. (λ l. Ok (one v_e v_a, l))) Piece Piece read_alias (λ v_a. (read_built Piece (one v_e v_a))) (λ x l y r d h. built_keeps Piece d h))) (λ x l y r d h. alias_ends l d.0 d.1 d.2 (subst Piece (sym d.3.1) h))
 
--- count(*), told from an expression by three tokens
+-- count(*), distinguished from an expression by three tokens
 abbrev OneItem : Production ItemParts
 OneItem = Phrase disjunction ⇒ λ v_e. Alias ⇒ λ v_a. Builds (one v_e v_a)
 
@@ -397,7 +397,7 @@ item_left : Answer ItemParts → List PlacedSymbol
 item_left (Ok x) = x.1
 item_left (Err r) = r
 
--- a name alone, and a call without arguments, are items
+-- a name alone and a call without arguments are items
 name_item : (n : List ℕ) (p : ℕ) → item_left (one_item_at (identifier n p ∷ [])) ≡ []
 unfolding item_left
 name_item n p = ap item_left (read_one.complete (identifier n p ∷ []) _ [] (_, [], up (up (up (up (up (up (up (up (up (up (up a_column)))))))))), (None, [], inr (refl, refl), (refl, refl))) (inr (omega arith)))
@@ -409,7 +409,8 @@ call_item n p q s = ap item_left (read_one.complete (identifier n p ∷ (sign Op
 not_left : (t : PlacedSymbol) (l : List PlacedSymbol) (a : Answer ItemParts) → item_left a ≡ t ∷ l → item_left a ≡ [] → ⊥
 not_left t l a h k = let e : ◌≡◌ {A = List PlacedSymbol} (t ∷ l) [] = sym h ∙ k in cc
 
--- what an item was read of stays none of count(*), whatever follows that begins alike
+-- the tokens that an item was read from do not become those of count(*), whatever follows that
+-- begins alike
 still_one : (taken r y : List PlacedSymbol) → Alike r y → counts_all (taken ++ r) ≡ false → ((z : List PlacedSymbol) → Alike r z → item_left (one_item_at (taken ++ z)) ≡ z) → counts_all (taken ++ y) ≡ false
 still_one taken [] (t ∷ y) a clean left = absurd a
 still_one taken (t ∷ r) [] a clean left = absurd a
@@ -467,7 +468,8 @@ value_tells l = elim (told (counts_all l)) [
   | inr none_there ↦ subst (Tells (CountItem ∣ OneItem) (λ m. value_item_at) l) (sym (value_one l none_there)) (one_tells l none_there (one_item_at l) (read_one.lawful (suc (length l)) l (omega arith)))
 ]
 
--- no phrase begins with the tokens of count(*), but the bare name with an open bracket behind
+-- no phrase begins with the tokens of count(*), except the bare name if an opening bracket follows
+-- it
 chains_no_open : (k : Rank) (t : PlacedSymbol) → chains k t ≡ true → is_sign Open t ≡ true → ⊥
 chains_no_open k t c h = let e = token_is Open t h in let f : chains k (sign Open t.place) ≡ true = subst (λ v. chains k v ≡ true) e c in no k t.place f where
   no : (k : Rank) (p : ℕ) → chains k (sign Open p) ≡ true → ⊥

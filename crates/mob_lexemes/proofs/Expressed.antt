@@ -1,5 +1,5 @@
--- The walk along the statements of a script: what is counted as one expression is one of the
--- grammar.
+-- The walk along the statements of a script: each run of tokens that is counted as one expression
+-- is an expression of the grammar.
 use Rattle.std.proofs.Common.{◌≡◌, ◌==◌, ◌≤◌, ◌⊎◌, ◌↔◌, inl, inr, ℕ, List, [], ◌∷◌, Bool, true, false, cond, Option, refl, sym, ap, subst, ◌∙◌, arith}
 use Rattle.std.specs.Prelude.{codes}
 use Rattle.mob_ast.specs.declared.types.Word.{Word}
@@ -19,7 +19,7 @@ use Rattle.mob_lexemes.specs.Heavy.{begins_expressions, ends, selects_after, no_
 use Rattle.mob_lexemes.specs.Weighed.{IsLightJoined, AreLightJoins, IsLightSource, IsLightFrom, IsLightDelete, phrase_weight, AllLight, IsLightItem, IsLightKey, IsLightWhere, AreLightKeys, IsLightSelect, IsLightStatement, ExpressionsAreTheGrammars}
 use Rattle.mob_lexemes.proofs.Walked.{Light, at, behind, quiet, never, name_quiet, Clear, along, none_light, column_is, symbol_operator, joins}
 
--- ---- where nothing is selected, nothing is counted
+-- ---- outside SELECT and DELETE nothing is counted
 idle_counts : (s : TokenStanding) → s.selects ≡ false → (x : Symbol) (l : List PlacedSymbol) → counts s x l ≡ false
 idle_counts s h (fixed m) l = ap (λ b. cond b (mark_counts m) false) h
 idle_counts s h (name n) l = ap (λ b. cond b (is_function s.no_call l) false) h
@@ -54,7 +54,7 @@ idle_after (name n) h = refl
 idle_after (number n) h = refl
 idle_after (quoted c) h = refl
 
--- so the standing does not matter there
+-- there the position does not matter
 idle_same : (s z : TokenStanding) (l : List PlacedSymbol) → s.selects ≡ false → z.selects ≡ false → Light s l → Light z l
 idle_same s z [] hs hz k = tt
 idle_same s z (t ∷ l) hs hz k =
@@ -87,11 +87,11 @@ skip t l h = record {
   back = λ k. (refl, idle_same outside (standing_after outside t.symbol l) l refl (idle_after t.symbol h) k);
 }
 
--- the first token of l begins no expressions, and what stands behind it is m
+-- the first token of l begins no expressions, and m follows it
 skip_at : {t : PlacedSymbol} {l m : List PlacedSymbol} → l ≡ t ∷ m → is_start t ≡ false → Same outside l m
 skip_at {t = t} {m = m} e h = follow (same_tokens e) (skip t m h)
 
--- a form of other statements
+-- a production of another statement
 abbrev Skips : {A : Type 0} → Production A → Type 0
 Skips {A} F = (l : List PlacedSymbol) (x : A) (r : List PlacedSymbol) → F l x r → Same outside l r
 
@@ -151,7 +151,7 @@ copy_skips : Skips CopyFile
 copy_skips l x r (table, m, d, (p, n, e, (file, o, f, (delimiter, q, g, (y, z))))) =
     follow (skip_at d refl) (follow (skip_at e refl) (follow (skip_at f refl) (follow (form_skips o delimiter q g) (same_tokens z))))
 
--- ---- behind an expression of a SELECT: a word that no expression has, a comma, a `;` or nothing
+-- ---- after an expression of a SELECT: a word that no expression has, a comma, a `;` or nothing
 record IsStop (x : Symbol) : Type 0 where
   mark : Mark
   is_mark : x ≡ fixed mark
@@ -175,7 +175,7 @@ unfolding Stops
 clear [] h = record { no_bracket = refl; no_string = refl }
 clear (t ∷ l) h = record { no_bracket = ap (grammar.is_mark Open) h.is_mark ∙ h.no_bracket; no_string = ap is_string_symbol h.is_mark }
 
--- there it does not matter how much was counted before
+-- there the count so far does not matter
 reset : (v : ℕ) (l : List PlacedSymbol) → Stops l → Light (at 0 v) l ↔ Light (at 0 0) l
 unfolding Stops
 reset v [] h = ((λ k. tt), (λ k. tt))
@@ -306,7 +306,7 @@ group_calm : (l : List PlacedSymbol) (x : List Tree) (r : List PlacedSymbol) →
 group_calm l x r (inl (p, m, e, (q, k, f, d))) s = follow (pass e refl refl) (follow (pass f refl refl) (columns_calm k x r d s))
 group_calm l x r (inr (y, z)) s = same_tokens z
 
--- count(*): three counted tokens
+-- `count(*)` has three counted tokens
 star_no_literal : (o s : ℕ) (u : List PlacedSymbol) → is_literal (sign Times o ∷ (sign Close s ∷ u)) ≡ false
 star_no_literal o s [] = refl
 star_no_literal o s (t ∷ u) = refl
@@ -320,7 +320,7 @@ count_calm p q o s n u h =
     let g = reset 3 u h in
     record { there = λ k. g.0 (d.0 (c.0 (b.0 (a.0 k)))); back = λ k. a.1 (b.1 (c.1 (d.1 (g.1 k)))) }
 
--- ---- the parts with expressions: they are light, and what stands behind them
+-- ---- the parts with expressions: they are light, and what follows them
 record Walks (A : Type 0) (s : TokenStanding) (l r : List PlacedSymbol) : Type 0 where
   there : Light s l → A × Light s r
   back : A → Light s r → Light s l
@@ -424,7 +424,7 @@ delete_walks l x r (p, m, e, (table, n, f, (c, k, d, (y, z)))) s =
     then_walks (follow (pass e refl refl) (pass_name f (clear n (where_stops n c k d t)).no_bracket)) (walks_then (where_walks n c k d t) (same_tokens z))
 
 -- ---- statements
--- behind a statement, where it does not matter whether it was a SELECT
+-- the end of a statement, at which it does not matter whether it was a SELECT
 record IsEnd (r : List PlacedSymbol) : Type 0 where
   stops : Stops r
   inward : Light outside r → Light (at 0 0) r

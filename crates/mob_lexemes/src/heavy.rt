@@ -1,4 +1,4 @@
-//! Expressions with more counted tokens than there may be.
+//! Finds expressions with more counted tokens than the limit of 256.
 ghost use Rattle.std.specs.Prelude.{◌≡◌, ◌<◌, ◌≤◌, ◌+◌, ◌^◌, length, IfSome};
 ghost use Rattle.mob_lexemes.specs.Weights.{counts, mark_counts, mark_ends, is_function};
 ghost use Rattle.mob_lexemes.specs.Lexemes.{placed_symbol, placed_symbols};
@@ -7,16 +7,16 @@ ghost use Rattle.mob_lexemes.specs.Heavy.{ends, depth_after, begins_expressions,
 use crate::lexeme::{Lexeme, Symbol, begins_literal};
 use mob_grammar::mark::Mark;
 
-/// Where a token stands, as it is told from the tokens before it.
+/// The position of a token in its statement and expression, from the tokens before it.
 #[derive(Clone, Copy)]
 pub struct TokenStanding {
-    /// Whether in a SELECT or a DELETE.
+    /// Whether it is in a SELECT or a DELETE.
     pub selects: bool,
-    /// In how many open brackets.
+    /// How many brackets are open.
     pub depth: usize,
-    /// Behind how many counted tokens of its expression.
+    /// How many counted tokens of its expression come before it.
     pub weight: usize,
-    /// Whether right behind a `::` or a `.`, where a type or a column stands and no call begins.
+    /// Whether it follows a `::` or a `.`, so that it is a type or a column and begins no call.
     pub no_call: bool,
 }
 
@@ -50,7 +50,7 @@ fn begins_expressions(mark: Mark) -> bool
     matches!(mark, Mark::Select | Mark::Delete)
 }
 
-// Whether a name before these tokens is that of a function.
+// Whether a name is that of a function, if these tokens follow it.
 fn is_function(no_call: bool, after: &[Lexeme<'_>]) -> bool
     ensures exact { result ≡ is_function no_call (placed_symbols after.now) }
 {
@@ -64,7 +64,8 @@ fn is_function(no_call: bool, after: &[Lexeme<'_>]) -> bool
 }
 
 impl TokenStanding {
-    // Whether a lexeme that stands so, before these, is a counted token of an expression.
+    // Whether this token, at this position and before these tokens, is a counted token of an
+    // expression.
     fn counts(&self, lexeme: &Lexeme<'_>, after: &[Lexeme<'_>]) -> bool
         ensures exact { result ≡ counts self.now (placed_symbol lexeme.now).symbol (placed_symbols after.now) }
     {
@@ -90,7 +91,7 @@ impl TokenStanding {
         }
     }
 
-    // How many brackets are open behind the lexeme.
+    // The number of open brackets after the lexeme.
     fn depth_after(&self, lexeme: &Lexeme<'_>) -> usize
         requires shallow { self.now.depth < 2 ^ 62 }
         ensures depth { result ≡ depth_after self.now.depth (placed_symbol lexeme.now).symbol }
@@ -127,7 +128,7 @@ impl TokenStanding {
         }
     }
 
-    // How many counted tokens stand behind the lexeme, with it.
+    // The number of counted tokens up to and including the lexeme.
     fn weight_after(&self, lexeme: &Lexeme<'_>, after: &[Lexeme<'_>]) -> usize
         requires light { self.now.weight < 2 ^ 62 }
         ensures weight { result ≡ weight_after self.now (placed_symbol lexeme.now).symbol (placed_symbols after.now) }
@@ -140,7 +141,7 @@ impl TokenStanding {
         }
     }
 
-    // How the token behind the lexeme stands.
+    // The position of the token after the lexeme.
     fn after(&self, lexeme: &Lexeme<'_>, after: &[Lexeme<'_>]) -> TokenStanding
         requires depth { self.now.depth < 2 ^ 62 }
         requires weight { self.now.weight < 2 ^ 62 }
@@ -168,7 +169,7 @@ impl TokenStanding {
     }
 }
 
-/// The number of the first 257th counted token of an expression.
+/// The index, from 0, of the first token that is the 257th counted one of its expression.
 pub fn first_heavy(lexemes: &[Lexeme<'_>]) -> Option<usize>
     ensures place { result ≡ first_heavy (placed_symbols lexemes.now) }
     ensures within { IfSome result (λ n. n < length lexemes.now) }

@@ -1,5 +1,5 @@
--- Texts that begin with another byte than those that pass a test: the printed text of a value,
--- where the values do.
+-- Texts whose first byte fails a test. The printed text of a temporal value is one if its values
+-- are.
 use Rattle.std.proofs.Common.{◌≡◌, ℕ, ℤ, List, [], ◌∷◌, ◌++◌, codes, Bool, true, false, cond, refl, sym, ap, subst}
 use Rattle.std.specs.Prelude.{not, Contains}
 use Rattle.std.specs.List.{list_all}
@@ -68,7 +68,6 @@ module _ {C B : Type 0} (test : ℕ → Bool) (signs : IsNoSign test) (style : S
       by_lengths true = set_begun slices h
       by_lengths false = groups_begun (neighbour_groups style.course slices) (are_groups style.course slices).together
 
--- so begins the printed text of a value that is read again, where the text of each of its values
--- does
+-- the printed text of a value that reads back, if the text of each of its values begins in this way
 pub readable_begun : {C B : Type 0} (test : ℕ → Bool) → IsNoSign test → {course : CourseOf C B} {day : ℤ} {text : B → Text} {IsWritten : B → Type 0} → ((v : B) → IsWritten v → IsBegun test (text v)) → (slices : List (Slice C)) → IsReadable course day text IsWritten slices → IsBegun test (moving_text (style_of course text day) slices)
 readable_begun {C} {B} test signs {course} {day} {text} {IsWritten} begun slices r = moving_begun test signs (style_of course text day) slices (λ s rest e. begun (course.start s.course) (subst (λ (xs : List (Slice C)). ((x : Slice C) → Contains xs x → IsWritten (course.start x.course)) → IsWritten (course.start s.course)) (sym e) (λ f. f s (first_in s rest)) r.starts))

@@ -1,5 +1,4 @@
--- What is printed of a value over time is read again as that value behind each of the prefixes that
--- its type admits.
+-- A printed temporal value reads back as itself after each of the prefixes that its type admits.
 use Rattle.std.proofs.Common.{◌≡◌, ℕ, ℤ, List, [], ◌∷◌, ◌++◌, Bool, true, false, Option, Some, Ok, refl, sym, ap, subst, ◌∙◌}
 use Rattle.std.specs.Prelude.{nat_eq, Contains}
 use Rattle.std.specs.Char.{to_ascii_lowercase}
@@ -55,7 +54,7 @@ behind_prefixes {C} {B} course laws day has_srid value byte text has_value slice
     stops = stops_less (begins_prefix (admitted course.steady has_srid)) (begins_prefix (remaining (admitted course.steady has_srid) before)) (left_first before (admitted course.steady has_srid)) (moving_text (style_of course text day) slices)
         (begun_stops (begins_prefix (admitted course.steady has_srid)) (moving_text (style_of course text day) slices) (moving_begun (begins_prefix (admitted course.steady has_srid)) (prefix_signs (admitted course.steady has_srid)) (style_of course text day) slices begun))
 
--- where no prefix is admitted none is said
+-- if no prefix is admitted, the literal has none
 pub record IsBare {A : Type 0} (entry : Text → A → Type 0) (text : Text) (v : Literal A) : Type 0 where
   pub alone : literal entry text v.sequences
   pub unsaid : v.says_step ≡ false

@@ -1,4 +1,4 @@
--- What the laws of courses say of courses that are drawn between written values.
+-- What the laws of courses say of courses between written values.
 use Rattle.std.proofs.Common.{◌≡◌, Bool, true, false, List, refl, ◌∙◌}
 use Rattle.std.specs.Prelude.{IsTrue, ◌↔◌}
 use Rattle.mob_ratio.specs.Ratio.{Ratio}
@@ -38,8 +38,8 @@ lawful is_same exact laws = record {
 }
 
 module _ {C B : Type 0} (course : CourseOf C B) (laws : IsLawful course) where
-  -- a course is drawn again from its start to b, where it ends with b, and under step interpolation
-  -- where it ends as it starts
+  -- the course from the start of a course to b is that course: if it ends with b, and under step
+  -- interpolation if it ends with its start
   pub drawn_again : (step : Bool) → (step ≡ false → course.steady ≡ false) → (c : C) (b : B) → (step ≡ true → course.start c ≡ course.end c) → (step ≡ false → b ≡ course.end c) → drawn course step (course.start c) b ≡ c
   drawn_again true own c b kept to = laws.by_ends (course.make (course.start c) (course.start c)) c (laws.level_start (course.start c)) (laws.level_end (course.start c) ∙ kept refl)
   drawn_again false own c b kept to = laws.by_ends (course.make (course.start c) b) c (laws.moves_from (own refl) (course.start c) b) (laws.moves_to (own refl) (course.start c) b ∙ to refl)

@@ -1,4 +1,4 @@
--- The field of a value is read again as that value.
+-- The field of a value reads back as that value.
 use Rattle.std.proofs.Common.{◌≡◌, ℕ, ℤ, List, [], ◌∷◌, Bool, true, false, cond, Option, Some, None, refl, sym, subst, true≢false, Ok, rules}
 use Rattle.std.specs.Prelude.{nat_eq, is_some, ◌&&◌, ◌||◌}
 use Rattle.std.proofs.lemmas.Bool.{and_parts as both, eqb-true}
@@ -38,7 +38,7 @@ use Rattle.mob_literal.specs.Fields.{is_null_text, is_empty, is_null_field, doub
 use Rattle.mob_literal.proofs.Begun.{IsBegun, IsNoSign, begun_front, begun_said, bracket_begun, readable_begun}
 use Rattle.mob_literal.proofs.SqlAgain.{value_again}
 
--- ---- texts that begin with another byte than a backslash
+-- ---- texts that do not begin with a backslash
 
 abbrev is_backslash : ℕ → Bool
 is_backslash c = nat_eq c 92
@@ -100,7 +100,7 @@ set_is_plain day spans = record { first = 123; rest = _; is = refl; other = refl
 
 -- ---- fields
 
--- a field that is no NULL in any column
+-- a field that is not NULL in any column
 plain_null : (text : Text) → IsPlain text → (is_empty text ≡ false) × (is_null_text text ≡ false)
 plain_null text p =
     let other : nat_eq p.first 92 ≡ false = p.other in
@@ -127,7 +127,7 @@ doubled_again (c ∷ cs) = by_byte (nat_eq c 92) refl
     by_byte true e = rw e refl
     by_byte false e = rw e refl
 
--- a field says the value: it is not NULL, and its text is read as the value
+-- the field denotes the value: it is not NULL, and its text is read as the value
 pub record SaysField (type : SqlType) (day : ℤ) (field : Text) (v : Value) : Type 0 where
   pub there : is_null_field type field ≡ false
   pub says : SaysAs type day (text_of_field type field) (Ok v)

@@ -1,4 +1,4 @@
--- The slices of sound sequences, one behind the other.
+-- The slices of sound sequences, one sequence after another.
 use Rattle.std.proofs.Common.{◌≡◌, true≢false, suc, ◌-◌, List, [], ◌∷◌, ◌++◌, length, Bool, true, false, cond, Option, Some, None, refl, sym, subst, ◌∙◌, arith, option_map, inl, inr}
 use Rattle.std.proofs.lemmas.Bool.{and_parts as both}
 use Rattle.std.specs.Prelude.{◌&&◌, ◌||◌, not, ◌↔◌, slice_get}
@@ -24,7 +24,7 @@ use Rattle.mob_literal.specs.Flat.{made_sequence, made_all}
 use Rattle.mob_literal.proofs.Drawn.{IsLawful}
 use Rattle.mob_literal.proofs.SequenceLemmas.{slices_sequence, sequence_slices}
 
--- ---- a sequence is made exactly where it is sound
+-- ---- a sequence has slices exactly if it is sound
 
 made_tail : {C B : Type 0} (course : CourseOf C B) (step : Bool) (i j : Written B) (is : List (Written B)) (upper : Bool) → made course step (arrives course step i.value j.value) true (j ∷ is) upper ≡ cond (rises (j ∷ is) && (upper || ends_level course step (i ∷ j ∷ is))) (Some (slices_of course step true (j ∷ is) upper)) None
 made_tail {C} {B} course step i j [] upper = by_end upper (arrives course step i.value j.value)
@@ -90,7 +90,7 @@ sound_stretch course step lower i j h = record { some = rw h refl; level = λ e.
 pub sound_point : {C B : Type 0} (course : CourseOf C B) → IsLawful course → (i : Written B) → IsSound course.start course.end (instant_slice course true i)
 sound_point course laws i = record { some = grind (arith, before-self i.instant); level = λ e. laws.level_start i.value ∙ sym (laws.level_end i.value) }
 
--- the slice begins behind the last of the instants
+-- the slice begins after the last of the instants
 abbrev AfterLast : {C B : Type 0} → Bool → List (Written B) → Slice C → Type 0
 AfterLast upper [] r = Unit {0}
 AfterLast upper (i ∷ []) r = (before i.instant r.span.lower || (up_to i.instant r.span.lower && not (upper && r.span.lower_inc))) ≡ true
@@ -133,7 +133,7 @@ ordered_then {C} {B} course laws step lower (i ∷ j ∷ is) upper tail up first
     on [] = refl
     on (k ∷ is) = refl
 
--- the last of the instants, by its place
+-- the last of the instants, by its position
 after_last : {C B : Type 0} (upper lower : Bool) (is : List (Written B)) (j : Written B) (r : Slice C) → r.span.lower ≡ j.instant → r.span.lower_inc ≡ lower → clear_ends upper lower (slice_get is (length is - 1)) (Some j) ≡ true → AfterLast upper is r
 after_last upper lower [] j r e k h = tt
 after_last upper lower (i ∷ []) j r e k h = rw (e, k) h
@@ -162,7 +162,7 @@ tail_after {C} {B} course step q r rest h closed = by_instants r.lower_inc r.ins
         never false e = absurd cc
     by_instants lower (j ∷ k ∷ is) upper h closed = after_last q.upper_inc lower q.instants j (stretch course step lower j k) refl refl h
 
--- what is known of a sound sequence
+-- the properties of a sound sequence
 record IsSoundIn {B : Type 0} (q : Sequence (Written B)) : Type 0 where
   up : rises q.instants ≡ true
   closed : is_closed_alone q.lower_inc q.upper_inc q.instants ≡ true
@@ -254,7 +254,7 @@ module _ {C B : Type 0} (course : CourseOf C B) where
             value_at-append course.value (slices_in course step q) (flat course step qs) t ∙ rw (none, there) refl
       ]
 
--- the slices of sound sequences are ordered and have the values that the sequences have
+-- the slices of sound sequences are ordered and have the values of the sequences
 pub record IsFlat {C B : Type 0} (course : CourseOf C B) (step : Bool) (qs : List (Sequence (Written B))) (slices : List (Slice C)) : Type 0 where
   pub ordered : IsOrdered course.start course.end slices
   pub same : (t : Ratio) (v : B) → (value_at course.value slices t ≡ Some v) ↔ LitAt course step qs t v

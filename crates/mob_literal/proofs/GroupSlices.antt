@@ -1,5 +1,5 @@
--- The written instants of the groups of slices: they are sound sequences, and define what the
--- slices do.
+-- The written instants of the groups of slices: they are sound sequences, and define the values of
+-- the slices.
 use Rattle.std.proofs.Common.{◌≡◌, suc, ◌-◌, List, [], ◌∷◌, ◌++◌, length, map, Bool, true, false, cond, Option, Some, None, refl, sym, ap, subst, ◌∙◌, arith, inl, inr, ◌⊎◌}
 use Rattle.std.proofs.lemmas.Bool.{and_parts as both, and_from as and, not-true as not_true}
 use Rattle.std.specs.Prelude.{◌&&◌, ◌||◌, not, slice_get}
@@ -36,7 +36,7 @@ module _ {C B : Type 0} (course : CourseOf C B) where
   abbrev pub end_of : Slice C → Written B
   end_of s = record { value = course.end s.course; instant = s.span.upper }
 
-  -- what is written behind the start of s, where `group` stands behind s in its group
+  -- the instants after the start of s, if the slices `group` follow s in its group
   abbrev pub more : Slice C → List (Slice C) → List (Written B)
   more s [] = cond (is_long s) (end_of s ∷ []) []
   more s (r ∷ group) = start_of r ∷ more r group
@@ -50,7 +50,7 @@ module _ {C B : Type 0} (course : CourseOf C B) where
   sequence_of [] = record { lower_inc = true; instants = []; upper_inc = true }
   sequence_of (s ∷ group) = record { lower_inc = s.span.lower_inc; instants = start_of s ∷ more s group; upper_inc = upper_of s group }
 
-  -- each slice goes on with the next
+  -- each slice shares its group with the next
   abbrev pub HoldTogether : Slice C → List (Slice C) → Type 0
   HoldTogether s [] = Unit {0}
   HoldTogether s (r ∷ group) = (shares_group course s r ≡ true) × HoldTogether r group
@@ -94,13 +94,13 @@ split_test false false false f g = absurd (false_true (g refl refl))
 begun : (included : Bool) (l u t : Ratio) → before l u ≡ true → u ≡ t → (before l t || (included && up_to l t)) ≡ true
 begun included l u t h e = rw (subst (λ (x : Ratio). before l x ≡ true) e h) refl
 
--- a span with its upper end holds what it holds without it, and that end
+-- a span with its upper end has the instants of the span without it, and that end
 split_has : (l u t : Ratio) (included : Bool) → before l u ≡ true
     → has (record { lower = l; upper = u; lower_inc = included; upper_inc = true }) t
     ≡ (has (record { lower = l; upper = u; lower_inc = included; upper_inc = false }) t || has (record { lower = u; upper = u; lower_inc = true; upper_inc = true }) t)
 split_has l u t included h = split_test (before l t || (included && up_to l t)) (before t u) (before u t) (before-back t u) (λ p q. begun included l u t h (before-neither u t q p))
 
--- two values behind one another, of which the second is the first where only the second test passes
+-- two alternatives in order, whose values are equal if only the second test passes
 choose : {A : Type 0} (a b : Bool) (x y : A) (o : Option A) → (a ≡ false → b ≡ true → y ≡ x) → cond a (Some x) (cond b (Some y) o) ≡ cond (a || b) (Some x) o
 choose true b x y o h = refl
 choose {A} false true x y o h = ap (λ (z : A). Some z) (h refl refl)
@@ -123,7 +123,7 @@ module _ {C B : Type 0} (course : CourseOf C B) (laws : IsLawful course) where
   abbrev slice_on : Ratio → Ratio → Bool → Bool → C → Slice C
   slice_on l u lower_inc upper_inc c = record { span = record { lower = l; upper = u; lower_inc = lower_inc; upper_inc = upper_inc }; course = c }
 
-  -- a course that is drawn again from its start to its end, and its end
+  -- the two written instants of a slice give the values of that slice
   long_value : (step : Bool) (l u t : Ratio) (lower upper : Bool) (c : C) → before l u ≡ true → drawn course step (course.start c) (course.end c) ≡ c
       → value_at course.value (slices_of course step lower (written (course.start c) l ∷ written (course.end c) u ∷ []) upper) t ≡ value_at course.value (slice_on l u lower upper c ∷ []) t
   long_value step l u t lower true c h e =
@@ -146,7 +146,7 @@ module _ {C B : Type 0} (course : CourseOf C B) (laws : IsLawful course) where
   short_value step l u t true false c k h e = absurd (false_true h)
   short_value step l u t false upper c k h e = absurd (false_true k)
 
--- a slice of one instant includes it
+-- a slice of a single instant includes it
 pub record IsShort (l u : Ratio) (lower_inc upper_inc : Bool) : Type 0 where
   pub lower : lower_inc ≡ true
   pub upper : upper_inc ≡ true
@@ -159,7 +159,7 @@ is_short l u lower upper h short =
     let c = both lower upper b.0 in
     record { lower = c.0; upper = c.1; one = before-neither l u short (not_true (before u l) b.1) }
 
--- a slice with an instant that leaves its upper end out is longer than an instant
+-- a slice that has an instant but excludes its upper end is longer than one instant
 is_open : (l u : Ratio) (lower : Bool) → has_instant (record { lower = l; upper = u; lower_inc = lower; upper_inc = false }) ≡ true → before l u ≡ true
 is_open l u lower h = by_order (before l u) lower h
   where
@@ -171,7 +171,7 @@ is_open l u lower h = by_order (before l u) lower h
 -- ---- a group is a sound sequence with the values of its slices
 
 module _ {C B : Type 0} (has_value : B → Bool) (course : CourseOf C B) (laws : IsLawful course) (step : Bool) (moves : step ≡ false → course.steady ≡ false) where
-  -- under step interpolation the slice ends as it starts
+  -- under step interpolation the slice ends with the value with which it starts
   abbrev pub IsKept : Slice C → Type 0
   IsKept s = step ≡ true → course.start s.course ≡ course.end s.course
 
@@ -182,7 +182,7 @@ module _ {C B : Type 0} (has_value : B → Bool) (course : CourseOf C B) (laws :
   LevelEnds i [] = ⊥
   LevelEnds i (j ∷ js) = ends_level course step (i ∷ j ∷ js) ≡ true
 
-  -- the group s ∷ group, where `rest` is written behind the start of s
+  -- the group s ∷ group, if `rest` is written after the start of s
   record IsGroup (s : Slice C) (group : List (Slice C)) (rest : List (Written B)) (upper : Bool) : Type 0 where
     up : rises (start_of course s ∷ rest) ≡ true
     closed : is_closed_alone s.span.lower_inc upper (start_of course s ∷ rest) ≡ true
@@ -211,7 +211,7 @@ module _ {C B : Type 0} (has_value : B → Bool) (course : CourseOf C B) (laws :
             values = λ t. short_value course laws step s.span.lower s.span.upper t s.span.lower_inc s.span.upper_inc s.course i.lower i.upper i.one;
           }
 
-  -- what is known of a slice that the next goes on with
+  -- the properties of a slice that shares its group with the next one
   record GoesOn (s r : Slice C) : Type 0 where
     at : s.span.upper ≡ r.span.lower
     next : r.span.lower_inc ≡ true

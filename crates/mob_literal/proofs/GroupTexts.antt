@@ -1,4 +1,4 @@
--- The printed text of slices is a literal of the sequences of their groups.
+-- The printed text of slices is a literal with the sequences of their groups.
 use Rattle.std.proofs.Common.{◌≡◌, ℤ, List, [], ◌∷◌, ◌++◌, map, codes, Bool, true, false, cond, Option, Some, refl, sym, ap, subst, ◌∙◌, append_assoc, inl, inr}
 use Rattle.std.specs.Prelude.{◌&&◌, not, nat_eq}
 use Rattle.std.specs.List.{AllByRecursion, list_all}
@@ -25,7 +25,7 @@ use Rattle.mob_written.specs.Style.{style_of}
 use Rattle.mob_literal.proofs.GroupSlices.{start_of, end_of, more, upper_of, sequence_of, AllHoldTogether, are_groups, joined}
 use Rattle.mob_written.proofs.Small.{false_true}
 
--- ---- the sign as it is printed
+-- ---- the printed sign
 
 at_said : at_sign (codes "@") tt
 at_said = record {
@@ -53,16 +53,16 @@ bracketed_said {A} entry lower upper inner is h = record {
   by_ends false true = refl
   by_ends false false = refl
 
--- ---- values and moments as they are printed
+-- ---- printed values and moments
 
 abbrev pub note : {B : Type 0} → Written B → Noted B
 note w = record { value = Some w.value; instant = Some w.instant }
 
--- the sequence of a group as it is noted
+-- the sequence of a group, as read
 abbrev pub noted_of_group : {C B : Type 0} → CourseOf C B → List (Slice C) → Sequence (Noted B)
 noted_of_group course group = record { lower_inc = (sequence_of course group).lower_inc; instants = map note (sequence_of course group).instants; upper_inc = (sequence_of course group).upper_inc }
 
--- a slice of one instant, both of whose ends are included
+-- a slice of a single instant, which both ends include
 abbrev pub IsPoint : {C : Type 0} → Slice C → Type 0
 IsPoint s = (is_long s ≡ false) × (s.span.lower_inc ≡ true) × (s.span.upper_inc ≡ true)
 
@@ -70,7 +70,7 @@ abbrev pub ArePoints : {C : Type 0} → List (Slice C) → Type 0
 ArePoints slices = AllByRecursion IsPoint slices
 
 module _ {C B : Type 0} (course : CourseOf C B) (day : ℤ) (value : Text → Option B → Type 0) (text : B → Text) where
-  -- what is printed of a slice is read
+  -- the printed parts of a slice are read
   pub record IsSliceSaid (s : Slice C) : Type 0 where
     pub start_value : value (text (course.start s.course)) (Some (course.start s.course))
     pub end_value : value (text (course.end s.course)) (Some (course.end s.course))
@@ -199,7 +199,7 @@ module _ {C B : Type 0} (course : CourseOf C B) (day : ℤ) (value : Text → Op
   groups_some : (slices : List (Slice C)) → (slices ≡ [] → ⊥) → neighbour_groups course slices ≡ [] → ⊥
   groups_some slices some e = some (sym (are_groups course slices).whole ∙ ap joined e)
 
-  -- the literal that the groups of the slices print, behind prefixes
+  -- the literal that the groups of the slices print, after prefixes
   abbrev pub printed_literal : List Prefix → List (Slice C) → Literal (Noted B)
   printed_literal before slices = record { says_step = says_step before; sequences = map (noted_of_group course) (neighbour_groups course slices) }
 

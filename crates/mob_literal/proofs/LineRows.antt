@@ -1,6 +1,6 @@
--- Worked examples of texts of numbers and points that change evenly, by hand. A number prints here
--- as its digit, a point as the digits of its coordinates in brackets, and a moment as its day and
--- the day's place.
+-- Examples, worked by hand: texts of numbers and points that change linearly. Here a number prints
+-- as its digit, a point as the digits of its coordinates in brackets, and a moment as the word day
+-- and the number of the day.
 use Rattle.std.proofs.Common.{◌≡◌, ℕ, ◌+◌, [], ◌∷◌, ◌++◌, Bool, true, false, Option, Some, None, codes, refl, nat_abs}
 use Rattle.std.specs.Prelude.{option_map, List}
 use Rattle.mob_ratio.specs.Ratio.{Ratio}
@@ -31,7 +31,7 @@ rising lower_inc upper_inc = record { lower_inc = lower_inc; instants = record {
 
 -- ---- Interp=Step;
 
--- what the sequences print as, with step interpolation or without
+-- the printed sequences, with or without step interpolation
 abbrev printed : Bool → List (Sequence (Written Ratio)) → Option Text
 printed step qs = option_map (moving_text numbers) (made_all any_value line_course step qs)
 
@@ -39,12 +39,13 @@ line_printed : printed false (rising true true ∷ []) ≡ Some (codes "[1@day 1
 unfolding before same
 line_printed = refl
 
--- the value holds until the second instant, and each of the two prints by itself
+-- the value holds up to the second instant, and both values print as groups of their own
 step_printed : printed true (rising true true ∷ []) ≡ Some (codes "{[1@day 1, 1@day 3), [2@day 3]}")
 unfolding before same
 step_printed = refl
 
--- a jump at an end that is left out says nothing: it is unsound, and no line
+-- a jump at an excluded end would have no effect: it is unsound under step interpolation, and sound
+-- for a line
 jump_left_out : is_sound any_value line_course true (rising true false ∷ []) ≡ false
 unfolding before same
 jump_left_out = refl
@@ -53,7 +54,7 @@ line_left_out : is_sound any_value line_course false (rising true false ∷ []) 
 unfolding before same
 line_left_out = refl
 
--- a number that does not fit is seen before what is unsound
+-- a number that does not fit is reported before an unsound sequence
 too_large_first : ◌≡◌ {A = Option (List (Sequence (Written Ratio)))} (fitting_all (record { lower_inc = true; instants = record { value = None; instant = Some third_day } ∷ record { value = Some first_day; instant = Some first_day } ∷ []; upper_inc = false } ∷ [])) None
 too_large_first = refl
 
@@ -66,7 +67,7 @@ a_bend : moving_text numbers (line true first_day second_day false 1 2 ∷ line 
 unfolding before same
 a_bend = refl
 
--- at a jump a group ends, whichever of the two lines has the instant
+-- a group ends at a jump, whichever of the two lines includes the instant
 first_has_jump : moving_text numbers (line true first_day second_day true 1 2 ∷ line false second_day third_day true 3 5 ∷ []) ≡ codes "{[1@day 1, 2@day 2], (3@day 2, 5@day 3]}"
 unfolding before same
 first_has_jump = refl
@@ -75,7 +76,7 @@ second_has_jump : moving_text numbers (line true first_day second_day false 1 2 
 unfolding before same
 second_has_jump = refl
 
--- an instant that no line has parts two groups
+-- two groups are separated by an instant that no line has
 an_instant_missing : moving_text numbers (line true first_day second_day false 1 2 ∷ line false second_day third_day true 2 3 ∷ []) ≡ codes "{[1@day 1, 2@day 2), (2@day 2, 3@day 3]}"
 unfolding before same
 an_instant_missing = refl
@@ -91,7 +92,7 @@ at x = record { x = day x; y = day 0 }
 abbrev way : Bool → Ratio → Ratio → Bool → ℕ → ℕ → Slice PlaneLine
 way lower_inc lower upper upper_inc from to = record { span = record { lower = lower; upper = upper; lower_inc = lower_inc; upper_inc = upper_inc }; course = record { from = at from; to = at to } }
 
--- a way of which the middle is left out
+-- a path without its middle
 two_ways : moving_text points (way true (day 0) first_day false 0 1 ∷ way false second_day third_day true 2 3 ∷ []) ≡ codes "{[(0 0)@day 0, (1 0)@day 1), ((2 0)@day 2, (3 0)@day 3]}"
 unfolding before same
 two_ways = refl

@@ -1,5 +1,5 @@
--- The printed text of a tfrac and of a tgeompoint is read again as that value: nothing that stands
--- there may be a prefix.
+-- The printed text of a tfrac or a tgeompoint reads back as that value: no part of it can be taken
+-- for a prefix.
 use Rattle.std.proofs.Common.{ℕ, ℤ, List, [], Bool, true, false, Option, Some, Ok, refl, rules}
 use Rattle.mob_ratio.specs.Ratio.{Ratio}
 use Rattle.mob_ratio.specs.Order.{same}
@@ -36,8 +36,8 @@ use Rattle.mob_literal.proofs.BehindPrefixes.{prefix_signs}
 use Rattle.mob_literal.proofs.Drawn.{IsLawful, lawful}
 use Rattle.mob_literal.proofs.MovingAgain.{moving_again}
 
--- what is printed of a value is read again without a prefix, where the text of each of its values
--- begins as no prefix does
+-- a printed value reads back without a prefix if the text of none of its values begins as a prefix
+-- does
 again_alone : {C B : Type 0} (course : CourseOf C B) → IsLawful course → (day : ℤ) (value : Text → Option B → Type 0) (text : B → Text) (IsWritten : B → Type 0) (has_srid : Bool)
     → ((v : B) → IsWritten v → value (text v) (Some v))
     → ((v : B) → IsWritten v → IsBegun (begins_prefix (admitted course.steady has_srid)) (text v))

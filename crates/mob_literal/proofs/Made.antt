@@ -10,7 +10,7 @@ use Rattle.mob_written.specs.declared.written.Written.{Written}
 use Rattle.mob_literal.specs.Slices.{made, stretch, instant_slice, arrives}
 use Rattle.mob_scalar.proofs.Traversed.{with_list}
 
--- an instant from which a span without its upper end goes on
+-- if a span without its upper end has an instant, its lower end is before its upper end
 pub opens_before : (included : Bool) (a b : Ratio) → has_instant (record { lower = a; upper = b; lower_inc = included; upper_inc = false }) ≡ true → before a b ≡ true
 opens_before included a b h = grind (arith, h)
 
@@ -19,7 +19,7 @@ point_included true a h = refl
 point_included false a h = grind (arith, h, before-self a)
 
 module _ {C B : Type 0} (course : CourseOf C B) (step : Bool) where
-  -- nothing made yet
+  -- no slice is made yet
   pub made_begins : (slices : List (Slice C)) (lower upper : Bool) (i : Written B) (is all : List (Written B)) → slices ≡ [] → all ≡ i ∷ is → with_list slices (made course step false lower (i ∷ is) upper) ≡ made course step false lower all upper
   made_begins slices lower upper i is all none e = rw (none, e) (same (made course step false lower (i ∷ is) upper))
     where
@@ -27,7 +27,7 @@ module _ {C B : Type 0} (course : CourseOf C B) (step : Bool) where
       same None = refl
       same (Some x) = refl
 
-  -- one slice more
+  -- one more slice
   pub made_more : (front pushed : List (Slice C)) (level next_level lower upper : Bool) (i j : Written B) (is : List (Written B)) → before i.instant j.instant ≡ true → next_level ≡ arrives course step i.value j.value → pushed ≡ front ++ stretch course step lower i j ∷ [] → with_list pushed (made course step next_level true (j ∷ is) upper) ≡ with_list front (made course step level lower (i ∷ j ∷ is) upper)
   made_more front pushed level next_level lower upper i j is h k e = rw (h, k, e) (regroup (made course step (arrives course step i.value j.value) true (j ∷ is) upper))
     where

@@ -1,4 +1,4 @@
--- The printed text of a temporal value is read again as that value.
+-- The printed text of a temporal value reads back as that value.
 use Rattle.std.proofs.Common.{◌≡◌, ℕ, ℤ, ◌+◌, ◌≤◌, List, [], ◌∷◌, ◌++◌, length, map, Bool, true, false, Option, Some, Ok, refl, sym, ap, subst, ◌∙◌, arith, inl}
 use Rattle.std.specs.Prelude.{◌↔◌, IsTrue, Contains, MatchOption, not, nat_eq, nat_lt}
 use Rattle.std.specs.Char.{to_ascii_lowercase}
@@ -42,7 +42,7 @@ use Rattle.mob_literal.proofs.GroupSlices.{start_of, more, sequence_of, are_grou
 use Rattle.mob_literal.proofs.GroupTexts.{note, noted_of_group, printed_literal, written_text, IsSliceSaid, AreSaid, ArePoints, instants_are, printed_said}
 use Rattle.mob_written.proofs.Small.{false_true, some_none}
 
--- ---- the numbers of the sequences fit, and there are as many as are printed
+-- ---- the numbers of the sequences fit, and there are as many instants as are printed
 
 noted_fits : {B : Type 0} (is : List (Written B)) → traverse written_of (map note is) ≡ Some is
 noted_fits [] = refl
@@ -88,7 +88,7 @@ count_is {C} {B} course day value text ((s ∷ group) ∷ groups) =
 not_long : (count : ℕ) → count ≤ 100000 → nat_lt 100000 count ≡ true → ⊥
 not_long count h e = absurd (grind (arith, h, e))
 
--- under step interpolation each slice ends as it starts
+-- under step interpolation each slice ends with the value with which it starts
 kept_of : {C B : Type 0} (course : CourseOf C B) → IsLawful course → (said : Bool) (slices : List (Slice C)) → (said ≡ true → AreLevel course slices) → (s : Slice C) → Contains slices s → is_step course.steady said ≡ true → course.start s.course ≡ course.end s.course
 kept_of course laws true slices level s c h = level refl s c
 kept_of course laws false slices level s c h = laws.one_end h s.course
@@ -133,7 +133,7 @@ moving_again {C} {B} course laws day value text IsWritten has_value say has slic
 pub steady_lawful : {B : Type 0} (is_same : B → B → Bool) → ((a b : B) → IsTrue (is_same a b) ↔ (a ≡ b)) → IsLawful (steady_course is_same)
 steady_lawful is_same exact = lawful is_same exact (steady_laws false is_same exact)
 
--- nothing stands before the literals of step values
+-- nothing comes before the literals of step values
 nothing_begins : (rest : Text) → Stops (begins_prefix (admitted true false)) rest
 nothing_begins [] = tt
 nothing_begins (c ∷ cs) = rw (and_right (nat_eq (to_ascii_lowercase c) 105) false refl, and_right (nat_eq (to_ascii_lowercase c) 115) false refl) refl

@@ -1,4 +1,4 @@
--- A literal has one reading, and so has the text of an SQL value.
+-- A literal has at most one reading, and so has the text of an SQL value.
 use Rattle.std.proofs.Common.{◌≡◌, ℕ, ℤ, List, Bool, Option, Some, None, refl, sym}
 use Rattle.std.specs.Prelude.{◌↔◌, MatchOption}
 use Rattle.mob_language.specs.Readers.{TextReader}
@@ -19,7 +19,7 @@ use Rattle.mob_literal.specs.Sound.{fitting_all, Defines, literals}
 use Rattle.mob_written.specs.Prefix.{admitted}
 use Rattle.mob_written.proofs.LiteralExact.{noted_entry, temporal_exact}
 
--- two options with the same value are the same
+-- two options with the same values are equal
 pub one_option : {B : Type 0} (o p : Option B) → ((x : B) → (o ≡ Some x) ↔ (p ≡ Some x)) → o ≡ p
 one_option None None h = refl
 one_option None (Some y) h = (h y).1 refl

@@ -1,4 +1,4 @@
--- What the reader of temporal values answers.
+-- The answers of the reader of temporal values.
 use Rattle.std.proofs.Common.{◌≡◌, ℕ, ℤ, List, [], ◌∷◌, ◌++◌, map, Bool, true, false, cond, Option, Some, None, Ok, Err, refl, sym, ap, subst, ◌∙◌, inl, inr}
 use Rattle.std.proofs.lemmas.Bool.{and_parts as both}
 use Rattle.std.specs.Prelude.{◌&&◌, ◌||◌, MatchOption}
@@ -80,7 +80,7 @@ temporal_full {A} prefixes entry text s said =
     let p = said.said.second.first in
     subst (λ (x : Literal A). is_full x.sequences ≡ true) (sym said.is) (literal_full entry p.back said.meant.1.0.sequences p.sequences)
 
--- where the numbers fit, there are as many
+-- if the numbers fit, there are as many afterwards
 traverse_some : {A C : Type 0} (f : A → Option C) (xs : List A) (ys : List C) → is_some_list xs ≡ true → traverse f xs ≡ Some ys → is_some_list ys ≡ true
 traverse_some f [] ys h e = absurd (false_true h)
 traverse_some {A} {C} f (x ∷ xs) ys h e =
@@ -124,7 +124,7 @@ flat_some {C} {B} has_value course step (q ∷ qs) full sound e =
     let f = both (is_closed_alone q.lower_inc q.upper_inc q.instants) (q.upper_inc || ends_level course step q.instants) d.1 in
     sequence_slices course step q.lower_inc q.instants q.upper_inc (flat course step qs) full f.0 e
 
--- the sequences of a literal whose numbers fit
+-- the sequences of a literal if its numbers fit
 fitting_is : {B : Type 0} (s : Literal (Noted B)) (w : Literal (Written B)) → fitting_literal s ≡ Some w → (fitting_all s.sequences ≡ Some w.sequences) × (s.says_step ≡ w.says_step)
 fitting_is {B} s w e =
     let a = bind_some (fitting_all s.sequences) (λ qs. Some (record { says_step = s.says_step; sequences = qs })) w e in
@@ -134,7 +134,7 @@ fitting_is {B} s w e =
     same : (p q : Literal (Written B)) → ◌≡◌ {A = Option (Literal (Written B))} (Some p) (Some q) → p ≡ q
     same p q e = cc
 
--- and where they do not all fit
+-- the case in which they do not all fit
 fitting_none : {B : Type 0} (s : Literal (Noted B)) → ◌≡◌ {A = Option (Literal (Written B))} None (fitting_literal s) → ◌≡◌ {A = Option (List (Sequence (Written B)))} (fitting_all s.sequences) None
 fitting_none {B} s e = by_fit (fitting_all s.sequences) e
   where
@@ -167,7 +167,7 @@ refused true y e = absurd cc
 refused false y e = refl
 
 module _ {C B : Type 0} (day : ℤ) (has_srid : Bool) (value : List ℕ → Option B → Type 0) (has_value : B → Bool) (course : CourseOf C B) (text : Text) where
-  -- the text says this literal, and its numbers fit
+  -- the text has this literal, and its numbers fit
   abbrev pub IsRead : Literal (Written B) → Type 0
   IsRead w = Lit (written_literals day (admitted course.steady has_srid) value) text (Ok w)
 

@@ -1,5 +1,5 @@
--- Worked examples of printed texts and of fields, by hand. A moment prints here as its day and the
--- day's place.
+-- Examples, worked by hand: printed texts and fields. Here a moment prints as the word day and the
+-- number of the day.
 use Rattle.std.proofs.Common.{◌≡◌, ℕ, ◌+◌, [], ◌∷◌, ◌++◌, Bool, true, false, Some, None, codes, refl, pos, nat_abs, arith}
 use Rattle.mob_ratio.specs.GcdLaws.{gcd_one_right}
 use Rattle.mob_ratio.specs.LowestLaws.{lowest_in}
@@ -52,17 +52,17 @@ instants_alone : moving_text plain (on true first_day first_day true (codes "5")
 unfolding before same
 instants_alone = refl
 
--- true on the second day alone
+-- true only on the second day
 whole_day : moving_text plain (on true first_day second_day false (codes "f") ∷ on true second_day third_day false (codes "t") ∷ on true third_day third_day true (codes "f") ∷ []) ≡ codes "[f@day 1, t@day 2, f@day 3]"
 unfolding before same
 whole_day = refl
 
--- a value that is given at one instant only, between two others: the group ends with it
+-- a value at a single instant between two others: the group ends with it
 given_once : moving_text plain (on true first_day second_day false (codes "f") ∷ on true second_day second_day true (codes "t") ∷ on false second_day third_day true (codes "f") ∷ []) ≡ codes "{[f@day 1, t@day 2], (f@day 2, f@day 3]}"
 unfolding before same
 given_once = refl
 
--- two slices that share an instant, which the first has
+-- two slices that meet at an instant, which the first includes
 joint_given : moving_text plain (on true first_day second_day true (codes "t") ∷ on false second_day third_day true (codes "f") ∷ []) ≡ codes "{[t@day 1, t@day 2], (f@day 2, f@day 3]}"
 unfolding before same
 joint_given = refl
@@ -75,7 +75,7 @@ a_point_of_others : moving_text plain (on true first_day second_day false (codes
 unfolding before same
 a_point_of_others = refl
 
--- ---- courses that are not steady, each given by its two ends
+-- ---- courses that are not steady, each given by its end values
 
 abbrev ends : Style (Text × Text) Text
 ends = record { course = plain_course false (λ c l u t. c.0) (λ c. c.0) (λ c. c.1) (λ a b. (a, b)) (λ c d l m u. false) same_bytes; value_text = λ v. v; moment_text = λ t. codes "day " ++ (48 + nat_abs t.num) ∷ [] }
@@ -83,33 +83,33 @@ ends = record { course = plain_course false (λ c l u t. c.0) (λ c. c.0) (λ c.
 abbrev from : Bool → Ratio → Ratio → Bool → Text → Text → Slice (Text × Text)
 from lower_inc lower upper upper_inc v w = record { span = record { lower = lower; upper = upper; lower_inc = lower_inc; upper_inc = upper_inc }; course = (v, w) }
 
--- the next one takes up the value with which the first ends
+-- the next course begins with the value with which the first ends
 taken_up : moving_text ends (from true first_day second_day false (codes "1") (codes "2") ∷ from true second_day third_day true (codes "2") (codes "5") ∷ []) ≡ codes "[1@day 1, 2@day 2, 5@day 3]"
 unfolding before same
 taken_up = refl
 
--- the next one begins with another value
+-- the next course begins with another value
 a_jump : moving_text ends (from true first_day second_day false (codes "1") (codes "2") ∷ from true second_day third_day true (codes "3") (codes "5") ∷ []) ≡ codes "{[1@day 1, 2@day 2), [3@day 2, 5@day 3]}"
 unfolding before same
 a_jump = refl
 
--- a step value of such a type: each of its values by itself
+-- a step value of such a type: each of its values in a group of its own
 steps_apart : moving_text ends (from true first_day second_day false (codes "1") (codes "1") ∷ from true second_day second_day true (codes "2") (codes "2") ∷ []) ≡ codes "{[1@day 1, 1@day 2), [2@day 2]}"
 unfolding before same
 steps_apart = refl
 
--- ---- what may stand before a literal
+-- ---- prefixes of a literal
 
 both_orders : (prefixes_at (admitted false true) (codes "Interp=Step;SRID=0;x") ≡ Some (admitted true false, codes "x")) × (prefixes_at (admitted false true) (codes "srid=0 ; interp=STEP; x") ≡ Some (admitted true false, codes "x"))
 unfolding prefixes_at one_prefix_at prefix_at
 both_orders = (refl, refl)
 
--- each once: a second one may be a part of the first value
+-- each prefix is read once: a second one may be a part of the first value
 once : prefixes_at (admitted false true) (codes "SRID=0;SRID=0;x") ≡ Some (admitted false false, codes "SRID=0;x")
 unfolding prefixes_at one_prefix_at prefix_at
 once = refl
 
--- another word with the first letter of one that may stand there is no text
+-- a text is refused if another word has the first letter of an allowed prefix
 another_word : prefixes_at (admitted false true) (codes "SRID=1;x") ≡ None
 unfolding prefixes_at one_prefix_at prefix_at
 another_word = refl

@@ -1,4 +1,4 @@
--- The slices of a sequence have its values.
+-- The slices of a sequence have the values of the sequence.
 use Rattle.std.proofs.Common.{◌≡◌, List, [], ◌∷◌, Bool, true, false, cond, Option, Some, None, refl, sym, ap, subst, ◌∙◌, arith, inl, inr, ◌⊎◌}
 use Rattle.std.proofs.lemmas.Bool.{and_parts as both, and_from as and, not-true as not_true}
 use Rattle.std.specs.Prelude.{Contains, ◌&&◌, ◌||◌}
@@ -53,7 +53,7 @@ rise_first {B} j (i ∷ is) k up h = elim (which_in j (i ∷ is) k h) [
 same_instant : (a b : Ratio) → up_to a b ≡ true → up_to b a ≡ true → a ≡ b
 same_instant a b h k = before-neither a b (not_true (before a b) k) (not_true (before b a) h)
 
--- the instants behind the first are later than it
+-- the instants after the first are later than it
 rise_strictly : {B : Type 0} (j : Written B) (is : List (Written B)) (k : Written B) → rises (j ∷ is) ≡ true → Contains is k → before j.instant k.instant ≡ true
 rise_strictly j [] k up h = absurd (none_in k h)
 rise_strictly j (i ∷ is) k up h =
@@ -76,7 +76,7 @@ module _ {C B : Type 0} (course : CourseOf C B) (laws : IsLawful course) where
   drawn_value true instants i j t v next e = sym (laws.level i.value i.instant j.instant t) ∙ e
   drawn_value false instants i j t v next e = inr (record { to = j; next = next; value = e })
 
-  -- with an instant more in front that is not later than t
+  -- with one more instant before the others, which is not later than t
   value_with : (step : Bool) (i : Written B) (is : List (Written B)) (by : Written B) (t : Ratio) (v : B) → up_to i.instant t ≡ true → IsValueFrom course step is by t v → IsValueFrom course step (i ∷ is) by t v
   value_with true i is by t v a h = h
   value_with false i is by t v a h = elim h [
@@ -95,7 +95,7 @@ module _ {C B : Type 0} (course : CourseOf C B) (laws : IsLawful course) where
     })
   ]
 
-  -- and without it
+  -- the same without that instant
   value_without : (step : Bool) (i : Written B) (is : List (Written B)) (by : Written B) (t : Ratio) (v : B) → up_to i.instant t ≡ true → IsValueFrom course step (i ∷ is) by t v → IsValueFrom course step is by t v
   value_without true i is by t v a h = h
   value_without false i is by t v a h = elim h [
@@ -287,7 +287,7 @@ module _ {C B : Type 0} (course : CourseOf C B) (laws : IsLawful course) where
         value = value_without step i (j ∷ is) s.by t v from_i s.value;
       }
 
-  -- where the first instant is the last one by t, the second is later than t
+  -- if the first instant is the last one up to t, the second is later than t
   first_ends : (step lower upper : Bool) (i j : Written B) (is : List (Written B)) (t : Ratio) (v : B) → rises (i ∷ j ∷ is) ≡ true → (s : SequenceAt course step lower (i ∷ j ∷ is) upper t v) → i ≡ s.by → before t j.instant ≡ true
   first_ends step lower upper i j is t v up s same =
       let r = both (before i.instant j.instant) (rises (j ∷ is)) up in

@@ -1,4 +1,4 @@
--- The printed text of an SQL value is read again as that value.
+-- The printed text of an SQL value reads back as that value.
 use Rattle.std.proofs.Common.{ℤ, refl, Ok}
 use Rattle.mob_ast.specs.declared.types.SqlType.{SqlType}
 use Rattle.mob_ast.specs.declared.types.SqlType.TheVariants as sql

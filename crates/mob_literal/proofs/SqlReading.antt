@@ -1,4 +1,4 @@
--- The text of an SQL value has one reading.
+-- The text of an SQL value has at most one reading.
 use Rattle.std.proofs.Common.{◌≡◌, ◌≢◌, ℤ, false, true, Ok, Err, sym, ap, ◌∙◌}
 use Rattle.std.specs.Prelude.{Result}
 use Rattle.mob_ratio.specs.Order.{same}

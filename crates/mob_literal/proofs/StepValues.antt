@@ -1,5 +1,5 @@
--- Each value that the slices of a step literal have is one that the type has, since each is one of
--- those that are written.
+-- Each value in the slices of a step literal is a value of the type, since it is one of the written
+-- values.
 use Rattle.std.proofs.Common.{◌≡◌, refl, sym, subst, true≢false, ℤ, List, [], ◌∷◌, Bool, true, false, Option, Some, None, Ok, inl, inr}
 use Rattle.std.proofs.lemmas.Bool.{and_parts as both}
 use Rattle.std.specs.Prelude.{Contains, MatchOption}
@@ -23,7 +23,7 @@ use Rattle.mob_literal.specs.Sequences.{IsValueFrom, is_step}
 use Rattle.mob_literal.specs.Sound.{Defines, LitAt, fitting_all, is_sound, is_sound_sequence, are_in_order, steps}
 
 module _ {A : Type 0} (test : A → Bool) where
-  -- a test that all entries pass is passed by one of them
+  -- a test that all entries pass is passed by each of them
   one_passes : (xs : List A) (x : A) → list_all test xs ≡ true → Contains xs x → test x ≡ true
   one_passes [] x h c = absurd (none_in x c)
   one_passes (y ∷ ys) x h c = elim (which_in y ys x c) [
@@ -40,7 +40,7 @@ steps_always true = refl
 steps_always false = refl
 
 module _ {B : Type 0} (has_value : B → Bool) (is_same : B → B → Bool) where
-  -- the value of a step literal at an instant is one that is written
+  -- the value of a step literal at an instant is a written one
   from_written : (step : Bool) (i : Written B) (instants : List (Written B)) (t : Ratio) (v : B) → step ≡ true → IsValueFrom (steady_course is_same) step instants i t v → i.value ≡ v
   from_written true i instants t v e h = h
   from_written false i instants t v e h = absurd (true≢false (sym e))
@@ -54,7 +54,7 @@ module _ {B : Type 0} (has_value : B → Bool) (is_same : B → B → Bool) wher
       let value = one_passes (λ (j : Written B). has_value j.value) q.instants i (both (list_all (λ (j : Written B). has_value j.value) q.instants) _ one).0 at.at.last.listed in
       subst (λ (x : B). has_value x ≡ true) (from_written step i q.instants t v so at.at.value) value
 
-  -- and each slice has an instant
+  -- and so is the value of each slice, since each slice has an instant
   each_written : (step : Bool) (qs : List (Sequence (Written B))) (slices : List (Slice (Steady B))) → step ≡ true → is_sound has_value (steady_course is_same) step qs ≡ true → Defines (steady_course is_same) step qs slices
       → (s : Slice (Steady B)) → Contains slices s → has_value s.course.value ≡ true
   each_written step qs slices so sound defines s c =

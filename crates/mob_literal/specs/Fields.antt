@@ -16,7 +16,7 @@ abbrev pub is_empty : Text → Bool
 is_empty [] = true
 is_empty (c ∷ cs) = false
 
--- A field is NULL where it is \N, and in a column of another type than text where it is empty.
+-- A field is NULL if it is \N. In a column of any type but text it is also NULL if it is empty.
 abbrev pub is_null_field : SqlType → Text → Bool
 is_null_field sql.Text field = is_null_text field
 is_null_field type field = cond (is_empty field) true (is_null_text field)
@@ -25,22 +25,22 @@ abbrev pub begins_with_backslash : Text → Bool
 begins_with_backslash [] = false
 begins_with_backslash (c ∷ cs) = nat_eq c 92
 
--- one that begins with a backslash has one more in front
+-- a text that begins with a backslash gets one more in front
 unfoldable pub doubled : Text → Text
 doubled text = cond (begins_with_backslash text) (92 ∷ text) text
 
--- one that begins with two backslashes loses one
+-- a text that begins with two backslashes loses one
 unfoldable pub undoubled : Text → Text
 undoubled [] = []
 undoubled (c ∷ cs) = cond (nat_eq c 92 && begins_with_backslash cs) cs (c ∷ cs)
 
--- the text of a field that is not NULL
+-- the text of a field other than NULL
 abbrev pub text_of_field : SqlType → Text → Text
 text_of_field sql.Text field = undoubled field
 text_of_field type field = field
 
--- the field of a value: \N for NULL, a text with a backslash more where it begins with one, and
--- else the printed text
+-- the field of a value: \N for NULL, and else the printed text; a text that begins with a backslash
+-- gets one more in front
 abbrev pub field_text : ℤ → Value → Text
 field_text day value.Null = codes "\\N"
 field_text day (value.Text text) = doubled text

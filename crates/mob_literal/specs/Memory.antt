@@ -1,9 +1,9 @@
--- Which types take memory to be read.
+-- The types whose values take memory to read.
 use Rattle.std.specs.Prelude.{Bool, true, false}
 use Rattle.mob_ast.specs.declared.types.SqlType.{SqlType}
 use Rattle.mob_ast.specs.declared.types.SqlType.TheVariants as sql
 
--- to read a value of the type takes memory
+-- reading a value of this type takes memory
 abbrev pub takes_memory : SqlType → Bool
 takes_memory sql.Text = true
 takes_memory sql.Polygon = true

@@ -1,4 +1,4 @@
--- When the printed text of a point, a span, a span set, a box and a temporal value is read again as
+-- When the printed text of a point, a span, a span set, a box or a temporal value reads back as
 -- that value.
 use Rattle.std.specs.Prelude.{◌≡◌, ◌≢◌, ◌+◌, ◌≤◌, ℕ, ℤ, List, [], ◌∷◌, length, Contains, Bool, true, Option, Some}
 use Rattle.std.specs.Str.{is_utf8}
@@ -21,13 +21,13 @@ use Rattle.mob_written.specs.Prefix.{begins_prefix}
 use Rattle.mob_written.specs.Printed.{Style, neighbour_groups, instants_of}
 use Rattle.mob_written.specs.Style.{style_of}
 
--- how many instants the groups print
+-- the number of instants that the groups print
 abbrev pub instants_in : {C B : Type 0} → Style C B → List (List (Slice C)) → ℕ
 instants_in style [] = 0
 instants_in style (group ∷ groups) = length (instants_of style group) + instants_in style groups
 
--- A normal value whose values can be written, whose instants lie in the years 0001 to 9999, and
--- that prints at most 100,000 of them.
+-- A value in normal form, whose values can be written, whose instants are in the years 0001 to
+-- 9999, and which prints at most 100,000 of them.
 pub record IsReadable {C B : Type 0} (course : CourseOf C B) (day : ℤ) (text : B → Text) (IsWritten : B → Type 0) (slices : List (Slice C)) : Type 0 where
   pub normal : IsNormal course.start course.end course.continues slices
   pub starts : (s : Slice C) → Contains slices s → IsWritten (course.start s.course)
@@ -36,18 +36,18 @@ pub record IsReadable {C B : Type 0} (course : CourseOf C B) (day : ℤ) (text :
   pub uppers : (s : Slice C) → Contains slices s → IsDated day s.span.upper
   pub short : instants_in (style_of course text day) (neighbour_groups course slices) ≤ 100000
 
--- each of the slices ends with the value with which it starts: step interpolation changes nothing
+-- each slice ends with the value with which it starts, so step interpolation changes nothing
 abbrev pub AreLevel : {C B : Type 0} → CourseOf C B → List (Slice C) → Type 0
 AreLevel course slices = (s : Slice _) → Contains slices s → course.start s.course ≡ course.end s.course
 
--- the printed text of the value is read again as that value, which the type has, and begins with
--- the first letter of no prefix
+-- the printed text of the value reads back as that value, which the type has, and does not begin
+-- with the first letter of a prefix
 pub record IsReadAgain {B : Type 0} (value : Text → Option B → Type 0) (text : B → Text) (has_value : B → Bool) (prefixes : Prefixes) (v : B) : Type 0 where
   pub read : value (text v) (Some v)
   pub of_type : has_value v ≡ true
   pub begun : Stops (begins_prefix prefixes) (text v)
 
--- every truth value
+-- every bool
 abbrev pub AnyTruth : Bool → Type 0
 AnyTruth b = Unit {0}
 
@@ -61,12 +61,12 @@ pub record PointFits (p : Point) : Type 0 where
   pub x_fits : Fits p.x
   pub y_fits : Fits p.y
 
--- some instant is in the span, and its ends lie in the years 0001 to 9999
+-- the span has an instant, and its ends are in the years 0001 to 9999
 pub record IsReadableSpan (day : ℤ) (s : SpanOf) : Type 0 where
   pub some : has_instant s ≡ true
   pub dated : HasDatedEnds day s
 
--- The spans are a span set that has an instant and at most 100,000 ends, which lie in the years
+-- The spans are a span set that has an instant and at most 100,000 ends, which are in the years
 -- 0001 to 9999.
 pub record IsReadableSet (day : ℤ) (spans : List SpanOf) : Type 0 where
   pub normal : IsSpanSet spans
@@ -74,12 +74,12 @@ pub record IsReadableSet (day : ℤ) (spans : List SpanOf) : Type 0 where
   pub short : length spans ≤ 50000
   pub dated : HaveDatedEnds day spans
 
--- The box has a dimension, no least coordinate above its greatest, and an instant in its span; its
--- coordinates fit, and the ends of its span lie in the years 0001 to 9999.
+-- The box has a dimension, each least coordinate is at most the greatest one, and its span has an
+-- instant. Its coordinates fit, and the ends of its span are in the years 0001 to 9999.
 pub record IsReadableBox (day : ℤ) (b : BoxOf) : Type 0 where
   pub stands : is_box b ≡ true
   pub dated : HasDatedSides day b
 
--- like all text it is UTF-8
+-- the text is UTF-8, as all text is
 abbrev pub IsText : Text → Type 0
 IsText v = is_utf8 v ≡ true

@@ -1,4 +1,4 @@
--- When the printed text of an SQL value is read again as that value.
+-- When the printed text of an SQL value reads back as that value.
 use Rattle.std.specs.Prelude.{ℤ}
 use Rattle.mob_ratio.specs.Order.{same}
 use Rattle.mob_frac.specs.Fits.{Fits}
@@ -17,7 +17,7 @@ use Rattle.mob_geotext.specs.PolygonText.{IsReadablePolygon}
 use Rattle.mob_points.specs.PointText.{point_text}
 use Rattle.mob_literal.specs.Readable.{IsReadable, AnyTruth, IsInt, PointFits, IsReadableSpan, IsReadableSet, IsReadableBox, IsText}
 
--- the value is one of the type, and its printed text is read again as that value
+-- the value is one of the type, and its printed text reads back as that value
 abbrev pub IsReadableAs : SqlType → ℤ → Value → Type 0
 IsReadableAs sql.Bool day (value.Bool truth) = AnyTruth truth
 IsReadableAs sql.Int day (value.Number number) = IsInt number

@@ -1,5 +1,4 @@
--- The texts of SQL values, type by type: what a text says as a value of a type, and what a value
--- prints as.
+-- The texts of SQL values, type by type: the value of a text, and the printed text of a value.
 use Rattle.std.specs.Prelude.{◌≡◌, ℤ, [], true, false, Result, Ok, Err}
 use Rattle.mob_ratio.specs.Order.{same}
 use Rattle.mob_language.specs.Language.{Text}
@@ -32,7 +31,7 @@ use Rattle.mob_written.specs.Values.{any_value, is_whole_number, truth_value, qu
 use Rattle.mob_written.specs.Printed.{moving_text}
 use Rattle.mob_written.specs.Style.{style_of}
 
--- every text stands for itself
+-- every text is its own value
 abbrev pub texts : TextForm Text Text
 texts = record {
   shape = λ text v. text ≡ v;
@@ -42,12 +41,12 @@ texts = record {
   means = λ v w. w ≡ v;
 }
 
--- the value that is made of what the text says, or the fault of the text
+-- the SQL value made of the value of the text, or the fault of the text
 abbrev pub SaysInForm : {S V : Type 0} → TextForm S V → (V → Value) → Text → Result Value ReadText → Type 0
 SaysInForm {S} {V} f made text (Ok v) = (w : V) × (v ≡ made w) × Lit f text (Ok w)
 SaysInForm f made text (Err fault) = Lit f text (Err fault)
 
--- What a text says as a value of a type, with instants counted from a day.
+-- The value of a text in a type, with instants counted from a day, or its fault.
 abbrev pub SaysAs : SqlType → ℤ → Text → Result Value ReadText → Type 0
 SaysAs sql.Bool day text r = SaysInForm truths value.Bool text r
 SaysAs sql.Int day text r = SaysInForm whole_numbers value.Number text r

@@ -1,4 +1,4 @@
-//! Fields of table files, read and printed.
+//! Reads and prints the fields of table files.
 ghost use Rattle.std.specs.Prelude.{◌≡◌, ◌≢◌, ◌∷◌, ◌++◌, true, false, Ok, Err, MatchOption, OnOk, OnErr, string_bytes};
 ghost use Rattle.mob_numeral.specs.declared.fault.ReadText.TheVariants.{NoMemory};
 ghost use Rattle.mob_literal.specs.Memory.{takes_memory};
@@ -11,7 +11,7 @@ use mob_scalar::{Epoch, ReadText};
 use mob_value::Value;
 use std::alloc::{AllocError, Global};
 
-/// What stands behind the backslash that a text begins with.
+/// The text after the backslash at its front; `None` if it does not begin with one.
 fn behind_backslash(text: &str) -> Option<&str>
     ensures value { MatchOption result (begins_with_backslash text.now ≡ false) (λ rest. text.now ≡ 92 ∷ rest.now) }
 {
@@ -24,7 +24,7 @@ fn is_null_text(field: &str) -> bool
     field == "\\N"
 }
 
-/// Whether a field stands for NULL.
+/// Whether a field is NULL.
 fn is_null(ty: SqlType, field: &str) -> bool
     ensures value { result ≡ is_null_field ty field.now }
 {
@@ -34,7 +34,7 @@ fn is_null(ty: SqlType, field: &str) -> bool
     }
 }
 
-/// A field without the first of two backslashes in front.
+/// A field that begins with two backslashes, without the first; any other field unchanged.
 #[tactic(auto, unfolding(crate::specs::Fields::undoubled))]
 fn undoubled(field: &str) -> &str
     ensures value { result.now ≡ without_backslash field.now }
@@ -48,7 +48,7 @@ fn undoubled(field: &str) -> &str
     }
 }
 
-/// The text of a field that is not NULL.
+/// The text of a field other than NULL.
 fn text_in(ty: SqlType, field: &str) -> &str
     ensures value { result.now ≡ text_of_field ty field.now }
 {
@@ -58,11 +58,11 @@ fn text_in(ty: SqlType, field: &str) -> &str
     }
 }
 
-/// The value of a type that a field of a table file says.
+/// Reads the value of a field of a table file, in a column of this type.
 ///
-/// The field `\N` is NULL, and in a column of another type than text an empty field is NULL too. In
-/// a text column a field that begins with two backslashes loses one. Else the field is read whole,
-/// as `read_value` reads it, with the same faults.
+/// The field `\N` is NULL. In a column of any type but text an empty field is NULL too. In a text
+/// column a field that begins with two backslashes loses one. Any other field is read whole by
+/// `read_value`, whose faults it returns.
 pub fn read_field(alloc: Global, ty: SqlType, field: &str, epoch: &Epoch) -> Result<Value, ReadText>
     ensures null { is_null_field ty field.now ≡ true → result ≡ Ok Value.Null }
     ensures reading { is_null_field ty field.now ≡ false → SaysAs ty epoch.now (text_of_field ty field.now) result }
@@ -74,7 +74,7 @@ pub fn read_field(alloc: Global, ty: SqlType, field: &str, epoch: &Epoch) -> Res
     read_value(alloc, ty, text_in(ty, field), epoch)
 }
 
-/// Appends a text, with a backslash more in front where it begins with one.
+/// Appends a text; if it begins with a backslash, it gets one more in front.
 #[tactic(auto, unfolding(crate::specs::Fields::doubled))]
 fn write_doubled(text: &str, into: &mut String) -> Result<(), AllocError>
     ensures written { OnOk result (string_bytes into.new ≡ string_bytes into.old ++ with_backslash text.now) }
@@ -88,8 +88,9 @@ fn write_doubled(text: &str, into: &mut String) -> Result<(), AllocError>
     into.push_str(text)
 }
 
-/// Appends the field of a value: `\N` for NULL, a text with a backslash more in front where it
-/// begins with one, and else the printed text. Where memory is refused `into` stays as it was.
+/// Appends the field of a value: `\N` for NULL, and else the printed text. A text that begins with
+/// a backslash gets one more in front. An error means that an allocation failed; `into` is then
+/// unchanged.
 pub fn write_field(value: &Value, epoch: &Epoch, into: &mut String) -> Result<(), AllocError>
     ensures written { OnOk result (string_bytes into.new ≡ string_bytes into.old ++ field_text epoch.now value.now) }
     ensures unchanged { OnErr result (string_bytes into.new ≡ string_bytes into.old) }

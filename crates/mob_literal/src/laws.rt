@@ -1,4 +1,5 @@
-//! What holds of every literal. No code runs here.
+//! Laws of literals and fields: each has one reading, and what is printed reads back. No code runs
+//! here.
 
 ghost use Rattle.std.specs.Prelude.{◌≡◌, ◌≢◌, ◌++◌, List, Bool, ℕ, ℤ, Result, Ok, Err, true, false};
 ghost use Rattle.mob_language.specs.Language.{Text};
@@ -36,13 +37,13 @@ use mob_slice::Course;
 use mob_written::WrittenValue;
 use mob_written::printing::Printed;
 
-/// Nothing stands before a literal of a step type, whose text is that of its sequences alone.
+/// A literal of a step type has no prefix: its text is that of its sequences.
 pub fn nothing_before_steps<T: WrittenValue>()
     ensures alone { (day : ℤ) (text : Text) (v : Literal (Noted T.Base)) → Prefixed (admitted true false) (noted day T.shape) text v → literal (noted day T.shape) text v.sequences }
     ensures unsaid { (day : ℤ) (text : Text) (v : Literal (Noted T.Base)) → Prefixed (admitted true false) (noted day T.shape) text v → v.says_step ≡ false }
 {}
 
-/// A literal of a step type has one reading, and so has the text of a value of each type.
+/// A literal of a step type has at most one reading, and so has the text of a value of each type.
 pub fn one_reading()
     ensures truths { (day : ℤ) → HasOneReading (steps day truth_value any_value same_bool) }
     ensures numbers { (day : ℤ) → HasOneReading (steps day number_value is_whole_number same) }
@@ -51,13 +52,13 @@ pub fn one_reading()
         → a ≢ Err NoMemory → b ≢ Err NoMemory → SaysAs ty day text a → SaysAs ty day text b → a ≡ b }
 {}
 
-/// So has a literal of a type of values over any course.
+/// A literal of any type, over any course, has at most one reading.
 pub fn one_reading_over_every_course<T: WrittenValue, C: Course<Base = T::Base>>()
     ensures one { (day : ℤ) → HasOneReading (literals day T.HAS_SRID T.shape T.has_value (course_of C.Course T.Base.is_same)) }
 {}
 
-/// What is printed of a step value is read again as that value, where its instants lie in the years
-/// 0001 to 9999 and at most 100,000 of them are printed.
+/// A printed step value reads back as itself if its instants are in the years 0001 to 9999 and at
+/// most 100,000 of them are printed.
 pub fn steps_read_again()
     ensures truths { (day : ℤ) (v : List (Slice (Steady Bool))) → IsReadable (steady_course same_bool) day truth_text AnyTruth v
         → Lit (steps day truth_value any_value same_bool) (moving_text (style_of (steady_course same_bool) truth_text day) v) (Ok v) }
@@ -67,10 +68,9 @@ pub fn steps_read_again()
         → Lit (steps day quoted_value any_value same_bytes) (moving_text (style_of (steady_course same_bytes) quoted_text day) v) (Ok v) }
 {}
 
-/// What is printed of a value over time is read again as that value, where what is printed of each
-/// of its values is. Prefixes that its type admits may stand before it: `SRID=0;` says nothing
-/// more, and `Interp=Step;` changes nothing where each slice ends with the value with which it
-/// starts.
+/// A printed temporal value reads back as itself if each of its printed values does. The prefixes
+/// that its type admits may come before it: `SRID=0;` changes nothing, and `Interp=Step;` changes
+/// nothing if each slice ends with the value with which it starts.
 pub fn literals_read_again<T: WrittenValue, C: Course<Base = T::Base>>()
 where
     T::Base: Printed,
@@ -82,14 +82,14 @@ where
         (front ++ moving_text (style_of (course_of C.Course T.Base.is_same) T.Base.text day) v) (Ok v) }
 {}
 
-/// What is printed of a value of a type is read again as that value, under the same conditions on
+/// The printed text of a value of any type reads back as that value, under the same conditions on
 /// its instants.
 pub fn value_read_again()
     ensures again { (ty : SqlType) (day : ℤ) (v : Value) → IsReadableAs ty day v → SaysAs ty day (value_text day v) (Ok v) }
 {}
 
-/// The field of NULL is NULL, and the field of a value is read again as that value, under the same
-/// conditions on its instants.
+/// The field of NULL reads back as NULL, and the field of any other value as that value, under the
+/// same conditions on its instants.
 pub fn field_read_again()
     ensures null { (ty : SqlType) (day : ℤ) → is_null_field ty (field_text day Null) ≡ true }
     ensures there { (ty : SqlType) (day : ℤ) (v : Value) → IsReadableAs ty day v → is_null_field ty (field_text day v) ≡ false }

@@ -1,5 +1,5 @@
-//! The values of literals and fields, of all types: what a text means, and how a value prints.
-//! Temporal literals come from `mob_written`, which reads their parts.
+//! Reads and prints the values of literals and fields, of all types. `mob_written` reads the parts
+//! of temporal literals.
 #![tactic(auto)]
 
 mod fields;

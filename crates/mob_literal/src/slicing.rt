@@ -1,4 +1,4 @@
-//! The slices of a sequence.
+//! Makes the slices of a sequence.
 ghost use Rattle.std.specs.Prelude.{◌≡◌, ◌++◌, ◌∷◌, [], Bool, IfOk, option_map, cond, true, false};
 ghost use Rattle.mob_slice.specs.CourseOf.{course_of};
 ghost use Rattle.mob_literal.specs.Slices.{made};
@@ -8,10 +8,11 @@ use mob_span::Span;
 use mob_written::written::Written;
 use std::alloc::{AllocError, Global};
 
-/// The slices of the sequence with these instants and brackets: under step interpolation each value
-/// lasts until the next instant, else a course goes from it to the next value. None exactly where
-/// the sequence is not sound: an instant is not later than the one before it, a sequence of one
-/// instant leaves an end out, or one without its upper end does not come there to its last value.
+/// The slices of the sequence with these instants and brackets. Under step interpolation each value
+/// lasts until the next instant; otherwise a course leads from it to the next value. `None` exactly
+/// if the sequence is unsound: an instant is not later than the one before it, a sequence of one
+/// instant excludes an end, or the last course of a sequence without its upper end does not reach
+/// its last value. An error means that an allocation failed.
 pub fn slices_of<C: Course + Drop>(
     alloc: Global,
     step: bool,
@@ -44,9 +45,10 @@ where
     closed(alloc, slices, level, included, last, upper_inc)
 }
 
-/// The slices up to the last written instant, with one for that instant where the sequence has its
-/// upper end. None exactly where the sequence is not sound. `level` tells whether the last of the
-/// slices ends with the value of that instant, `included` whether the one for it may include it.
+/// The slices up to the last written instant, with one for that instant if the sequence includes
+/// its upper end. `None` exactly if the sequence is unsound. `level` says whether the last slice
+/// ends with the value of that instant, and `included` whether the slice for that instant may
+/// include it.
 fn closed<C: Course + Drop>(
     alloc: Global,
     slices: Vec<Slice<C>>,
@@ -74,14 +76,14 @@ where
     Ok(Some(all))
 }
 
-/// Whether the course from a value to the next one ends with that.
+/// Whether the course from a value to the next one ends with the next one.
 fn arrives<B: BaseValue>(step: bool, value: &B, next: &B) -> bool
     ensures exact { result ≡ cond step (B.is_same value.now next.now) true }
 {
     if step { value.same(next) } else { true }
 }
 
-/// The course that has the value of a written instant all along.
+/// The constant course with the value of a written instant.
 fn alone<C: Course>(alloc: Global, written: Written<C::Base>) -> Result<C, AllocError>
 where
     C::Base: BaseValue + Drop,
@@ -92,8 +94,7 @@ where
     Ok(C::of(value, end))
 }
 
-/// The course from a written instant to the next value: under step interpolation the first value
-/// all along.
+/// The course from a written instant to the next value; under step interpolation it is constant.
 fn drawn<C: Course>(
     alloc: Global,
     step: bool,

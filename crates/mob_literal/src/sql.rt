@@ -1,4 +1,4 @@
-//! SQL values, read from their texts and printed.
+//! Reads SQL values from their texts, and prints them.
 ghost use Rattle.std.specs.Prelude.{◌≡◌, ◌≢◌, ◌++◌, Err, MatchResult, OnOk, OnErr, false, true, string_bytes};
 ghost use Rattle.mob_ratio.specs.Order.{same};
 ghost use Rattle.mob_span.specs.Flags.{same_bool};
@@ -86,7 +86,7 @@ fn read_area(alloc: Global, text: &str) -> Result<Value, ReadText>
     Ok(Value::Polygon(read_polygon(alloc, text)?))
 }
 
-// A value that is large, in memory of its own.
+// A value in an allocation of its own.
 fn boxed<T: Drop>(alloc: Global, value: T) -> Result<Boxed<T>, ReadText>
     ensures same { MatchResult result (λ b. b ≡ value) (λ e. e ≡ NoMemory) }
 {
@@ -144,11 +144,13 @@ fn read_tgeompoint(alloc: Global, text: &str, epoch: &Epoch) -> Result<Value, Re
     Ok(Value::MovingPoint(read_moving::<Points, PlaneLine>(alloc, text, epoch)?))
 }
 
-/// The value of a type that a text says. Instants count from midnight UTC of the epoch's day.
+/// Reads a value of this type from its text. Instants are in seconds since midnight UTC of the
+/// epoch day.
 ///
-/// The first fault in the order `NotText`, `Limit`, `TooLarge` and `Unsound`, or `NoMemory`. A text
-/// of each type may have blanks at its ends, but one of the type text keeps all its characters.
-/// Only a text, a polygon, a span, a span set, a box and a value over time take memory.
+/// The first fault in the order `NotText`, `Limit`, `TooLarge` and `Unsound`, or `NoMemory` if an
+/// allocation fails. A text may have blanks at both ends, except that a value of type text keeps
+/// all its characters. Only a text, a polygon, a span, a span set, a box and a value over time take
+/// memory.
 pub fn read_value(alloc: Global, ty: SqlType, text: &str, epoch: &Epoch) -> Result<Value, ReadText>
     ensures reading { SaysAs ty epoch.now text.now result }
     ensures memory { takes_memory ty ≡ false → result ≢ Err NoMemory }
@@ -172,8 +174,8 @@ pub fn read_value(alloc: Global, ty: SqlType, text: &str, epoch: &Epoch) -> Resu
     }
 }
 
-/// Appends the printed text of a value that is not NULL. Where memory is refused `into` stays as it
-/// was.
+/// Appends the printed text of a value other than NULL. An error means that an allocation failed;
+/// `into` is then unchanged.
 pub fn write_value(value: &Value, epoch: &Epoch, into: &mut String) -> Result<(), AllocError>
     requires there { value.now ≢ Value.Null }
     ensures written { OnOk result (string_bytes into.new ≡ string_bytes into.old ++ value_text epoch.now value.now) }

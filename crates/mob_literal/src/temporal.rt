@@ -1,4 +1,4 @@
-//! Temporal literals, read.
+//! Reads temporal literals, and makes their slices.
 ghost use Rattle.std.specs.Prelude.{◌≡◌, option_map, Option, Some, None, Ok, Err, IfOk, true, false};
 ghost use Rattle.std.specs.List.{list_all};
 ghost use Rattle.mob_numeral.specs.Verdict.{Lit};
@@ -17,7 +17,7 @@ use mob_written::written::{Literal, Noted, Sequence, Written};
 use mob_written::{WrittenValue, all_neighbours, literal_of};
 use std::alloc::{AllocError, Global};
 
-/// Whether there are more than 100,000 instants.
+/// Whether the sequences have more than 100,000 instants.
 fn is_long<A>(sequences: &[Sequence<A>]) -> bool
     ensures value { result ≡ is_over_limit sequences.now }
 {
@@ -31,7 +31,7 @@ fn is_long<A>(sequences: &[Sequence<A>]) -> bool
     false
 }
 
-/// The value at the instant, where the numbers of both fit.
+/// The value at the instant; `None` if either does not fit.
 fn written_of<B: Drop>(noted: Noted<B>) -> Option<Written<B>>
     ensures value { result ≡ written_in noted }
 {
@@ -63,7 +63,7 @@ fn fitting_sequence<B: Drop>(
     }))
 }
 
-/// The sequences, where each of their numbers fits.
+/// The sequences; `None` if one of their numbers does not fit.
 fn fitting_all<B: Drop>(
     alloc: Global,
     sequences: Vec<Sequence<Noted<B>>>,
@@ -110,7 +110,7 @@ fn has_values<T: WrittenValue>(instants: &[Written<T::Base>]) -> bool
     instants.iter().all(|instant| T::has_value(&instant.value))
 }
 
-/// The slices of a sequence, where it is sound.
+/// The slices of a sequence; `None` if it is unsound.
 fn sequence_slices<T: WrittenValue, C: Course<Base = T::Base> + Drop>(
     alloc: Global,
     step: bool,
@@ -130,7 +130,7 @@ fn sequence_slices<T: WrittenValue, C: Course<Base = T::Base> + Drop>(
     slices_of::<C>(alloc, step, lower_inc, instants.into_vec(), upper_inc)
 }
 
-/// The slices of all sequences, where each of them is sound.
+/// The slices of all sequences; `None` if one of them is unsound.
 fn all_slices<T: WrittenValue, C: Course<Base = T::Base> + Drop>(
     alloc: Global,
     step: bool,
@@ -149,7 +149,7 @@ fn all_slices<T: WrittenValue, C: Course<Base = T::Base> + Drop>(
     Ok(Some(all))
 }
 
-/// The literal, where each of its numbers fits.
+/// The literal; `None` if one of its numbers does not fit.
 fn fitting_literal<B: Drop>(
     alloc: Global,
     literal: Literal<Noted<B>>,
@@ -169,10 +169,11 @@ fn fitting_literal<B: Drop>(
     }
 }
 
-/// The literal that a text is, as it is written, of a type whose courses are steady, or are not.
+/// Reads a literal, as written, of a type whose courses are steady or not.
 ///
-/// The faults in order: `NotText` where the text is no literal, `Limit` where it has more than
-/// 100,000 instants, and `TooLarge` where a value or an instant does not fit.
+/// The faults, in this order: `NotText` if the text is not a literal, `Limit` if it has more than
+/// 100,000 instants, and `TooLarge` if a value or an instant does not fit. `NoMemory` if an
+/// allocation fails.
 fn read_written<T: WrittenValue>(
     alloc: Global,
     text: &str,
@@ -196,8 +197,8 @@ fn read_written<T: WrittenValue>(
     }
 }
 
-/// Whether a literal has step interpolation: where it says so, and where the courses of its type
-/// are steady.
+/// Whether a literal has step interpolation: by its prefix, or because the courses of its type are
+/// steady.
 fn is_step(steady: bool, says_step: bool) -> bool
     ensures value { result ≡ is_step_in steady says_step }
     ensures moves { result ≡ false → steady ≡ false }
@@ -205,7 +206,7 @@ fn is_step(steady: bool, says_step: bool) -> bool
     if says_step { true } else { steady }
 }
 
-/// The slices of a literal, where each of its sequences is sound.
+/// The slices of a literal; `None` if one of its sequences is unsound.
 fn literal_slices<T: WrittenValue, C: Course<Base = T::Base> + Drop>(
     alloc: Global,
     literal: Literal<Written<T::Base>>,
@@ -220,14 +221,19 @@ fn literal_slices<T: WrittenValue, C: Course<Base = T::Base> + Drop>(
     all_slices::<T, C>(alloc, step, sequences.into_vec())
 }
 
-/// The temporal value that a literal stands for. Instants count from midnight UTC of the epoch's
+/// Reads a temporal value from its literal. Instants are in seconds since midnight UTC of the epoch
 /// day.
 ///
-/// The faults in order: `NotText` where the text is no literal, `Limit` where it has more than
-/// 100,000 instants, `TooLarge` where a value or an instant does not fit, and `Unsound` where the
-/// type does not have a value, the instants of a sequence do not rise, a sequence of one instant
-/// leaves an end out, one with step interpolation that leaves its upper end out does not keep its
-/// value until there, or two sequences are out of order or share an instant.
+/// The faults, in this order:
+/// - `NotText`: the text is not a literal.
+/// - `Limit`: it has more than 100,000 instants.
+/// - `TooLarge`: a value or an instant does not fit.
+/// - `Unsound`: the type does not have one of the values; the instants of a sequence are not
+///   strictly increasing; a sequence of one instant excludes an end; a sequence with step
+///   interpolation that excludes its upper end does not keep its value up to there; or two
+///   sequences are out of order or share an instant.
+///
+/// `NoMemory` if an allocation fails.
 pub fn read_moving<T: WrittenValue, C: Course<Base = T::Base> + Drop>(
     alloc: Global,
     text: &str,

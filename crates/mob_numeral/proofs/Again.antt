@@ -1,4 +1,4 @@
--- The printed text of a number is a text of that number.
+-- The printed text of a number denotes that number.
 use Rattle.std.proofs.Common.{◌≡◌, ℕ, ◌^◌, ◌<◌, ◌≤◌, [], ◌∷◌, ◌++◌, length, Bool, true, false, cond, Some, None, ℤ, pos, negsuc, nat_abs, refl, sym, ap, subst, ◌∙◌, append_assoc, arith, rules, codes, inl, inr}
 use Rattle.std.specs.Prelude.{nat_eq, Ok}
 use Rattle.std.specs.Int.{IsInRange}

@@ -1,11 +1,11 @@
--- Numbers may stand before a sign with blanks beside it, as before the @ of a temporal text.
+-- Numbers may come before a sign with blanks beside it, such as the @ of a temporal text.
 use Rattle.std.proofs.Common.{◌≡◌, ℕ, [], ◌∷◌, ◌++◌, Bool, false, refl, sym, ap, subst, ◌∙◌, append_assoc, rules, codes}
 use Rattle.mob_language.specs.Language.{Text, AreAll, is_blank, spaced}
 use Rattle.mob_language.proofs.Exact.{Stops}
 use Rattle.mob_language.proofs.Heads.{Apart}
 use Rattle.mob_numeral.proofs.NumberExact.{continues}
 
--- blanks, the sign, and what stands behind it
+-- blanks, the sign, and what follows it
 pub record Signed (sign : ℕ) (text rest : Text) : Type 0 where
   pub blanks : Text
   pub after : Text

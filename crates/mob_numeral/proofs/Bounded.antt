@@ -1,4 +1,4 @@
--- Texts of numbers stand for bounded numerals.
+-- The numerals of texts are bounded.
 use Rattle.std.proofs.Common.{◌≡◌, ℕ, suc, ◌+◌, ◌*◌, ◌^◌, ◌<◌, ◌≤◌, length, true, Option, Some, None, sym, subst, arith, rules, codes, inl, inr}
 use Rattle.std.specs.Prelude.{IfSome}
 use Rattle.std.proofs.lemmas.Nat.{pow-add}

@@ -44,6 +44,6 @@ front_lt ds i k h le =
     let b : 10 ^ length (take i ds) ≤ 10 ^ k = pow-le-pow_right {n = 10} (omega arith) (omega (arith, s, le)) in
     omega (arith, a, b)
 
--- the value grows by a digit
+-- the value after one more digit
 pub front_more : (ds : List ℕ) (i : ℕ) → AreFigures ds → i < length ds → digits_value 10 (take (i + 1) ds) ≡ digits_value 10 (take i ds) * 10 + (get_or ds i 0 - 48)
 front_more ds i h lt = let a = digits_value_more 10 ds i lt in let b = digit_is (get_or ds i 0) (figure_at ds i h lt) in omega (arith, a, b)

@@ -1,4 +1,4 @@
--- The test of a number that fits.
+-- The test for numbers that fit.
 use Rattle.std.proofs.Common.{◌≡◌, Bool, true, cond, Some, None, sym, ap, subst, rules}
 use Rattle.mob_ratio.specs.Ratio.{Ratio}
 use Rattle.mob_frac.specs.Fits.{Fits}
@@ -13,7 +13,7 @@ fits_test q f = let a = f.num_fits in let b = f.den_fits in search rules
 pub fitting_fits : (q r : Ratio) → Fits q → q ≡ r → fitting r ≡ Some q
 fitting_fits q r f e = subst (λ (x : Ratio). fitting x ≡ Some q) e (ap (λ (b : Bool). cond b (Some q) None) (fits_test q f))
 
--- a number that fits is printed as a text of itself
+-- the printed text of a number that fits denotes that number
 pub number_value_said : (q : Ratio) → Fits q → number_value (number_text q) (Some q)
 number_value_said q f =
     let n = number_plain q f in

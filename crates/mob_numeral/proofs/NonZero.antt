@@ -25,7 +25,7 @@ use Rattle.mob_numeral.proofs.Bounded.{bottom_positive}
 use Rattle.mob_numeral.proofs.Digits.{digit_is}
 use Rattle.mob_numeral.proofs.Powers.{ten_pos}
 
--- no letter of an exponent and no slash: the look for a figure goes on behind it
+-- neither a letter of an exponent nor a slash, so that the search for a figure goes on
 abbrev pub goes_on : ℕ → Bool
 goes_on c = not (is_exponent_letter c || nat_eq c 47)
 
@@ -37,7 +37,7 @@ or_right : (a b : Bool) → b ≡ true → (a || b) ≡ true
 or_right true b e = refl
 or_right false b e = e
 
--- what the first byte does
+-- the effect of the first byte
 figure_first : (c : ℕ) (cs : Text) → has_figure (c ∷ cs) ≡ cond (goes_on c) (is_figure c || has_figure cs) false
 figure_first c cs = ap (list_any is_figure) (take_while-cons goes_on c cs) ∙ picked (goes_on c)
   where
@@ -54,7 +54,7 @@ figure_stops c cs e = figure_first c cs ∙ ap (λ (b : Bool). cond b (is_figure
 not_both : (b : Bool) → b ≡ true → b ≡ false → ⊥
 not_both b e f = cc
 
--- bytes that stop nothing: the figure stands among them or behind them
+-- bytes that do not end the search: the figure is among them or after them
 pub figure_within : (p : ℕ → Bool) → ((c : ℕ) → p c ≡ true → goes_on c ≡ true) → (front rest : Text) → AreAll p front → has_figure (front ++ rest) ≡ true
     → (list_any is_figure front ≡ true) ⊎ (has_figure rest ≡ true)
 figure_within p on [] rest each h = inr h
@@ -70,7 +70,7 @@ no_figure_in : (p : ℕ → Bool) → ((c : ℕ) → p c ≡ true → is_figure 
 no_figure_in p less [] each = refl
 no_figure_in p less (c ∷ cs) each = ap (λ (b : Bool). b || list_any is_figure cs) (less c each.0) ∙ no_figure_in p less cs each.1
 
--- bytes that stop nothing and are no figure: it stands behind them
+-- bytes that neither end the search nor are figures: the figure is after them
 pub figure_behind : (p : ℕ → Bool) → ((c : ℕ) → p c ≡ true → goes_on c ≡ true) → ((c : ℕ) → p c ≡ true → is_figure c ≡ false)
     → (front rest : Text) → AreAll p front → has_figure (front ++ rest) ≡ true → has_figure rest ≡ true
 figure_behind p on less front rest each h = elim (figure_within p on front rest each h) [
@@ -78,7 +78,7 @@ figure_behind p on less front rest each h = elim (figure_within p on front rest 
   | inr e ↦ e
 ]
 
--- nothing behind it has a figure: it stands in front
+-- the rest has no figure: the figure is before it
 pub figure_before : (front rest : Text) → has_figure rest ≡ false → has_figure (front ++ rest) ≡ true → has_figure front ≡ true
 figure_before [] rest none h = absurd (not_both (has_figure rest) h none)
 figure_before (c ∷ cs) rest none h = kept (goes_on c) (is_figure c) (has_figure cs) (sym (figure_first c (cs ++ rest)) ∙ h) (figure_before cs rest none) (figure_first c cs)
@@ -110,7 +110,7 @@ e_stops c e = search rules
 figure_least : (c : ℕ) → is_figure c ≡ true → 49 ≤ c
 figure_least c e = search rules
 
--- blanks alone have no figure
+-- blanks have no figure
 blanks_less : (text : Text) → AreAll is_blank text → has_figure text ≡ false
 blanks_less [] each = refl
 blanks_less (c ∷ cs) each = figure_on c cs (blank_on c each.0) ∙ ap (λ (b : Bool). b || has_figure cs) (blank_less c each.0) ∙ blanks_less cs each.1
@@ -127,12 +127,12 @@ value_after n (c ∷ cs) each h = elim (either (is_figure c) (list_any is_figure
   | inr e ↦ value_after (n * 10 + digit_value c) cs each.1 e
 ]
 
--- digits with a figure have a value above 0
+-- digits with a figure have a value greater than 0
 pub figure_value : (ds : Text) → AreFigures ds → list_any is_figure ds ≡ true → 0 < digits_value 10 ds
 figure_value ds each h = value_after 0 ds each h
 
--- a figure in digits and what stands behind them: the digits have a value above 0, or it stands
--- behind
+-- a figure in digits and the text after them: the value of the digits is greater than 0, or the
+-- figure is after them
 pub digits_figure : (text rest : Text) (f : Figures) → digits text f → has_figure (text ++ rest) ≡ true → (0 < f.value) ⊎ (has_figure rest ≡ true)
 digits_figure text rest f d h =
     let ds = d.meant in
@@ -149,7 +149,7 @@ sign_figure text rest b s h = of_sign s.meant s.said
     of_sign None e = subst (λ (t : Text). has_figure (t ++ rest) ≡ true) e h
     of_sign (Some c) k = figure_behind is_number_sign sign_on sign_less (c ∷ []) rest (k.1, tt) (subst (λ (t : Text). has_figure (t ++ rest) ≡ true) k.0 h)
 
--- an exponent has no figure before its letter
+-- an optional exponent has no figure before its letter
 exponent_less : (text : Text) (o : Option Exponent) → Maybe exponent text o → has_figure text ≡ true → ⊥
 exponent_less text None e h = not_both (has_figure text) h (ap has_figure e)
 exponent_less text (Some x) k h = not_both (has_figure text) h
@@ -177,7 +177,7 @@ tail_figure text t said h = elim said [
       (part_figure d.said.front d.said.back d.meant.0 d.meant.1 d.said.first d.said.second (subst (λ (x : Text). has_figure x ≡ true) d.said.whole h))
 ]
 
--- a quotient is 0 only where what is divided is 0
+-- a quotient is 0 only if the dividend is 0
 pub over_nonzero : (z : ℤ) (d : ℕ) → 0 < d → z ≢ pos 0 → (over z d).num ≢ pos 0
 over_nonzero z d p ne e =
     let q = over z d in

@@ -1,4 +1,4 @@
--- The reader of numbers reads exactly the texts of numbers.
+-- The reader of numbers accepts exactly the texts of numbers.
 use Rattle.std.proofs.Common.{◌≡◌, ℕ, [], Bool, true, false, refl, rules, codes}
 use Rattle.std.specs.Prelude.{◌||◌, nat_eq}
 use Rattle.mob_language.specs.Language.{Language, ◌▷◌, Maybe, Means, behind, is_digit, is_number_sign, is_exponent_letter}
@@ -12,7 +12,7 @@ use Rattle.mob_numeral.specs.Figures.{are_few_digits, figures, digits}
 use Rattle.mob_numeral.specs.Number.{is_minus, is_power, exponent_of, decimal_of, is_numeral, numeral_of, number_sign, power, exponent, tail, number}
 use Rattle.mob_numeral.specs.NumberReaders.{digits_at, sign_at, power_at, exponent_at, over_at, point_at, decimal_at, tail_at, numeral_at}
 
--- a number may go on with such a byte
+-- a byte with which a number may go on
 abbrev pub continues : ℕ → Bool
 continues c = is_digit c || (is_number_sign c || (is_exponent_letter c || (nat_eq c 46 || nat_eq c 47)))
 
@@ -77,7 +77,7 @@ over_exact : Exact (Means Over (behind (codes "/") digits)) over_at (Stops conti
 unfolding over_at
 over_exact = means_exact Over (means_exact (λ (v : Unit × Figures). v.1) (after_any (word_exact (codes "/")) digits_exact))
 
--- a point, or what digits go on with
+-- a point, or a byte with which digits go on
 point_on : ℕ → Bool
 point_on c = is_digit c || nat_eq c 46
 

@@ -19,7 +19,7 @@ ten_le j k le = pow-le-pow_right {n = 10} (omega arith) le
 pub signed_same : (negative : Bool) (m n x y : ℕ) → 0 < x → 0 < y → m * y ≡ n * x → over (signed negative m) x ≡ over (signed negative n) y
 signed_same negative m n x y p q e = over-same (signed negative m) (signed negative n) x y p q (cross negative m n y x e)
 
--- what a whole number that fits is
+-- a whole number that fits is below 2 to the 62nd
 pub whole_fit : (negative : Bool) (n : ℕ) → Fits (over (signed negative n) 1) → n < 2 ^ 62
 whole_fit negative n f =
     let l = lowest_in (signed negative n) 1 (omega arith) (gcd_one_right (nat_abs (signed negative n))) in

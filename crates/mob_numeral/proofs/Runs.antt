@@ -1,4 +1,4 @@
--- Splitting off a run, as a loop does.
+-- Splitting off a run of bytes in a loop.
 use Rattle.std.proofs.Common.{◌≡◌, ℕ, ◌+◌, ◌<◌, [], ◌∷◌, ◌++◌, length, get_or, take, drop, Bool, true, refl, sym, ap, ◌∙◌, append_assoc, add-one, drop-cons}
 use Rattle.std.proofs.lemmas.List.{take_more}
 use Rattle.mob_language.specs.Language.{Text}

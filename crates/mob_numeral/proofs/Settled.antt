@@ -1,4 +1,5 @@
--- A form fixes the reading of a text, where no text says two things and what is said has one value.
+-- A form fixes the reading of each text if no text denotes two things and each of these has one
+-- value.
 use Rattle.std.proofs.Common.{◌≡◌, ◌≢◌, refl, ap, subst, Ok, Err}
 use Rattle.std.specs.Prelude.{Result}
 use Rattle.mob_language.specs.Language.{Text}

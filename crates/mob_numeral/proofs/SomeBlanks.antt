@@ -1,4 +1,4 @@
--- One blank or more is read exactly.
+-- The reader of at least one blank is exact.
 use Rattle.std.proofs.Common.{◌≡◌, [], true, sym, subst, ◌∙◌}
 use Rattle.mob_language.specs.Language.{Text, Where, ManyOf, is_blank}
 use Rattle.mob_language.proofs.Exact.{Exact, Stops, means_exact, where_exact, many_exact}

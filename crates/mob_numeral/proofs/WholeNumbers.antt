@@ -1,4 +1,4 @@
--- An int is a number that is whole.
+-- An int is a whole number.
 use Rattle.std.proofs.Common.{Err}
 use Rattle.mob_language.specs.Language.{Text}
 use Rattle.mob_numeral.specs.declared.fault.ReadText.{ReadText}

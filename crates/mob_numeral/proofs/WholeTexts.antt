@@ -1,4 +1,4 @@
--- Whole texts of numbers, with blanks at their ends, are read exactly.
+-- Texts of numbers with blanks at both ends are read exactly.
 use Rattle.std.proofs.Common.{◌≡◌, ℕ, [], ◌∷◌, ◌++◌, length, Bool, true, false, Option, Some, None, refl, sym, ap, subst, ◌∙◌, rules, arith, codes, inl, inr}
 use Rattle.std.proofs.lemmas.Bool.Decides.{nat_tests}
 use Rattle.mob_language.specs.Language.{Text, Language, Maybe, behind, is_blank, within_blanks, is_digit, is_number_sign, is_exponent_letter}
@@ -16,7 +16,7 @@ use Rattle.mob_numeral.specs.NumberReaders.{numeral_at}
 use Rattle.mob_numeral.specs.Fitting.{fitting_value, number_value, number_value_at}
 use Rattle.mob_numeral.proofs.NumberExact.{number_exact, continues, tail_head}
 
--- what stands between the blanks
+-- the part between the blanks
 pub record Inner {A : Type 0} (l : Language A) (v : A) : Type 0 where
   pub text : Text
   pub said : l text v
@@ -27,7 +27,7 @@ inner_of {l = l} text v w = record { text = w.said.second.front; said = subst (l
 pub blank_stops : Apart is_blank continues
 blank_stops c e = search rules
 
--- no number begins with a byte that none of its parts begins with
+-- a number does not begin with a byte with which none of its parts begins
 pub number_head : (test : ℕ → Bool) → Apart is_number_sign test → Apart is_digit test → test 46 ≡ false → test 47 ≡ false → Apart is_exponent_letter test → NoHead number test
 number_head test s d p q e = where_head (means_head (then_head (means_head (maybe_head (one_head s)))
     (then_head (means_head (where_head (many_head d))) (tail_head test p q e))))

@@ -1,4 +1,4 @@
--- One blank or more.
+-- At least one blank.
 use Rattle.std.specs.Prelude.{Bool, length, nat_lt}
 use Rattle.mob_language.specs.Language.{Text, Language, Means, Where, ManyOf, is_blank}
 use Rattle.mob_language.specs.Readers.{TextReader, means_at, where_at, many_at}
@@ -6,7 +6,7 @@ use Rattle.mob_language.specs.Readers.{TextReader, means_at, where_at, many_at}
 abbrev pub is_some_text : Text → Bool
 is_some_text text = nat_lt 0 (length text)
 
--- one blank or more
+-- at least one blank
 abbrev pub some_blanks : Language (Unit {0})
 some_blanks = Means (λ (c : Text). tt) (Where is_some_text (ManyOf is_blank))
 

@@ -7,7 +7,7 @@ use Rattle.mob_numeral.specs.declared.numeral.Figures.{Figures}
 abbrev pub AreFigures : Text → Type 0
 AreFigures text = AreAll is_digit text
 
--- the number that the digits stand for, and how many they are
+-- the value of the digits, and how many there are
 abbrev pub figures : Text → Figures
 figures text = record { value = digits_value 10 text; count = length text }
 

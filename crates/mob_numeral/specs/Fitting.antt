@@ -1,4 +1,4 @@
--- Numbers that fit, as a test; what a number stands for, where it fits.
+-- Numbers that fit, as a test, and the value of a numeral if it fits.
 use Rattle.std.specs.Prelude.{◌^◌, Bool, ◌&&◌, cond, nat_lt, nat_abs, Option, Some, None}
 use Rattle.mob_ratio.specs.Ratio.{Ratio}
 use Rattle.mob_language.specs.Language.{Language, Means}
@@ -12,15 +12,15 @@ use Rattle.mob_numeral.specs.NumberValue.{numeral_value}
 unfoldable pub fits : Ratio → Bool
 fits q = nat_lt (nat_abs q.num) (2 ^ 62) && nat_lt q.den (2 ^ 62)
 
--- q where it fits, and None where it does not
+-- q if it fits; else None
 abbrev pub fitting : Ratio → Option Ratio
 fitting q = cond (fits q) (Some q) None
 
--- a number, where it fits
+-- the value of a numeral, if it fits
 abbrev pub fitting_value : Numeral → Option Ratio
 fitting_value n = fitting (numeral_value n)
 
--- the texts of numbers, for what they stand for where that fits
+-- the texts of numbers, with their values if these fit
 abbrev pub number_value : Language (Option Ratio)
 number_value = Means fitting_value number
 

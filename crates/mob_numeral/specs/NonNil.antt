@@ -1,4 +1,4 @@
--- Which texts of numbers say one other than 0.
+-- Which texts denote a number other than 0.
 use Rattle.std.specs.Prelude.{◌≡◌, ◌≢◌, Ok, pos, true}
 use Rattle.mob_ratio.specs.Ratio.{Ratio}
 use Rattle.mob_language.specs.Language.{Text}
@@ -6,7 +6,7 @@ use Rattle.mob_language.specs.NonZero.{has_figure}
 use Rattle.mob_numeral.specs.declared.numeral.Numeral.{Numeral}
 use Rattle.mob_numeral.specs.Verdict.{Lit, TextForm}
 
--- a text with a digit other than 0 before any exponent and any slash, which says a number in this
--- form, says one other than 0
+-- if a text of this form has a digit other than 0 before any exponent and any slash, its number is
+-- not 0
 abbrev pub FiguresAreNonZero : TextForm Numeral Ratio → Type 0
 FiguresAreNonZero form = (text : Text) (q : Ratio) → has_figure text ≡ true → Lit form text (Ok q) → q.num ≢ pos 0

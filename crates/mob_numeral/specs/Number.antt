@@ -1,4 +1,4 @@
--- The texts of numbers, and the number that each stands for.
+-- The texts of numbers, and the numeral that each denotes.
 use Rattle.std.specs.Prelude.{ℕ, ◌+◌, codes, Bool, false, ◌&&◌, nat_le, nat_lt, nat_eq, Option, Some, None}
 use Rattle.mob_language.specs.Language.{Language, ◌▷◌, ◌∣◌, Maybe, Means, Where, OneOf, behind, is_number_sign, is_exponent_letter}
 use Rattle.mob_numeral.specs.declared.numeral.Figures.{Figures}

@@ -1,4 +1,4 @@
--- The text of a number.
+-- The printed text of a number.
 use Rattle.std.specs.Prelude.{◌++◌, cond, codes, nat_eq}
 use Rattle.std.specs.Fmt.{decimal, signed_decimal}
 use Rattle.mob_ratio.specs.Ratio.{Ratio}

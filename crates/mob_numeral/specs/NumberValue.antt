@@ -1,4 +1,4 @@
--- The number that a numeral stands for.
+-- The number that a numeral denotes.
 use Rattle.std.specs.Prelude.{◌≡◌, ℕ, ◌+◌, ◌*◌, ◌^◌, ◌<◌, ◌≤◌, Bool, true, cond, Option, Some, None, IfSome}
 use Rattle.mob_ratio.specs.Ratio.{Ratio, over}
 use Rattle.mob_frac.specs.Signed.{signed}
@@ -13,7 +13,7 @@ abbrev pub value_in : Option Figures → ℕ
 value_in None = 0
 value_in (Some f) = f.value
 
--- how many places an exponent moves the point to the right, and to the left
+-- the number of places by which an exponent moves the point to the right; then to the left
 abbrev pub up_of : Option Exponent → ℕ
 up_of None = 0
 up_of (Some e) = cond e.negative 0 e.size.value
@@ -31,7 +31,7 @@ value_of negative whole (Decimal part exponent) = over
 unfoldable pub numeral_value : Numeral → Ratio
 numeral_value n = value_of n.negative n.digits n.tail
 
--- a run's value is below the power of ten for its length
+-- the value of a run of digits is less than ten to the power of its length
 abbrev pub IsSmall : Figures → Type 0
 IsSmall f = (f.value < 10 ^ f.count) × (f.count ≤ 36)
 

@@ -1,4 +1,4 @@
--- The form of numbers: a number, with blanks at its ends.
+-- The form of numbers: a number with optional blanks at both ends.
 use Rattle.std.specs.Prelude.{◌≡◌, ◌≢◌}
 use Rattle.mob_ratio.specs.Ratio.{Ratio}
 use Rattle.mob_frac.specs.Fits.{Fits}
@@ -17,7 +17,7 @@ numbers = record {
   means = λ n q. q ≡ numeral_value n;
 }
 
--- the form of ints: a number that is whole
+-- the form of ints: a whole number
 abbrev pub whole_numbers : TextForm Numeral Ratio
 whole_numbers = record {
   shape = within_blanks number;

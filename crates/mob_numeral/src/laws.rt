@@ -1,4 +1,4 @@
-//! Laws of reading and printing numbers: each is a promise without running code.
+//! Laws of reading and printing numbers. No code runs here.
 ghost use Rattle.std.specs.Prelude.{◌≡◌, Ok};
 ghost use Rattle.mob_ratio.specs.Ratio.{Ratio};
 ghost use Rattle.mob_frac.specs.Fits.{Fits};
@@ -7,17 +7,17 @@ ghost use Rattle.mob_numeral.specs.Numbers.{numbers, whole_numbers};
 ghost use Rattle.mob_numeral.specs.NumberText.{number_text};
 ghost use Rattle.mob_numeral.specs.Verdict.{Lit};
 
-/// A number that is printed is read again as itself.
+/// A printed number reads back as itself.
 pub fn number_read_again()
     ensures again { (q : Ratio) → Fits q → Lit numbers (number_text q) (Ok q) }
 {}
 
-/// An int that is printed is read again as itself.
+/// A printed int reads back as itself.
 pub fn whole_read_again()
     ensures again { (q : Ratio) → Fits q → q.den ≡ 1 → Lit whole_numbers (number_text q) (Ok q) }
 {}
 
-/// A number is not 0 where its text has a digit other than 0 before any exponent and any slash.
+/// A number whose text has a digit other than 0 before any exponent and any slash is not 0.
 pub fn numbers_with_figures()
     ensures numbers { FiguresAreNonZero numbers }
     ensures whole { FiguresAreNonZero whole_numbers }

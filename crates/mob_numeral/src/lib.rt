@@ -1,5 +1,5 @@
-//! Numbers and their texts, each read exactly and printed, and the parts that the readers of all
-//! texts share.
+//! Reads numbers exactly from their texts and prints them, and has the parts that the readers of
+//! all texts share.
 #![tactic(auto)]
 
 mod fault;

@@ -1,4 +1,4 @@
-//! Numbers, read from their texts.
+//! Reads numbers from their texts.
 ghost use Rattle.std.specs.Prelude.{◌≡◌, ◌<◌, ◌≤◌, ◌^◌, ◌*◌, ◌+◌, option_map, Option, Some, None, ◌≢◌, Err};
 ghost use Rattle.mob_language.specs.Readers.{all_of, within_blanks_at};
 ghost use Rattle.mob_ratio.specs.Ratio.{over};
@@ -27,7 +27,7 @@ pub fn ten_to(k: u32) -> u128
     10u128.pow(k)
 }
 
-/// A whole number with zeros behind it.
+/// A whole number followed by `up` zeros.
 fn raised(negative: bool, size: u128, up: u32) -> Result<Frac, Overflow>
     requires up { up ≤ 18 }
     ensures exact { IsExact (over (signed negative (size * 10 ^ up)) 1) result }
@@ -38,7 +38,7 @@ fn raised(negative: bool, size: u128, up: u32) -> Result<Frac, Overflow>
     over_product(negative, size * ten_to(up), 1, 1)
 }
 
-/// A number whose point moves to the left.
+/// A number whose point moves `down` places to the left.
 fn lowered(negative: bool, size: u128, down: u32) -> Result<Frac, Overflow>
     requires size { size < 10 ^ 36 }
     requires down { down ≤ 54 }
@@ -100,8 +100,8 @@ fn part_value(part: Option<Figures>) -> u128
     }
 }
 
-/// The number that a numeral stands for. It is `Overflow` exactly where the reduced fraction has a
-/// part of more than 62 bits.
+/// The number that a numeral denotes. `Overflow` exactly if the reduced fraction has a part of more
+/// than 62 bits.
 #[tactic(auto, unfolding(crate::specs::NumberValue::numeral_value))]
 pub fn evaluate(n: Numeral) -> Result<Frac, Overflow>
     requires bounded { IsBounded n }
@@ -118,7 +118,7 @@ pub fn evaluate(n: Numeral) -> Result<Frac, Overflow>
     }
 }
 
-/// The number that a numeral stands for, where it fits.
+/// The number that a numeral denotes; `None` if it does not fit.
 #[tactic(auto, unfolding(crate::specs::Fitting::fits))]
 fn fitting_number(numeral: Numeral) -> Option<Frac>
     requires bounded { IsBounded numeral }
@@ -130,7 +130,7 @@ fn fitting_number(numeral: Numeral) -> Option<Frac>
     }
 }
 
-/// The number in front, where it fits, and what stands behind it.
+/// Reads a number at the front. Returns it, if it fits, and the rest of the text.
 #[tactic(auto, unfolding(crate::specs::Fitting::number_value_at))]
 pub fn number_value_at(bytes: &[u8]) -> Option<(Option<Frac>, &[u8])>
     ensures read { option_map (λ x. (x.0, x.1.now)) result ≡ number_value_in bytes.now }
@@ -141,20 +141,20 @@ pub fn number_value_at(bytes: &[u8]) -> Option<(Option<Frac>, &[u8])>
     }
 }
 
-/// All of the bytes, as a numeral with blanks at its ends.
+/// Reads all of the bytes as a numeral with optional blanks at both ends.
 fn numeral_of(bytes: &[u8]) -> Option<Numeral>
     ensures value { result ≡ all_of (within_blanks_at numeral_at) bytes.now }
 {
     within_blanks(number_at, bytes)
 }
 
-/// The number that a text says.
+/// Reads a number from its text.
 ///
-/// A number is an optional sign, digits with at most one point, and perhaps an exponent from -18 to
-/// 18; or an optional sign, digits, `/` and digits that are not all 0. Each run of digits, the two
-/// sides of a point together, has at most 36. Blanks may stand at both ends. Any other text is
-/// `NotText`, and `TooLarge` a number whose reduced fraction has a part of more than 62 bits. It
-/// takes no memory.
+/// A number is an optional sign, digits with at most one point, and an optional exponent from -18
+/// to 18; or an optional sign, digits, `/` and digits that are not all 0. Each run of digits has at
+/// most 36; the digits on both sides of a point count as one run. Blanks may be at both ends. Any
+/// other text is `NotText`. A number whose reduced fraction has a part of more than 62 bits is
+/// `TooLarge`. It takes no memory.
 pub fn read_number(text: &str) -> Result<Frac, ReadText>
     ensures reading { Lit numbers text.now result }
     ensures memory { result ≢ Err NoMemory }
@@ -168,8 +168,8 @@ pub fn read_number(text: &str) -> Result<Frac, ReadText>
     }
 }
 
-/// The int that a text says: a number as `read_number` reads it, and `Unsound` where it is not
-/// whole.
+/// Reads an int from its text: a number, as `read_number` reads it, with the same faults. A number
+/// that is not whole is `Unsound`. It takes no memory.
 pub fn read_whole(text: &str) -> Result<Frac, ReadText>
     ensures reading { Lit whole_numbers text.now result }
     ensures memory { result ≢ Err NoMemory }

@@ -1,4 +1,4 @@
-//! Numbers as they are written.
+//! Reads numbers as they are written.
 ghost use Rattle.std.specs.Prelude.{◌≡◌, ◌<◌, ◌≤◌, ◌^◌, length, option_map, Option, Some, IfSome};
 ghost use Rattle.std.specs.Str.Parse.{digits_value};
 ghost use Rattle.mob_language.specs.Language.{is_digit as digit};
@@ -9,41 +9,41 @@ ghost use Rattle.mob_numeral.specs.NumberReaders.{digits_at as digits_in, sign_a
 
 use crate::readers::{behind, maybe, split_while};
 
-/// A run of digits: the number that they stand for, and how many they are.
+/// A run of digits: its value and its length.
 #[derive(Clone, Copy, Debug, PartialEq, Eq)]
 pub struct Figures {
-    /// The number that they stand for.
+    /// The value of the digits.
     pub value: u128,
-    /// How many digits there are.
+    /// The number of digits.
     pub count: u32,
 }
 
 /// An exponent: its sign and its digits.
 #[derive(Clone, Copy, Debug, PartialEq, Eq)]
 pub struct Exponent {
-    /// Whether a minus stands before the digits.
+    /// Whether a minus is before the digits.
     pub negative: bool,
     /// The digits.
     pub size: Figures,
 }
 
-/// What stands behind the first digits.
+/// The part after the first digits.
 #[derive(Clone, Copy, Debug, PartialEq, Eq)]
 pub enum Tail {
     /// A slash and the digits of the denominator.
     Over(Figures),
-    /// The digits behind a point, if there is one, and an exponent, if there is one.
+    /// The digits after a point, if there is one, and the exponent, if there is one.
     Decimal(Option<Figures>, Option<Exponent>),
 }
 
-/// A number as it is written.
+/// A number as written.
 #[derive(Clone, Copy, Debug, PartialEq, Eq)]
 pub struct Numeral {
-    /// Whether a minus stands in front.
+    /// Whether a minus is at the front.
     pub negative: bool,
-    /// The digits in front, before a point or a slash.
+    /// The first digits, before a point or a slash.
     pub digits: Figures,
-    /// What stands behind them.
+    /// The part after them.
     pub tail: Tail,
 }
 
@@ -53,14 +53,14 @@ fn is_digit(c: u8) -> bool
     48 <= c && c <= 57
 }
 
-/// The digits in front, and what stands behind them.
+/// Splits the text into the digits at the front and the rest.
 fn split_digits(bytes: &[u8]) -> (&[u8], &[u8])
     ensures value { (result.0.now, result.1.now) ≡ split_while digit bytes.now }
 {
     split_while(is_digit, bytes)
 }
 
-/// The number that the digits stand for.
+/// The value of the digits.
 fn value_of(digits: &[u8]) -> u128
     requires short { length digits.now ≤ 36 }
     requires all { AreFigures digits.now }
@@ -74,7 +74,7 @@ fn value_of(digits: &[u8]) -> u128
     value
 }
 
-/// The digits in front, at most 36, and what stands behind them.
+/// Reads the digits at the front, at most 36. Returns them and the rest of the text.
 #[tactic(auto, unfolding(crate::specs::NumberReaders::digits_at))]
 pub fn digits_at(bytes: &[u8]) -> Option<(Figures, &[u8])>
     ensures value { option_map (λ x. (x.0, x.1.now)) result ≡ digits_in bytes.now }
@@ -173,7 +173,7 @@ fn has_digits(whole: Figures, tail: Tail) -> bool
     }
 }
 
-/// The number in front, as it is written, and what stands behind it.
+/// Reads a number at the front, as written. Returns it and the rest of the text.
 #[tactic(auto, unfolding(crate::specs::NumberReaders::numeral_at))]
 pub fn number_at(bytes: &[u8]) -> Option<(Numeral, &[u8])>
     ensures value { option_map (λ x. (x.0, x.1.now)) result ≡ numeral_at bytes.now }

@@ -1,4 +1,4 @@
-//! Numbers, printed.
+//! Prints numbers.
 ghost use Rattle.std.specs.Prelude.{◌≡◌, ◌++◌, OnOk, OnErr, string_bytes};
 ghost use Rattle.mob_numeral.specs.NumberText.{number_text};
 
@@ -6,7 +6,8 @@ use itoa::Buffer;
 use mob_frac::Frac;
 use std::alloc::AllocError;
 
-/// Appends the text of a number, `p` or `p/q`. After `Err` the text is as before.
+/// Appends the text of a number, `p` or `p/q` in lowest terms. An error means that an allocation
+/// failed; the text is then unchanged.
 pub fn write_number(n: &Frac, into: &mut String) -> Result<(), AllocError>
     ensures ok { OnOk result (string_bytes into.new ≡ string_bytes into.old ++ number_text n.now) }
     ensures err { OnErr result (string_bytes into.new ≡ string_bytes into.old) }

@@ -1,10 +1,10 @@
-//! Parts that several readers share.
+//! Readers of small parts, which several larger readers share.
 ghost use Rattle.std.specs.Prelude.{◌≡◌, ◌<◌, ℕ, Bool, [], ◌∷◌, Option, Some, IfSome, option_map};
 ghost use Rattle.mob_language.specs.Language.{is_blank as blank};
 ghost use Rattle.mob_language.specs.Readers.{TextReader, all_of, spaced_at as spaced_in, split_while, maybe_of, word_at, within_blanks_at};
 ghost use Rattle.mob_numeral.specs.Blanks.{some_blanks_at as some_blanks_in};
 
-/// What stands behind the sign, where the bytes begin with it.
+/// The text after this byte, if it is at the front.
 pub fn behind(sign: u8, bytes: &[u8]) -> Option<&[u8]>
     ensures value { option_map (λ rest. (tt, rest.now)) result ≡ word_at (sign ∷ []) bytes.now }
 {
@@ -14,7 +14,7 @@ pub fn behind(sign: u8, bytes: &[u8]) -> Option<&[u8]>
     }
 }
 
-/// What was found at the front of the bytes, if anything was, and what stands behind it.
+/// What was found at the front, if anything was, and the rest of the text.
 pub fn maybe<'a, T>(found: Option<(T, &'a [u8])>, bytes: &'a [u8]) -> (Option<T>, &'a [u8])
     ensures value { Some (result.0, result.1.now) ≡ maybe_of bytes.now (option_map (λ x. (x.0, x.1.now)) found.entry) }
 {
@@ -24,7 +24,7 @@ pub fn maybe<'a, T>(found: Option<(T, &'a [u8])>, bytes: &'a [u8]) -> (Option<T>
     }
 }
 
-/// The bytes in front that pass the test, and what stands behind them.
+/// Splits the bytes into those at the front that pass the test and the rest.
 pub fn split_while<F: Fn(u8) -> bool>(passes: F, bytes: &[u8]) -> (&[u8], &[u8])
     requires callable { F.IsAlwaysCallable passes }
     ensures split { (test : ℕ → Bool) → ((c : ℕ) (passed : Bool) → c < 256 → F.post passes c passed → passed ≡ test c) → (result.0.now, result.1.now) ≡ split_while test bytes.now }
@@ -46,14 +46,15 @@ pub fn is_blank(c: u8) -> bool
     c == 32 || c == 9 || c == 13 || c == 10
 }
 
-/// The blanks in front, and what stands behind them.
+/// Splits the text into the blanks at the front and the rest.
 pub fn blanks(bytes: &[u8]) -> (&[u8], &[u8])
     ensures split { (result.0.now, result.1.now) ≡ split_while blank bytes.now }
 {
     split_while(is_blank, bytes)
 }
 
-/// What stands behind the sign and the blanks on both sides of it.
+/// The text after this byte and the optional blanks on both sides of it; `None` if it does not come
+/// next.
 pub fn spaced_at(sign: u8, bytes: &[u8]) -> Option<&[u8]>
     ensures read { option_map (λ rest. (tt, rest.now)) result ≡ spaced_in (sign ∷ []) bytes.now }
 {
@@ -63,7 +64,7 @@ pub fn spaced_at(sign: u8, bytes: &[u8]) -> Option<&[u8]>
     }
 }
 
-/// The blanks in front, of which there is one or more, and what stands behind them.
+/// Reads at least one blank at the front. Returns the rest of the text.
 #[tactic(auto, unfolding(crate::specs::Blanks::some_blanks_at))]
 pub fn some_blanks_at(bytes: &[u8]) -> Option<((), &[u8])>
     ensures value { option_map (λ x. (x.0, x.1.now)) result ≡ some_blanks_in bytes.now }
@@ -76,7 +77,7 @@ pub fn some_blanks_at(bytes: &[u8]) -> Option<((), &[u8])>
     }
 }
 
-/// All of the bytes, without blanks at their ends, as what a reader of their front finds.
+/// Reads all of the bytes, without the blanks at their ends, by a reader of their front.
 pub fn within_blanks<'a, T: Drop, F: Fn(&'a [u8]) -> Option<(T, &'a [u8])>>(
     find: F,
     bytes: &'a [u8],

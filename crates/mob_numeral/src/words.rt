@@ -1,9 +1,9 @@
-//! Words in letters of either case.
+//! Reads words, ignoring case.
 ghost use Rattle.std.specs.Prelude.{◌≡◌, option_map};
 ghost use Rattle.mob_language.specs.Readers.{any_case_at as any_case_in};
 
-/// What stands behind a word, whose letters may be small or capital. The word is written in small
-/// letters.
+/// The text after this word, in any letter case; `None` if it is not at the front. `word` is in
+/// lower case.
 pub fn any_case_at<'a>(word: &[u8], bytes: &'a [u8]) -> Option<&'a [u8]>
     ensures read { option_map (λ rest. (tt, rest.now)) result ≡ any_case_in word.now bytes.now }
 {

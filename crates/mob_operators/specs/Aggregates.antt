@@ -1,5 +1,4 @@
--- The aggregates of grouped queries: their names, the types that they take and the types that they
--- give.
+-- The aggregates of grouped queries: their names, and the types that they take and give.
 use Rattle.std.specs.Prelude.{ℕ, List, [], ◌∷◌, Bool, Option, Some, None, codes, option_map, option_and_then, is_some, if◌then◌else◌}
 use Rattle.std.specs.Str.{bytes_eq}
 use Rattle.mob_ast.specs.declared.types.SqlType.{SqlType}
@@ -9,7 +8,7 @@ use Rattle.mob_operators.specs.declared.aggregate.AggKind.TheVariants.{CountAll,
 use Rattle.mob_operators.specs.Lookup.{has_type}
 use Rattle.mob_operators.specs.Table.{plain_number, moving_number, temporal_types}
 
--- The aggregate of this name. `count(*)` is read as an item of its own and has no name here.
+-- The aggregate with this name. `count(*)` is an item of its own and has no name here.
 abbrev pub aggregate_named : List ℕ → Option AggKind
 aggregate_named name =
     if bytes_eq name (codes "count") then Some Count
@@ -20,12 +19,12 @@ aggregate_named name =
     else if bytes_eq name (codes "tor") then Some TOr
     else None
 
--- a type, if it is among these
+-- a type, if it is one of these
 abbrev pub only_of : List SqlType → SqlType → Option SqlType
 only_of class ty = if has_type class ty then Some ty else None
 
--- The type of an aggregate's result for an argument of this type, if it takes it. Rows are counted
--- whatever they hold.
+-- The type of an aggregate's result for an argument of this type, if it takes it. `count` takes
+-- every type.
 abbrev pub aggregate_type : AggKind → SqlType → Option SqlType
 aggregate_type CountAll ty = Some Int
 aggregate_type Count ty = Some Int
@@ -35,10 +34,10 @@ aggregate_type TSum ty = only_of moving_number ty
 aggregate_type TAnd ty = only_of (TBool ∷ []) ty
 aggregate_type TOr ty = only_of (TBool ∷ []) ty
 
--- whether an aggregate has this name
+-- whether this is the name of an aggregate
 abbrev pub is_aggregate : List ℕ → Bool
 is_aggregate name = is_some (aggregate_named name)
 
--- The aggregate of this name with the type of its result, for an argument of this type.
+-- The aggregate with this name, and the type of its result for an argument of this type.
 abbrev pub aggregate_row : List ℕ → SqlType → Option (AggKind × SqlType)
 aggregate_row name ty = option_and_then (λ kind. option_map (λ result. (kind, result)) (aggregate_type kind ty)) (aggregate_named name)

@@ -1,4 +1,4 @@
--- What a table of operators answers.
+-- How operators are looked up in a table.
 use Rattle.std.specs.Prelude.{◌==◌, ◌&&◌, ℕ, List, [], ◌∷◌, Bool, true, false, Option, Some, None, map, slice_get, option_map, option_and_then, is_some, if◌then◌else◌}
 use Rattle.std.specs.List.{list_any, list_all}
 use Rattle.std.specs.Option.{option_or}
@@ -14,9 +14,9 @@ use Rattle.mob_operators.specs.declared.table.ResultType.{ResultType}
 use Rattle.mob_operators.specs.declared.table.ResultType.TheVariants as gives
 use Rattle.mob_operators.specs.declared.table.Row.{Row}
 
--- A line of the table: how its operators are written, the operators with their names, for each
--- argument the types that are taken, what else the arguments have to meet, and the type of the
--- result.
+-- A line of the table: how its operators are written, the operators with their names, the types
+-- that it takes for each argument, the condition on the arguments beyond their types, and the type
+-- of the result.
 pub record Line : Type 0 where
   pub form : Form
   pub names : List (List ℕ × Op)
@@ -31,7 +31,7 @@ line_of r = record { form = r.form; names = map (λ n. (n.0.now, n.1)) r.names.n
 abbrev pub lines_of : List Row → List Line
 lines_of rows = map line_of rows
 
--- the place of a type among the fifteen
+-- the number of a type among the fifteen
 abbrev pub type_number : SqlType → ℕ
 type_number sql.Bool = 0
 type_number sql.Int = 1
@@ -49,7 +49,7 @@ type_number sql.TFrac = 12
 type_number sql.TText = 13
 type_number sql.TPoint = 14
 
--- whether two types are one
+-- whether two types are the same
 abbrev pub same_type : SqlType → SqlType → Bool
 same_type a b = type_number a == type_number b
 
@@ -58,11 +58,11 @@ form_number form.Word = 0
 form_number form.Sign = 1
 form_number form.Call = 2
 
--- whether two forms are one
+-- whether two forms are the same
 abbrev pub same_form : Form → Form → Bool
 same_form a b = form_number a == form_number b
 
--- whether a type is among these
+-- whether a type is one of these
 abbrev pub has_type : List SqlType → SqlType → Bool
 has_type class ty = list_any (λ t. same_type t ty) class
 
@@ -70,26 +70,26 @@ has_type class ty = list_any (λ t. same_type t ty) class
 abbrev pub is_temporal : SqlType → Bool
 is_temporal ty = has_type (sql.TBool ∷ sql.TInt ∷ sql.TFrac ∷ sql.TText ∷ sql.TPoint ∷ []) ty
 
--- whether a type has whole numbers alone
+-- whether all numbers of a type are whole
 abbrev pub is_whole_type : SqlType → Bool
 is_whole_type ty = has_type (sql.Int ∷ sql.TInt ∷ []) ty
 
--- whether the arguments have one for one a type that is taken
+-- whether there are as many types as classes, and each type is in the class at its position
 abbrev pub types_fit : List (List SqlType) → List SqlType → Bool
 types_fit [] [] = true
 types_fit [] (t ∷ ts) = false
 types_fit (c ∷ cs) [] = false
 types_fit (c ∷ cs) (t ∷ ts) = has_type c t && types_fit cs ts
 
--- whether two arguments have one type
+-- whether there are exactly two types, and they are the same
 abbrev pub are_same : List SqlType → Bool
 are_same [] = false
 are_same (a ∷ []) = false
 are_same (a ∷ b ∷ []) = same_type a b
 are_same (a ∷ b ∷ c ∷ ts) = false
 
--- whether arguments of these types, the last a number literal or not, meet what a line asks beside
--- its types
+-- whether arguments of these types meet the condition of a line; `literal` says whether the last
+-- one is a number literal
 abbrev pub meets : Bond → List SqlType → Bool → Bool
 meets bond.Free ts literal = true
 meets bond.OneMoving ts literal = list_any is_temporal ts
@@ -102,12 +102,12 @@ given (gives.Only ty) ts = Some ty
 given gives.First ts = slice_get ts 0
 given (gives.Whole whole other) ts = Some (if list_all is_whole_type ts then whole else other)
 
--- the operator of this name
+-- the operator with this name
 abbrev pub operator_named : List (List ℕ × Op) → List ℕ → Option Op
 operator_named [] name = None
 operator_named (n ∷ ns) name = if bytes_eq n.0 name then Some n.1 else operator_named ns name
 
--- the operator that a line has for this form and name
+-- the operator of a line with this form and name
 abbrev pub operator_in : Line → Form → List ℕ → Option Op
 operator_in l form name = if same_form l.form form then operator_named l.names name else None
 
@@ -115,16 +115,18 @@ operator_in l form name = if same_form l.form form then operator_named l.names n
 abbrev pub takes : Line → List SqlType → Bool → Bool
 takes l ts literal = types_fit l.takes ts && meets l.bond ts literal
 
--- the operator and the type that a line gives
+-- the operator of a line with this form and name, and the type of its result, if it takes these
+-- arguments
 abbrev pub answer_of : Line → Form → List ℕ → List SqlType → Bool → Option (Op × SqlType)
 answer_of l form name ts literal = option_and_then (λ op. if takes l ts literal then option_map (λ ty. (op, ty)) (given l.gives ts) else None) (operator_in l form name)
 
--- The operator and the type of a call of this form and name with arguments of these types, the last
--- a number literal or not: by the first line that gives one.
+-- The operator and the result type of a call with this form and name, for arguments of these types:
+-- those of the first line that takes them. `literal` says whether the last argument is a number
+-- literal.
 abbrev pub found_in : List Line → Form → List ℕ → List SqlType → Bool → Option (Op × SqlType)
 found_in [] form name ts literal = None
 found_in (l ∷ ls) form name ts literal = option_or (answer_of l form name ts literal) (found_in ls form name ts literal)
 
--- whether some line is about a function of this name
+-- whether any line has a function with this name
 abbrev pub has_function : List Line → List ℕ → Bool
 has_function ls name = list_any (λ l. is_some (operator_in l form.Call name)) ls

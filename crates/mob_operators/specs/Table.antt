@@ -1,4 +1,4 @@
--- The table of operators, line by line as MobilityDB's manual and PostgreSQL have them.
+-- The table of operators, line by line, after MobilityDB's manual and PostgreSQL.
 use Rattle.std.specs.Prelude.{ℕ, List, [], ◌∷◌, Bool, false, codes}
 use Rattle.std.specs.List.{list_any}
 use Rattle.std.specs.Str.{bytes_eq}
@@ -29,7 +29,7 @@ plain_number = Int ∷ Numeric ∷ []
 abbrev pub moving_number : types
 moving_number = TInt ∷ TFrac ∷ []
 
--- a value of a kind, or a temporal value of that kind
+-- the plain types of one kind of value, and the temporal type of that kind
 abbrev pub bool_kind : types
 bool_kind = ABool ∷ TBool ∷ []
 
@@ -45,11 +45,11 @@ point_kind = Point ∷ TPoint ∷ []
 abbrev pub temporal_types : types
 temporal_types = TBool ∷ TInt ∷ TFrac ∷ TText ∷ TPoint ∷ []
 
--- what time is restricted to
+-- the types by which values are restricted to times
 abbrev pub time_types : types
 time_types = Moment ∷ Span ∷ SpanSet ∷ []
 
--- what has a box
+-- the types with a bounding box
 abbrev pub boxed : types
 boxed = Box ∷ TPoint ∷ []
 
@@ -74,7 +74,7 @@ lifted_equals = (codes "#=", Lifted Eq) ∷ (codes "#<>", Lifted Ne) ∷ []
 abbrev pub lifted_orders : names
 lifted_orders = (codes "#<", Lifted Lt) ∷ (codes "#<=", Lifted Le) ∷ (codes "#>", Lifted Gt) ∷ (codes "#>=", Lifted Ge) ∷ []
 
--- `?` asks for some instant and `%` for every instant
+-- `?` asks for some instant, `%` for every instant
 abbrev pub ever_equals : names
 ever_equals = (codes "?=", Ever Eq) ∷ (codes "?<>", Ever Ne) ∷ (codes "%=", Always Eq) ∷ (codes "%<>", Always Ne) ∷ []
 
@@ -102,7 +102,7 @@ value_at_timestamp = (codes "valueattimestamp", ValueAtTimestamp) ∷ []
 abbrev pub to : SqlType → ResultType
 to = Only
 
--- int where every argument is whole, else numeric; tint and tfrac likewise
+-- int if every argument is whole, else numeric; the next one: tint, else tfrac
 abbrev pub to_number : ResultType
 to_number = Whole Int Numeric
 
@@ -112,8 +112,9 @@ to_moving_number = Whole TInt TFrac
 abbrev pub line : Form → names → List types → Bond → ResultType → Line
 line f n ts b g = record { form = f; names = n; takes = ts; bond = b; gives = g }
 
--- The table of operators. A line has how its operators are written, their names, the types of each
--- argument, what else the arguments have to meet, and the type of the result.
+-- The table of operators. A line has how its operators are written, their names, the types that it
+-- takes for each argument, the condition on the arguments beyond their types, and the type of the
+-- result.
 unfoldable pub table : List Line
 table =
     line Word ((codes "not", Not) ∷ []) ((ABool ∷ []) ∷ []) Free (to ABool)
@@ -179,7 +180,7 @@ table =
 abbrev pub is_one_of : List (List ℕ) → List ℕ → Bool
 is_one_of ns name = list_any (λ n. bytes_eq name n) ns
 
--- The signs and functions whose results may be irrational, whatever their arguments.
+-- Whether a sign or function is refused because its results may be irrational.
 abbrev pub is_irrational : Form → List ℕ → Bool
 is_irrational Word name = false
 is_irrational Sign name = is_one_of (codes "<->" ∷ codes "|=|" ∷ []) name

@@ -1,4 +1,4 @@
-//! The aggregates of grouped queries, and the types that they take and give.
+//! The aggregates of grouped queries, with the types that they take and give.
 ghost use Rattle.std.specs.Prelude.{◌≡◌};
 ghost use Rattle.mob_operators.specs.Aggregates.{only_of, aggregate_named, aggregate_type, is_aggregate, aggregate_row};
 
@@ -6,12 +6,12 @@ use crate::lookup::has_type;
 use crate::table::{NUMBER, TBOOL, TEMPORAL, TNUMBER};
 use mob_ast::SqlType;
 
-/// What an item of a grouped query makes of the values of its argument in a group.
+/// An aggregate of a grouped query, over the values of its argument in a group.
 #[derive(Clone, Copy, Debug, PartialEq, Eq)]
 pub enum AggKind {
     /// `count(*)`: the number of rows.
     CountAll,
-    /// count: the number of values that are not NULL.
+    /// count: the number of values other than NULL.
     Count,
     /// sum: the sum of the values.
     Sum,
@@ -21,18 +21,18 @@ pub enum AggKind {
     TSum,
     /// tAnd: at each instant, whether all values that are defined there are true.
     TAnd,
-    /// tOr: at each instant, whether a value that is defined there is true.
+    /// tOr: at each instant, whether any value that is defined there is true.
     TOr,
 }
 
-// This type, if it is among these.
+// This type, if it is one of these.
 fn only_of(class: &[SqlType], ty: SqlType) -> Option<SqlType>
     ensures same { result ≡ only_of class.now ty }
 {
     if has_type(class, ty) { Some(ty) } else { None }
 }
 
-// The aggregate of this name.
+// The aggregate with this name.
 fn aggregate_named(name: &str) -> Option<AggKind>
     ensures named { result ≡ aggregate_named name.now }
 {
@@ -58,7 +58,7 @@ fn aggregate_named(name: &str) -> Option<AggKind>
 }
 
 impl AggKind {
-    // The type of its result for an argument of this type, if it takes it.
+    // The type of its result for an argument of this type; `None` if it does not take the type.
     fn result_type(self, ty: SqlType) -> Option<SqlType>
         ensures row { result ≡ aggregate_type self ty }
     {
@@ -72,15 +72,15 @@ impl AggKind {
     }
 }
 
-/// Whether an aggregate has this name, in lower case.
+/// Whether this is the name of an aggregate, in lower case.
 pub fn is_aggregate(name: &str) -> bool
     ensures known { result ≡ is_aggregate name.now }
 {
     aggregate_named(name).is_some()
 }
 
-/// The aggregate of this name, in lower case, and the type of its result for an argument of this
-/// type. None where there is none, or it does not take the type. `count(*)` has no name of its own
+/// The aggregate with this name, in lower case, and the type of its result for an argument of this
+/// type. `None` if no aggregate has the name, or it does not take the type. `count(*)` has no name
 /// here.
 pub fn aggregate_row(name: &str, ty: SqlType) -> Option<(AggKind, SqlType)>
     ensures row { result ≡ aggregate_row name.now ty }

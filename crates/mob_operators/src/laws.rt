@@ -1,4 +1,4 @@
-//! What holds of every operator. No code runs here.
+//! A law of operators: they cross threads. No code runs here.
 
 use crate::aggregate::AggKind;
 use crate::operator::{Form, Op};

@@ -1,4 +1,4 @@
-//! Looking an operator up in the table.
+//! Looks operators up in the table.
 ghost use Rattle.std.specs.Prelude.{◌≡◌, map};
 ghost use Rattle.std.specs.List.{list_any, list_all};
 ghost use Rattle.mob_operators.specs.Table.{table, is_irrational};
@@ -8,14 +8,14 @@ use crate::operator::{Form, Op};
 use crate::table::{Bond, ROWS, ResultType, Row};
 use mob_ast::SqlType;
 
-// Whether two types are one.
+// Whether two types are the same.
 fn is_same(a: SqlType, b: SqlType) -> bool
     ensures same { result ≡ same_type a b }
 {
     a == b
 }
 
-/// Whether a type is among these.
+/// Whether a type is one of these.
 pub fn has_type(class: &[SqlType], ty: SqlType) -> bool
     ensures among { result ≡ has_type class.now ty }
 {
@@ -49,7 +49,7 @@ fn all_whole(types: &[SqlType]) -> bool
     types.iter().all(|ty| is_whole_type(*ty))
 }
 
-// Whether the arguments have one for one a type that is taken.
+// Whether there are as many types as classes, and each type is in the class at its position.
 fn types_fit(classes: &[&[SqlType]], types: &[SqlType]) -> bool
     ensures one_for_one { result ≡ types_fit (map (λ c. c.now) classes.now) types.now }
 {
@@ -97,7 +97,7 @@ impl ResultType {
 }
 
 impl Row {
-    // The operator of this form and name.
+    // The operator of the row with this form and name.
     fn operator(&self, form: Form, name: &str) -> Option<Op>
         ensures named { result ≡ operator_in (line_of self.now) form name.now }
     {
@@ -108,7 +108,7 @@ impl Row {
         }
     }
 
-    // Whether it takes these arguments.
+    // Whether the row takes these arguments.
     fn takes(&self, types: &[SqlType], by_literal: bool) -> bool
         ensures taken { result ≡ takes (line_of self.now) types.now by_literal }
     {
@@ -133,7 +133,7 @@ impl Row {
     }
 }
 
-// The operator of this name.
+// The operator with this name.
 fn operator_named(names: &[(&str, Op)], name: &str) -> Option<Op>
     ensures first { result ≡ operator_named (map (λ n. (n.0.now, n.1)) names.now) name.now }
 {
@@ -145,7 +145,7 @@ fn operator_named(names: &[(&str, Op)], name: &str) -> Option<Op>
     None
 }
 
-// The answer of the first row that gives one.
+// The operator and the result type of the first row that takes the call.
 fn first_of(
     rows: &[Row],
     form: Form,
@@ -163,7 +163,7 @@ fn first_of(
     None
 }
 
-// Whether some row is about a function of this name.
+// Whether any row has a function with this name.
 fn any_function(rows: &[Row], name: &str) -> bool
     ensures known { result ≡ has_function (lines_of rows.now) name.now }
 {
@@ -175,16 +175,15 @@ fn any_function(rows: &[Row], name: &str) -> bool
     false
 }
 
-// The rows of the table.
 fn rows() -> &'static [Row]
     ensures all { lines_of result.now ≡ table }
 {
     &ROWS
 }
 
-/// The operator that a call of this form and name stands for, and the type of its result, for
-/// arguments of these types, the last a number literal under any number of signs or not. None where
-/// the table has no row for them.
+/// The operator of a call with this form and name, and the type of its result, for arguments of
+/// these types. `by_literal` says whether the last argument is a number literal under any number of
+/// signs. `None` if no row of the table takes them.
 pub fn operator_for(
     form: Form,
     name: &str,
@@ -196,14 +195,14 @@ pub fn operator_for(
     first_of(rows(), form, name, types, by_literal)
 }
 
-/// Whether the table has a function of this name, in lower case.
+/// Whether the table has a function with this name, in lower case.
 pub fn is_function(name: &str) -> bool
     ensures known { result ≡ has_function table name.now }
 {
     any_function(rows(), name)
 }
 
-/// Whether a sign or function of this name may have irrational results, and is refused for that.
+/// Whether a sign or function with this name is refused because its results may be irrational.
 pub fn is_irrational(form: Form, name: &str) -> bool
     ensures listed { result ≡ is_irrational form name.now }
 {

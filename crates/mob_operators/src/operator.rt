@@ -2,106 +2,100 @@
 
 use mob_ast::Cmp;
 
-/// What a node of a typed expression does with the values of its arguments.
+/// The operator of a node of a typed expression.
 #[derive(Clone, Copy, Debug, PartialEq, Eq)]
 pub enum Op {
-    /// NULL.
     Null,
-    /// The constant of this number, counted from 0 in written order.
+    /// The constant with this number, from 0 in written order.
     Const(u32),
     /// A column of a table of FROM, both counted from 0.
     Column {
-        /// The table of FROM.
+        /// The number of the table in FROM.
         from: u32,
-        /// Its column.
+        /// The number of the column in the table.
         column: u32,
     },
-    /// NOT.
     Not,
-    /// AND.
     And,
-    /// OR.
     Or,
-    /// IS NULL.
     IsNull,
-    /// IS NOT NULL.
     IsNotNull,
-    /// A plain comparison.
+    /// A plain comparison, of values that do not change over time.
     Test(Cmp),
     /// `+` between two arguments.
     Add,
     /// `-` between two arguments.
     Subtract,
-    /// `*`
+    /// `*`.
     Multiply,
-    /// `/`
+    /// `/`.
     Divide,
     /// `-` before its argument.
     Negate,
     /// `+` before its argument.
     Same,
-    /// `||`
+    /// `||`.
     Join,
-    /// `&`
+    /// `&`.
     LiftedAnd,
-    /// `|`
+    /// `|`.
     LiftedOr,
-    /// `~`
+    /// `~`.
     LiftedNot,
-    /// A `#` sign: the comparison at each instant.
+    /// A `#` sign: the comparison at each instant, a tbool.
     Lifted(Cmp),
     /// A `?` sign: whether the comparison holds at some instant.
     Ever(Cmp),
     /// A `%` sign: whether the comparison holds at every instant.
     Always(Cmp),
-    /// `&&`
+    /// `&&`.
     Overlap,
-    /// atTime
+    /// `atTime`.
     AtTime,
-    /// minusTime
+    /// `minusTime`.
     MinusTime,
-    /// atValues
+    /// `atValues`.
     AtValues,
-    /// minusValues
+    /// `minusValues`.
     MinusValues,
-    /// valueAtTimestamp
+    /// `valueAtTimestamp`.
     ValueAtTimestamp,
-    /// getTime
+    /// `getTime`.
     GetTime,
-    /// whenTrue
+    /// `whenTrue`.
     WhenTrue,
-    /// getX
+    /// `getX`.
     GetX,
-    /// getY
+    /// `getY`.
     GetY,
-    /// stbox
+    /// `stbox`.
     BoxOf,
-    /// expandSpace
+    /// `expandSpace`.
     ExpandSpace,
-    /// atStbox
+    /// `atStbox`.
     AtStbox,
-    /// minusStbox
+    /// `minusStbox`.
     MinusStbox,
-    /// atGeometry
+    /// `atGeometry`.
     AtGeometry,
-    /// minusGeometry
+    /// `minusGeometry`.
     MinusGeometry,
-    /// eIntersects
+    /// `eIntersects`.
     EIntersects,
-    /// eDwithin
+    /// `eDwithin`.
     EDwithin,
-    /// nearestApproachSquared
+    /// `nearestApproachSquared`.
     NearestApproachSquared,
-    /// asText
+    /// `asText`.
     AsText,
-    /// `::`
+    /// `::`.
     Cast,
 }
 
 /// How an operator is written.
 #[derive(Clone, Copy, Debug, PartialEq, Eq)]
 pub enum Form {
-    /// By words, as NOT or IS NULL.
+    /// By words, such as NOT or IS NULL.
     Word,
     /// By a sign.
     Sign,

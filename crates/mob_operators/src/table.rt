@@ -1,42 +1,42 @@
-//! The table of operators.
+//! The table of operators, after MobilityDB's manual and PostgreSQL.
 
 use crate::operator::{Form, Op};
 use mob_ast::{Cmp, SqlType};
 
-/// What the arguments of a row have to meet beside their types.
+/// The condition of a row on its arguments, beyond their types.
 #[derive(Clone, Copy, Debug, PartialEq, Eq)]
 pub enum Bond {
     /// Nothing.
     Free,
-    /// At least one of them is temporal.
+    /// At least one argument is temporal.
     OneMoving,
-    /// Both have one type.
+    /// Both arguments have the same type.
     SameType,
-    /// The last one is a number literal.
+    /// The last argument is a number literal.
     ByLiteral,
 }
 
-/// Which type a row gives.
+/// The type of the result of a row.
 #[derive(Clone, Copy, Debug, PartialEq, Eq)]
 pub enum ResultType {
     /// This type.
     Only(SqlType),
     /// The type of the first argument.
     First,
-    /// The first of these types where every argument is whole, an int or a tint, else the second.
+    /// The first of these types if every argument is whole, an int or a tint; else the second.
     Whole(SqlType, SqlType),
 }
 
 /// A row of the table: how its operators are written, what they take and what they give.
 #[derive(Clone, Copy)]
 pub struct Row {
-    /// Whether they are words, signs or functions.
+    /// Whether its operators are words, signs or functions.
     pub form: Form,
     /// Each operator with its name, in lower case.
     pub names: &'static [(&'static str, Op)],
-    /// For each argument the types that are taken.
+    /// For each argument, the types that the row takes.
     pub takes: &'static [&'static [SqlType]],
-    /// What else the arguments have to meet.
+    /// The condition on the arguments beyond their types.
     pub bond: Bond,
     /// The type of the result.
     pub gives: ResultType,
@@ -70,7 +70,7 @@ const TTEXT: &'static [SqlType] = &[SqlType::TText];
 
 const TPOINT: &'static [SqlType] = &[SqlType::TPoint];
 
-// A value of a kind, or a temporal value of it.
+// The plain types of one kind of value, and the temporal type of that kind.
 const BOOL_KIND: &'static [SqlType] = &[SqlType::Bool, SqlType::TBool];
 
 const NUMBER_KIND: &'static [SqlType] = &[
@@ -109,7 +109,7 @@ const PRINTED: &'static [SqlType] = &[
     SqlType::Box,
 ];
 
-// All types but polygons have `=`.
+// `=` takes all types but polygons.
 const COMPARED: &'static [SqlType] = &[
     SqlType::Bool,
     SqlType::Int,
@@ -169,7 +169,7 @@ const LIFTED_ORDERS: &'static [(&'static str, Op)] = &[
     ("#>=", Op::Lifted(Cmp::Ge)),
 ];
 
-// `?` asks for some instant and `%` for every instant.
+// `?` asks for some instant, `%` for every instant.
 const EVER_EQUALS: &'static [(&'static str, Op)] = &[
     ("?=", Op::Ever(Cmp::Eq)),
     ("?<>", Op::Ever(Cmp::Ne)),
@@ -211,14 +211,14 @@ const TO_NUMBER: ResultType = ResultType::Whole(SqlType::Int, SqlType::Numeric);
 
 const TO_TNUMBER: ResultType = ResultType::Whole(SqlType::TInt, SqlType::TFrac);
 
-// A row on one line.
+// Writes a row of the table on one line.
 macro_rules! row {
     ($form:ident, $names:expr, [$($class:expr),*], $bond:ident, $gives:expr) => {
         Row { form: Form::$form, names: $names, takes: &[$($class),*], bond: Bond::$bond, gives: $gives }
     };
 }
 
-/// The table, row by row.
+/// The rows of the table.
 pub static ROWS: [Row; 58] = [
     row!(Word, &[("not", Op::Not)], [BOOL], Free, TO_BOOL),
     row!(

@@ -1,4 +1,4 @@
--- What is read behind a list.
+-- Reading a list and appending it to another.
 use Rattle.std.proofs.Common.{◌≡◌, ◌∙◌, List, [], ◌∷◌, ◌++◌, length, false, Ok, Err, refl, sym, ap, append_assoc, append-nil}
 use Rattle.mob_ast.specs.Trees.{FromParts}
 use Rattle.mob_grammar.specs.declared.mark.Mark.{Mark}
@@ -27,12 +27,12 @@ pub behind_stops : {A : Type 0} (xs : List A) (s : TokenReader (List A)) (l r : 
 unfolding put_behind
 behind_stops xs s l r e h = stops_through e r (s l) (λ ys. Ok (xs ++ ys.0, ys.1)) (put_behind xs s l) refl h
 
--- behind nothing is read what is read
+-- appending to an empty list changes nothing
 pub behind_nothing : {A : Type 0} (s : TokenReader (List A)) (l : List PlacedSymbol) → put_behind [] s l ≡ s l
 unfolding put_behind
 behind_nothing s l = given_back (s l)
 
--- a list whose items have been read is read
+-- a list whose items have all been read is read
 pub list_over : {A : Type 0} (m : Mark) (s : TokenReader A) (whole l : List PlacedSymbol) (xs : List A) → ReadSoFar m s whole xs l → starts m l ≡ false → listed m s whole ≡ Ok (xs, l)
 list_over m s whole l xs so_far h = so_far.2 ∙ listed_stops m s so_far.0 xs l h
 
@@ -48,7 +48,7 @@ list_given : {A : Type 0} → Answer (List A) → List A
 list_given (Ok x) = x.0
 list_given (Err r) = []
 
--- what was read behind a list, from what is read with it
+-- the result of appending, from the result of reading
 behind_by : {A : Type 0} (xs ys : List A) (s : TokenReader (List A)) (l r : List PlacedSymbol) (a : Answer (List A)) → s l ≡ a → (a >>= λ zs. Ok (xs ++ zs.0, zs.1)) ≡ Ok (ys, r) → (zs : List A) × (s l ≡ Ok (zs, r)) × (ys ≡ xs ++ zs)
 unfolding left_over list_given
 behind_by xs ys s l r (Ok z) e h = (z.0, e ∙ ap (λ v. Ok (z.0, v)) (ap left_over h), sym (ap list_given h))
@@ -58,7 +58,7 @@ pub behind_gives : {A : Type 0} (xs ys : List A) (s : TokenReader (List A)) (l r
 unfolding put_behind
 behind_gives xs ys s l r h = behind_by xs ys s l r (s l) refl h
 
--- what is refused behind a list is refused
+-- a refusal of the reader is a refusal of the appending reader
 stopped_by : {A : Type 0} (xs : List A) (s : TokenReader (List A)) (l r : List PlacedSymbol) (a : Answer (List A)) → s l ≡ a → (a >>= λ zs. Ok (xs ++ zs.0, zs.1)) ≡ Err r → s l ≡ Err r
 stopped_by xs s l r (Ok z) e h = absurd (cc h)
 stopped_by xs s l r (Err q) e h = e ∙ h
@@ -68,7 +68,7 @@ unfolding put_behind
 behind_stopped xs s l r (Because wrong) h = stopped_by xs s l r (s l) refl h
 behind_stopped xs s l r NoMemory h = tt
 
--- where the first item is refused
+-- the first item is refused
 pub first_refused : {A : Type 0} (m : Mark) (inner : TokenReader A) (l r : List PlacedSymbol) (e : Fault Syntax) → StopsReading e r (inner l) → StopsReading e r (listed m inner l)
 unfolding listed
 first_refused m inner l r e h = stops_through e r (inner l) (λ x. listed_from m inner (length l) (x.0 ∷ []) x.1) (listed m inner l) refl h

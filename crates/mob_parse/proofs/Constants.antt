@@ -1,4 +1,4 @@
--- Where the grammar reads a constant that is one token, that token is the first.
+-- If the grammar reads a constant of one token, it is the first token.
 use Rattle.std.proofs.Common.{◌≡◌, ℕ, List, [], ◌∷◌, true, false, refl}
 use Rattle.mob_ast.specs.Trees.{Tree}
 use Rattle.mob_grammar.specs.declared.mark.Mark.{Mark}
@@ -8,7 +8,7 @@ use Rattle.mob_grammar.specs.Reading.{TokenReader, primary, mark_primary, const_
 use Rattle.mob_grammar.proofs.Steps.{chosen}
 use Rattle.mob_parse.specs.Constants.{constant_leaf_at}
 
--- in an expression, where neither a name nor a bracket comes next
+-- in an expression, if neither a name nor a bracket comes next
 primary_mark : (inner : TokenReader Tree) (g : Mark) (p : ℕ) (l : List PlacedSymbol) → starts Open (record { symbol = fixed g; place = p } ∷ l) ≡ false → primary inner (record { symbol = fixed g; place = p } ∷ l) ≡ constant_leaf_at (record { symbol = fixed g; place = p } ∷ l)
 unfolding primary mark_primary constant_leaf_at
 primary_mark inner Open p l no_bracket = absurd (cc no_bracket)
@@ -27,7 +27,7 @@ unfolding primary constant_leaf_at
 primary_constant inner [] no_name no_bracket = refl
 primary_constant inner (t ∷ l) no_name no_bracket = primary_symbol inner t.symbol t.place l no_name no_bracket
 
--- in an INSERT, where neither a sign nor a name comes next
+-- in an INSERT, if neither a sign nor a name comes next
 const_mark : (g : Mark) (p : ℕ) (l : List PlacedSymbol) → begins is_plus_or_minus (record { symbol = fixed g; place = p } ∷ l) ≡ false → const_at (record { symbol = fixed g; place = p } ∷ l) ≡ constant_leaf_at (record { symbol = fixed g; place = p } ∷ l)
 unfolding const_at word_leaf_at mark_leaf_at mark_at typed_string_at type_at name_at constant_leaf_at
 const_mark Plus p l no_sign = absurd (cc no_sign)
@@ -47,7 +47,7 @@ unfolding const_at word_leaf_at typed_string_at type_at name_at constant_leaf_at
 const_constant [] no_sign no_name = refl
 const_constant (t ∷ l) no_sign no_name = const_symbol t.symbol t.place l no_sign no_name
 
--- in an INSERT, where a name comes next
+-- in an INSERT, if a name comes next
 const_name : (s : Symbol) (p : ℕ) (l : List PlacedSymbol) → begins is_name (record { symbol = s; place = p } ∷ l) ≡ true → const_at (record { symbol = s; place = p } ∷ l) ≡ typed_string_at (record { symbol = s; place = p } ∷ l)
 unfolding const_at word_leaf_at
 const_name (fixed g) p l named = absurd (cc named)
@@ -59,7 +59,7 @@ pub const_typed : (l : List PlacedSymbol) → begins is_name l ≡ true → cons
 const_typed [] named = absurd (cc named)
 const_typed (t ∷ l) named = const_name t.symbol t.place l named
 
--- and where a sign comes next
+-- in an INSERT, if a sign comes next
 const_sign : (s : Symbol) (p : ℕ) (l : List PlacedSymbol) → begins is_plus_or_minus (record { symbol = s; place = p } ∷ l) ≡ true → const_at (record { symbol = s; place = p } ∷ l) ≡ signed_number_at (record { symbol = s; place = p } ∷ l)
 unfolding const_at
 const_sign (fixed g) p l signed = chosen _ _ _ signed

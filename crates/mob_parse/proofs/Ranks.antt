@@ -1,4 +1,4 @@
--- What is left behind an operand is no longer than what it was read from.
+-- Reading an operand never adds to the remaining tokens.
 use Rattle.std.proofs.Common.{ℕ, suc, length, arith}
 use Rattle.mob_ast.specs.declared.expression.Node.TheVariants as node
 use Rattle.mob_ast.specs.Trees.{Tree}
@@ -26,7 +26,7 @@ operand_shrinks Other = rank_shrinks complement _ (λ n. lawful_complement n exp
 operand_shrinks Sum = rank_shrinks product _ (λ n. lawful_product n expression_at (lawful_expression n) (λ pos v o q y. column_arguments v o q y))
 operand_shrinks Product = rank_shrinks signed _ (λ n. lawful_signed n expression_at (lawful_expression n) (λ pos v o q y. column_arguments v o q y))
 
--- the nodes behind a phrase
+-- the suffixes of a phrase
 closed_shrinks : {A : Type 0} (m : Mark) (v : A) → Shrinks (closed m v)
 closed_shrinks m v = lawful_shrinks (m ▸ Builds v) (closed m v) (λ n. lawful_closed m n v)
 
@@ -37,7 +37,7 @@ null_shrinks = if_shrinks Not (closed Null node.IsNotNull) (closed Null node.IsN
 pub type_shrinks : Shrinks type_at
 type_shrinks = lawful_shrinks TypeName type_at lawful_type
 
--- what the operators of a rank stand behind
+-- the phrases that the operators of a rank follow
 pub other_shrinks : Shrinks (other_rank expression_at)
 other_shrinks = rank_shrinks other _ (λ n. lawful_other n expression_at (lawful_expression n) (λ pos v o q y. column_arguments v o q y))
 

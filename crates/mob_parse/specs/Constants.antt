@@ -21,12 +21,12 @@ constant_node (name n) = None
 constant_node (number n) = Some (node.Number n)
 constant_node (quoted s) = Some (node.Str s)
 
--- the leaf of a node, with what is left behind it; without a node the first token does not fit
+-- the leaf of a node, and the remaining tokens; without a node the first token does not fit
 abbrev pub leaf_or_stop : Option Node → ℕ → List PlacedSymbol → List PlacedSymbol → Answer Tree
 leaf_or_stop (Some n) p whole behind = Ok (leaf n p, behind)
 leaf_or_stop None p whole behind = Err whole
 
--- a constant that is the first token
+-- a constant at the first token
 unfoldable pub constant_leaf_at : TokenReader Tree
 constant_leaf_at [] = Err []
 constant_leaf_at (t ∷ l) = leaf_or_stop (constant_node t.symbol) t.place (t ∷ l) l

@@ -1,4 +1,4 @@
--- What is left behind a phrase is no longer than what the phrase was read from.
+-- Readers never add to the remaining tokens.
 use Rattle.std.proofs.Common.{◌≡◌, ◌≤◌, ◌+◌, ◌∙◌, ◌⊎◌, inl, inr, ℕ, List, [], ◌∷◌, length, true, false, Option, Some, None, Ok, Err, refl, sym, ap, arith}
 use Rattle.mob_ast.specs.declared.types.Word.{Word}
 use Rattle.mob_ast.specs.declared.expression.Node.TheVariants as node
@@ -18,11 +18,11 @@ use Rattle.mob_grammar.proofs.Statements.{read_const, read_row, read_column_type
 abbrev pub Shrinks : {A : Type 0} → TokenReader A → Type 0
 Shrinks {A} s = (l r : List PlacedSymbol) (x : A) → s l ≡ Ok (x, r) → length r ≤ length l
 
--- of a production that is read by its law
+-- a production whose reader is lawful
 pub lawful_shrinks : {A : Type 0} (F : Production A) (s : TokenReader A) → ((n : ℕ) → Lawful F n s) → Shrinks s
 lawful_shrinks F s law l r x h = shrinks F (length l + 1) s (law (length l + 1)) l (omega arith) x r h
 
--- the words that make a longer production
+-- the readers that make up longer productions
 behind_of : {A : Type 0} → Answer A → List PlacedSymbol
 behind_of (Ok x) = x.1
 behind_of (Err r) = r
@@ -64,7 +64,7 @@ column_shrinks w = then_shrinks name_at (λ c u. Ok (leaf (node.Column (Some w) 
 pub expression_shrinks : Shrinks expression_at
 expression_shrinks = lawful_shrinks (Phrase disjunction) expression_at lawful_expression
 
--- what stands in a list
+-- the entries of lists
 pub const_shrinks : Shrinks const_at
 const_shrinks = lawful_shrinks Const const_at read_const.lawful
 

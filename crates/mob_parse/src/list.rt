@@ -1,4 +1,4 @@
-//! Lists: phrases of one kind with a mark between.
+//! Reads lists: phrases of one kind with a mark between them.
 ghost use Rattle.std.specs.Prelude.{map};
 ghost use Rattle.mob_grammar.specs.Reading.{TokenReader, listed};
 ghost use Rattle.mob_parse.specs.Cursors.{left, FollowsReading};
@@ -10,29 +10,31 @@ use mob_grammar::mark::Mark;
 use mob_list::fault::Fault;
 use mob_list::items::Items;
 
-/// What stands in a list.
+/// An entry of a list.
 pub trait Entry {
-    /// What it is read as.
+    /// The entry in the tree.
     type Made: Drop;
 
-    /// What contracts see of it.
+    /// The entry as contracts see it.
     ghost Parts: { Type 0 };
 
     ghost parts_of: { Self.Made → Parts };
 
-    /// The reading of one.
+    /// The grammar's reader of an entry.
     ghost reader: { TokenReader Parts };
 
-    /// One, at the front of what is left to read.
+    /// Reads one entry at the front of the remaining tokens.
     fn read(cursor: &mut Cursor<'_>) -> Result<Self::Made, Fault<Syntax>>
         ensures reads { FollowsReading parts_of result (left cursor.new) (reader (left cursor.old)) };
 
-    /// What is left behind one is no longer than what it was read from.
+    /// Reading an entry never adds to the remaining tokens.
     ghost shrinks: { Shrinks reader };
 }
 
 impl<'a> Cursor<'a> {
-    /// One or more, with that mark between.
+    /// Reads one or more entries with this mark between them.
+    ///
+    /// `Syntax` at the first token that does not fit; `NoMemory` if an allocation fails.
     #[tactic(auto, using(crate::proofs::Behind::behind_nothing))]
     pub fn list<T: Entry>(&mut self, mark: Mark) -> Result<Items<T::Made>, Fault<Syntax>>
         ensures reads { FollowsReading (map T.parts_of) result (left self.new) (listed mark T.reader (left self.old)) }
@@ -40,7 +42,9 @@ impl<'a> Cursor<'a> {
         self.list_onto::<T>(mark, Items::new(self.alloc))
     }
 
-    /// One or more behind others, with that mark between.
+    /// Reads one or more entries with this mark between them, and appends them to `before`.
+    ///
+    /// `Syntax` at the first token that does not fit; `NoMemory` if an allocation fails.
     #[tactic(auto, using(mob_grammar::proofs::Steps::listed_goes_on, mob_grammar::proofs::Steps::listed_stops), unfolding(mob_grammar::specs::Reading::listed))]
     pub fn list_onto<T: Entry>(
         &mut self,

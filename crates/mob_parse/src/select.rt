@@ -1,4 +1,4 @@
-//! SELECT, part by part, and whole scripts.
+//! Reads SELECT, DELETE and EXPLAIN, part by part, and whole scripts.
 ghost use Rattle.std.specs.Prelude.{◌≡◌, Ok, true, false, map, IfOk, MatchOption, option_map};
 ghost use Rattle.mob_ast.specs.Trees.{tree_of, Tree, FromParts, from_of, ItemParts, item_of, KeyParts, key_of, select_of, StatementParts, statement_of};
 ghost use Rattle.mob_grammar.specs.Symbols.{begins, is_name, counts_all, first, rest};
@@ -33,7 +33,7 @@ impl<'a> Cursor<'a> {
         Ok(Some(self.name()?))
     }
 
-    // The second name of a table of FROM, with AS or without.
+    // Reads the second name of a table of FROM, with or without AS, if there is one.
     #[tactic(auto, unfolding(mob_grammar::specs::Reading::second_name_at, mob_grammar::specs::Reading::name_or_none_at, mob_grammar::specs::Reading::if_mark))]
     fn second_name(&mut self) -> Result<Option<Word>, Fault<Syntax>>
         ensures reads { FollowsReading (λ w. w) result (left self.new) (second_name_at (left self.old)) }
@@ -47,7 +47,7 @@ impl<'a> Cursor<'a> {
         }
     }
 
-    // The name behind AS, if AS is there.
+    // Reads AS and a name, if AS comes next.
     #[tactic(auto, unfolding(mob_grammar::specs::Reading::alias_at, mob_grammar::specs::Reading::if_mark))]
     fn alias(&mut self) -> Result<Option<Word>, Fault<Syntax>>
         ensures reads { FollowsReading (λ w. w) result (left self.new) (alias_at (left self.old)) }
@@ -59,7 +59,7 @@ impl<'a> Cursor<'a> {
         }
     }
 
-    // A value and the name behind AS, if AS is there.
+    // Reads AS and a name after a value, if AS comes next.
     fn aliased<T: Drop>(&mut self, value: T) -> Result<(T, Option<Word>), Fault<Syntax>>
         ensures reads { FollowsReading (λ r. r.1) result (left self.new) (alias_at (left self.old)) }
         ensures same { IfOk result (λ r. r.0 ≡ value) }
@@ -68,7 +68,7 @@ impl<'a> Cursor<'a> {
         Ok((value, alias))
     }
 
-    // ASC or DESC, if one is there: whether it is DESC.
+    // Reads ASC or DESC, if one comes next. Returns whether it is DESC.
     #[tactic(auto, unfolding(mob_grammar::specs::Reading::direction_at, mob_grammar::specs::Reading::if_mark))]
     fn direction(&mut self) -> bool
         ensures reads { direction_at (left self.old) ≡ Ok (result, left self.new) }
@@ -80,7 +80,7 @@ impl<'a> Cursor<'a> {
         }
     }
 
-    // DISTINCT, if it is there.
+    // Reads DISTINCT, if it comes next. Returns whether it does.
     #[tactic(auto, unfolding(mob_grammar::specs::Reading::distinct_at, mob_grammar::specs::Reading::if_mark))]
     fn distinct(&mut self) -> bool
         ensures reads { distinct_at (left self.old) ≡ Ok (result, left self.new) }
@@ -88,7 +88,7 @@ impl<'a> Cursor<'a> {
         self.skip(Mark::Distinct)
     }
 
-    // Passes the first three tokens of `count(*)`, if they come next, and says the place of the
+    // Skips the first three tokens of `count(*)`, if they come next. Returns the place of the
     // first.
     fn take_count(&mut self) -> Option<u32>
         ensures passes { MatchOption result
@@ -104,7 +104,7 @@ impl<'a> Cursor<'a> {
         }
     }
 
-    // What stands behind the first three tokens of `count(*)`.
+    // Reads the rest of `count(*)`, after its first three tokens.
     #[tactic(auto, unfolding(mob_grammar::specs::Reading::count_tail_at, mob_grammar::specs::Reading::count_alias_at, mob_grammar::specs::Reading::behind_mark))]
     fn count_tail(&mut self, place: u32) -> Result<Item, Fault<Syntax>>
         ensures reads { FollowsReading item_of result (left self.new) (count_tail_at place (left self.old)) }
@@ -114,7 +114,7 @@ impl<'a> Cursor<'a> {
         Ok(Item::CountAll { place, alias })
     }
 
-    // An expression and the name behind AS, if AS is there.
+    // Reads an expression, and its name after AS, if there is one.
     #[tactic(auto, unfolding(mob_grammar::specs::Reading::one_item_at))]
     fn one_item(&mut self) -> Result<Item, Fault<Syntax>>
         ensures reads { FollowsReading item_of result (left self.new) (one_item_at (left self.old)) }
@@ -124,7 +124,7 @@ impl<'a> Cursor<'a> {
         Ok(Item::One { value, alias })
     }
 
-    // ON and its condition.
+    // Reads ON and its condition.
     #[tactic(auto, unfolding(mob_grammar::specs::Reading::on_at, mob_grammar::specs::Reading::behind_mark))]
     fn on_part(&mut self, table: Word, alias: Option<Word>) -> Result<FromTable, Fault<Syntax>>
         ensures reads { FollowsReading from_of result (left self.new) (on_at table alias (left self.old)) }
@@ -138,7 +138,7 @@ impl<'a> Cursor<'a> {
         })
     }
 
-    // The tables that are left-joined behind others, if any are.
+    // Reads the left-joined tables, if there are any, and appends them.
     #[tactic(auto, unfolding(mob_grammar::specs::Reading::joins_at, mob_grammar::specs::Reading::if_mark, crate::specs::Orderings::put_behind))]
     fn joins(&mut self, found: Items<FromTable>) -> Result<Items<FromTable>, Fault<Syntax>>
         ensures reads { FollowsReading (map from_of) result (left self.new) (put_behind (map from_of found) joins_at (left self.old)) }
@@ -150,7 +150,7 @@ impl<'a> Cursor<'a> {
         }
     }
 
-    // A table and those that are left-joined to it, behind others.
+    // Reads a table and the tables left-joined to it, and appends them.
     #[tactic(auto, unfolding(mob_grammar::specs::Reading::source_at, crate::specs::Orderings::put_behind))]
     fn source(&mut self, before: Items<FromTable>) -> Result<Items<FromTable>, Fault<Syntax>>
         ensures reads { FollowsReading (map from_of) result (left self.new) (put_behind (map from_of before) source_at (left self.old)) }
@@ -161,7 +161,7 @@ impl<'a> Cursor<'a> {
         self.joins(found)
     }
 
-    // The tables of FROM.
+    // Reads the tables of FROM.
     #[tactic(auto, unfolding(mob_grammar::specs::Reading::sources_at))]
     fn sources(&mut self) -> Result<Items<FromTable>, Fault<Syntax>>
         ensures reads { FollowsReading (map from_of) result (left self.new) (sources_at (left self.old)) }
@@ -195,7 +195,7 @@ impl<'a> Cursor<'a> {
         }
     }
 
-    // Entries with commas between, behind this mark and BY, if the mark is there.
+    // Reads this mark, BY, and entries with commas between them, if the mark comes next.
     #[tactic(auto, unfolding(mob_grammar::specs::Reading::behind_mark, mob_grammar::specs::Reading::if_mark))]
     fn by_part<T: Entry>(&mut self, mark: Mark) -> Result<Items<T::Made>, Fault<Syntax>>
         ensures reads { FollowsReading (map T.parts_of) result (left self.new) (by_at mark T.reader (left self.old)) }
@@ -219,7 +219,8 @@ impl<'a> Cursor<'a> {
         }
     }
 
-    // What stands in front, the columns of GROUP BY, the keys and the number.
+    // Reads GROUP BY, ORDER BY and LIMIT. Returns `front` with the columns, the keys and the
+    // number.
     #[tactic(auto, unfolding(crate::specs::Orderings::ordering_at, mob_grammar::specs::Reading::group_at, mob_grammar::specs::Reading::order_at))]
     fn ordered<T: Drop>(
         &mut self,
@@ -234,7 +235,7 @@ impl<'a> Cursor<'a> {
         Ok((front, groups, keys, limit))
     }
 
-    // What stands behind SELECT.
+    // Reads a SELECT, after its first word.
     #[tactic(auto, unfolding(mob_grammar::specs::Reading::select_at))]
     fn select(&mut self) -> Result<SelectTree, Fault<Syntax>>
         ensures reads { FollowsReading select_of result (left self.new) (select_at (left self.old)) }
@@ -255,7 +256,7 @@ impl<'a> Cursor<'a> {
         })
     }
 
-    // What stands behind DELETE.
+    // Reads a DELETE, after its first word.
     #[tactic(auto, unfolding(mob_grammar::specs::Reading::delete_at, mob_grammar::specs::Reading::delete_table_at, mob_grammar::specs::Reading::behind_mark))]
     fn delete(&mut self) -> Result<Statement, Fault<Syntax>>
         ensures reads { FollowsReading statement_of result (left self.new) (delete_at (left self.old)) }
@@ -266,7 +267,7 @@ impl<'a> Cursor<'a> {
         Ok(Statement::Delete { table, cond })
     }
 
-    // What stands behind EXPLAIN.
+    // Reads an EXPLAIN, after its first word.
     #[tactic(auto, unfolding(mob_grammar::specs::Reading::explain_at, mob_grammar::specs::Reading::behind_mark))]
     fn explain(&mut self) -> Result<Statement, Fault<Syntax>>
         ensures reads { FollowsReading statement_of result (left self.new) (explain_at (left self.old)) }
@@ -275,7 +276,10 @@ impl<'a> Cursor<'a> {
         Ok(Statement::Explain(self.select()?))
     }
 
-    /// The statements of a script, with `;` between them.
+    /// Reads the statements of a script, with `;` between them. It stops before the first token
+    /// that continues none of them.
+    ///
+    /// `Syntax` at the first token that does not fit; `NoMemory` if an allocation fails.
     #[tactic(auto, unfolding(mob_grammar::specs::Reading::script_at))]
     pub fn statements(&mut self) -> Result<Items<Statement>, Fault<Syntax>>
         ensures reads { FollowsReading (map statement_of) result (left self.new) (script_at (left self.old)) }
@@ -284,7 +288,6 @@ impl<'a> Cursor<'a> {
     }
 }
 
-/// A table of FROM.
 impl Entry for FromTable {
     type Made = FromTable;
 
@@ -308,7 +311,7 @@ impl Entry for FromTable {
     ghost shrinks = { from_entry_shrinks };
 }
 
-/// A table that is left-joined, behind LEFT.
+/// A left-joined table, after LEFT.
 pub struct Joined;
 
 impl Entry for Joined {
@@ -356,7 +359,6 @@ impl Entry for GroupColumn {
     ghost shrinks = { group_column_shrinks };
 }
 
-/// An entry of the select list.
 impl Entry for Item {
     type Made = Item;
 
@@ -380,7 +382,6 @@ impl Entry for Item {
     ghost shrinks = { item_shrinks };
 }
 
-/// A key of ORDER BY.
 impl Entry for Key {
     type Made = Key;
 
@@ -400,7 +401,7 @@ impl Entry for Key {
     ghost shrinks = { key_shrinks };
 }
 
-/// A statement, or nothing.
+/// A statement, which may be empty.
 impl Entry for Statement {
     type Made = Statement;
 

@@ -1,4 +1,4 @@
--- Worked examples, by hand: which texts are points.
+-- Examples, worked by hand: which texts are points.
 use Rattle.std.proofs.Common.{◌≡◌, true, Option, None, codes, refl}
 use Rattle.std.specs.Prelude.{is_some}
 use Rattle.mob_language.specs.Language.{Text}
@@ -12,22 +12,22 @@ use Rattle.mob_points.specs.Points.{close_bracket_at, coordinates_at, written_po
 abbrev read : Text → Option (Option Point)
 read text = all_of (within_blanks_at point_value_at) text
 
--- letters of either case, blanks beside the brackets and at both ends
+-- mixed letter case, blanks beside the brackets and at both ends
 in_full : is_some (read (codes " srid=0 ; Point ( 1 -2/4 ) ")) ≡ true
 unfolding point_value_at behind_srid_at srid_zero_at written_point_at coordinates_at close_bracket_at some_blanks_at number_value_at numeral_at sign_at digits_at tail_at over_at decimal_at point_at exponent_at power_at
 in_full = refl
 
--- one coordinate is no point
+-- one coordinate does not make a point
 one_number : read (codes "POINT(1)") ≡ None
 unfolding point_value_at behind_srid_at srid_zero_at written_point_at coordinates_at close_bracket_at some_blanks_at number_value_at numeral_at sign_at digits_at tail_at over_at decimal_at point_at exponent_at power_at
 one_number = refl
 
--- another reference system than none
+-- a reference system other than 0
 other_system : read (codes "SRID=4326;POINT(1 2)") ≡ None
 unfolding point_value_at behind_srid_at srid_zero_at written_point_at coordinates_at
 other_system = refl
 
--- a comma does not stand between coordinates
+-- a comma between coordinates is refused
 with_comma : read (codes "POINT(1,2)") ≡ None
 unfolding point_value_at behind_srid_at srid_zero_at written_point_at coordinates_at close_bracket_at some_blanks_at number_value_at numeral_at sign_at digits_at tail_at over_at decimal_at point_at exponent_at power_at
 with_comma = refl

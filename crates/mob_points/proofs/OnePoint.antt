@@ -1,4 +1,4 @@
--- A text has one reading as a point.
+-- A text has at most one reading as a point.
 use Rattle.std.proofs.Common.{◌≡◌, Option, Some, refl, sym, ◌∙◌}
 use Rattle.mob_language.proofs.Exact.{one_value}
 use Rattle.mob_numeral.specs.Verdict.{HasOneReading}

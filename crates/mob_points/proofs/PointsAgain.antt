@@ -1,4 +1,4 @@
--- A point that is printed is read again as itself.
+-- A printed point reads back as itself.
 use Rattle.std.proofs.Common.{[], ◌++◌, Some, None, Ok, refl, codes}
 use Rattle.mob_frac.specs.Fits.{Fits}
 use Rattle.mob_language.specs.Language.{Text, Language, spaced}
@@ -68,7 +68,7 @@ point_plain p h k = record {
   is = refl;
 }
 
--- a text before which no SRID=0; stands
+-- a text without SRID=0; before it
 pub unreferenced : {A : Type 0} {l : Language A} (text : Text) (v : A) → l text v → behind_srid l text v
 unreferenced text v said = record {
   meant = (None, v);

@@ -1,4 +1,4 @@
--- The reader of points reads exactly the texts of points.
+-- The reader of points accepts exactly the texts of points.
 use Rattle.std.proofs.Common.{◌≡◌, ℕ, [], ◌∷◌, Bool, false, Option, Some, None, Ok, Err, refl, sym, ◌∙◌, rules, codes}
 use Rattle.std.specs.Prelude.{◌||◌, nat_eq}
 use Rattle.std.specs.Char.{to_ascii_lowercase}
@@ -23,7 +23,7 @@ pub close_exact : Exact close_bracket close_bracket_at Any
 unfolding close_bracket_at
 close_exact = means_exact (λ (v : Text × Unit {0}). tt) (then_byte_stops (many_exact is_blank) (word_exact (codes ")")) (word_head (codes ")") is_blank refl) (word_byte 41 []))
 
--- no number goes on with what closes a bracket
+-- no number goes on with a byte that begins the closing bracket
 pub close_continues : NoHead close_bracket continues
 close_continues = means_head (then_head (many_head blank_stops) (word_head (codes ")") continues refl))
 
@@ -54,8 +54,8 @@ coordinates_byte = means_byte coordinates_said (then_byte (some_blanks ▷ (numb
 first_letter : (c w : ℕ) (cs ws : Text) → c ∷ cs ≡ w ∷ ws → c ≡ w
 first_letter c w cs ws e = cc
 
--- no such word begins with a byte that passes the test, where its first letter, small or capital,
--- passes it not
+-- no such word begins with a byte that passes the test, if its first letter fails the test in
+-- either case
 pub any_case_head : (w : ℕ) (ws : Text) (test : ℕ → Bool) → ((c : ℕ) → to_ascii_lowercase c ≡ w → test c ≡ false) → NoHead (AnyCase (w ∷ ws)) test
 any_case_head w ws test h [] v said = tt
 any_case_head w ws test h (c ∷ cs) v said = h c (first_letter _ w _ ws said)
@@ -70,16 +70,16 @@ pub point_exact : Exact written_point written_point_at Any
 unfolding written_point_at
 point_exact = means_exact point_said (after_any (any_case_exact (codes "point")) (then_byte_stops (spaced_exact 40 [] refl) coordinates_exact coordinates_blank coordinates_byte))
 
--- a point begins with the letter p, small or capital
+-- a point begins with the letter p, in either case
 pub point_head : (test : ℕ → Bool) → ((c : ℕ) → to_ascii_lowercase c ≡ 112 → test c ≡ false) → NoHead written_point test
 point_head test h = means_head (byte_head (spaced (codes "(") ▷ coordinates) (any_case_head 112 (codes "oint") test h) (any_case_byte 112 (codes "oint")))
 
 pub point_byte : HasByte written_point
 point_byte = means_byte point_said (then_byte (spaced (codes "(") ▷ coordinates) (any_case_byte 112 (codes "oint")))
 
--- ---- a point behind SRID=0;
+-- ---- a point after SRID=0;
 
--- a byte with which SRID=0; begins or goes on
+-- a byte that begins SRID=0;, or a blank
 abbrev begins_srid : ℕ → Bool
 begins_srid c = nat_eq (to_ascii_lowercase c) 115 || is_blank c
 
@@ -104,17 +104,17 @@ p_no_blank c e = search rules
 p_begins_none : (c : ℕ) → to_ascii_lowercase c ≡ 112 → begins_srid c ≡ false
 p_begins_none c e = or_from (nat_eq (to_ascii_lowercase c) 115) (is_blank c) (rw e refl) (p_no_blank c e)
 
--- each text of the language begins with the letter p, small or capital
+-- each text of the language begins with the letter p, in either case
 abbrev pub BeginsWithP : {A : Type 0} → Language A → Type 0
 BeginsWithP l = (test : ℕ → Bool) → ((c : ℕ) → to_ascii_lowercase c ≡ 112 → test c ≡ false) → NoHead l test
 
--- such a text behind SRID=0;
+-- such a text, with or without SRID=0; before it
 module _ {A : Type 0} {l : Language A} where
   pub behind_srid_exact : {r : TextReader A} → Exact l r Any → BeginsWithP l → HasByte l → Exact (behind_srid l) (behind_srid_at r) Any
   unfolding behind_srid_at
   behind_srid_exact p head byte = means_exact past_srid (then_byte_stops (maybe_stops srid_exact srid_nothing) p (head begins_srid p_begins_none) byte)
 
-  -- it begins with the letter s or p, small or capital
+  -- it begins with the letter s or p, in either case
   pub behind_srid_head : BeginsWithP l → (test : ℕ → Bool) → ((c : ℕ) → to_ascii_lowercase c ≡ 115 → test c ≡ false) → ((c : ℕ) → to_ascii_lowercase c ≡ 112 → test c ≡ false) → NoHead (behind_srid l) test
   behind_srid_head head test h k = means_head (then_head (maybe_head (srid_head test h)) (head test k))
 
@@ -140,7 +140,7 @@ behind_srid_blank head = behind_srid_head head is_blank s_no_blank p_no_blank
 pub points_exact : Exact (within_blanks point_value) (within_blanks_at point_value_at) IsEnd
 points_exact = within_exact point_value_exact (behind_srid_blank point_head) point_value_byte (λ bs each. tt)
 
--- ---- what the code answers
+-- ---- the answers of the code
 
 abbrev all_points : Text → Option (Option Point)
 all_points bytes = all_of (within_blanks_at point_value_at) bytes

@@ -1,4 +1,4 @@
--- The text of a point.
+-- The printed text of a point.
 use Rattle.std.specs.Prelude.{◌++◌, codes}
 use Rattle.mob_language.specs.Language.{Text}
 use Rattle.mob_numeral.specs.NumberText.{number_text}

@@ -1,8 +1,8 @@
--- The texts of points, and the form of points.
+-- The texts of points, and their form.
 --
--- A point is the word POINT, its letters small or capital, and its two coordinates in brackets with
--- blanks between. Blanks may stand beside each bracket. `SRID=0;` says that the plane is without a
--- reference system, which each point is here: it may stand before a point, and says nothing more.
+-- A point is the word POINT, in any letter case, and its two coordinates in brackets with blanks
+-- between them. Blanks may be beside each bracket. `SRID=0;` may come before a point. It says that
+-- the plane has no reference system, which holds for every point here, so it changes nothing.
 use Rattle.std.specs.Prelude.{◌≡◌, codes, Option, Some, None}
 use Rattle.mob_ratio.specs.Ratio.{Ratio}
 use Rattle.mob_language.specs.Language.{Text, Language, ◌▷◌, Maybe, Means, Word, AnyCase, blanks, spaced, within_blanks}
@@ -12,7 +12,7 @@ use Rattle.mob_numeral.specs.Fitting.{number_value, number_value_at}
 use Rattle.mob_numeral.specs.Verdict.{TextForm}
 use Rattle.mob_plane.specs.declared.point.Point.{Point}
 
--- the point with these coordinates, where both of them fit
+-- the point with these coordinates, if both fit
 abbrev pub point_of : Option Ratio → Option Ratio → Option Point
 point_of x y = x >>= λ a. y >>= λ b. Some (record { x = a; y = b })
 
@@ -23,22 +23,22 @@ close_bracket = Means (λ (v : Text × Unit {0}). tt) (blanks ▷ Word (codes ")
 abbrev pub coordinates_said : Option Ratio × (Unit {0} × (Option Ratio × Unit {0})) → Option Point
 coordinates_said v = point_of v.0 v.1.1.0
 
--- two numbers with blanks between, and a closing bracket
+-- two numbers with blanks between them, and a closing bracket
 abbrev pub coordinates : Language (Option Point)
 coordinates = Means coordinates_said (number_value ▷ (some_blanks ▷ (number_value ▷ close_bracket)))
 
 abbrev pub point_said : Unit {0} × (Unit {0} × Option Point) → Option Point
 point_said v = v.1.1
 
--- POINT(x y): it stands for the point, where both coordinates fit
+-- POINT(x y): the point, if both coordinates fit
 abbrev pub written_point : Language (Option Point)
 written_point = Means point_said (AnyCase (codes "point") ▷ (spaced (codes "(") ▷ coordinates))
 
--- a word before a text, its letters small or capital, and its semicolon
+-- a heading: a word in any letter case, and its semicolon
 abbrev pub heading : Text → Language (Unit {0} × Unit {0})
 heading word = AnyCase word ▷ spaced (codes ";")
 
--- the word of a plane without a reference system
+-- the word for a plane without a reference system
 abbrev pub srid_word : Text
 srid_word = codes "srid=0"
 
@@ -52,15 +52,15 @@ srid_zero = Means srid_said (heading srid_word)
 abbrev pub past_srid : {A : Type 0} → Option (Unit {0}) × A → A
 past_srid v = v.1
 
--- a text before which SRID=0; may stand
+-- a text with or without SRID=0; before it
 abbrev pub behind_srid : {A : Type 0} → Language A → Language A
 behind_srid l = Means past_srid (Maybe srid_zero ▷ l)
 
--- a point, before which SRID=0; may stand
+-- a point with or without SRID=0; before it
 abbrev pub point_value : Language (Option Point)
 point_value = behind_srid written_point
 
--- the form of points: a point, perhaps behind SRID=0;, with blanks at both ends
+-- the form of points: a point, with or without SRID=0; before it, and optional blanks at both ends
 abbrev pub points : TextForm (Option Point) Point
 points = record {
   shape = within_blanks point_value;

@@ -1,4 +1,4 @@
-//! Texts of points, each read exactly and printed.
+//! Reads the texts of points exactly, and prints points.
 #![tactic(auto)]
 
 mod laws;

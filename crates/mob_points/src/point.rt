@@ -1,4 +1,4 @@
-//! Points, read from their texts.
+//! Reads points from their texts.
 ghost use Rattle.std.specs.Prelude.{◌≡◌, ◌≢◌, option_map, Option, Some, None, Err};
 ghost use Rattle.mob_language.specs.Readers.{all_of, within_blanks_at};
 ghost use Rattle.mob_numeral.specs.declared.fault.ReadText.TheVariants.{NoMemory};
@@ -11,7 +11,7 @@ use mob_numeral::{
 };
 use mob_plane::Point;
 
-/// The point with these coordinates, where both of them are there.
+/// The point with these coordinates; `None` if either is missing.
 pub fn point_of(x: Option<Frac>, y: Option<Frac>) -> Option<Point>
     ensures value { result ≡ point_made x y }
 {
@@ -20,7 +20,7 @@ pub fn point_of(x: Option<Frac>, y: Option<Frac>) -> Option<Point>
     Some(Point { x: east, y: north })
 }
 
-/// What stands behind a closing bracket and the blanks before it.
+/// Reads a closing bracket with optional blanks before it. Returns the rest of the text.
 #[tactic(auto, unfolding(crate::specs::Points::close_bracket_at))]
 pub fn close_bracket_at(bytes: &[u8]) -> Option<&[u8]>
     ensures read { option_map (λ rest. (tt, rest.now)) result ≡ close_bracket_in bytes.now }
@@ -31,7 +31,8 @@ pub fn close_bracket_at(bytes: &[u8]) -> Option<&[u8]>
     }
 }
 
-/// The point of two numbers and a closing bracket, and what stands behind it.
+/// Reads two numbers and a closing bracket. Returns the point, if its coordinates fit, and the rest
+/// of the text.
 #[tactic(auto, unfolding(crate::specs::Points::coordinates_at))]
 fn coordinates_at(bytes: &[u8]) -> Option<(Option<Point>, &[u8])>
     ensures read { option_map (λ x. (x.0, x.1.now)) result ≡ coordinates_in bytes.now }
@@ -47,7 +48,7 @@ fn coordinates_at(bytes: &[u8]) -> Option<(Option<Point>, &[u8])>
     Some((point_of(x, y), rest))
 }
 
-/// The point in front, where its coordinates fit, and what stands behind it.
+/// Reads a point at the front. Returns it, if its coordinates fit, and the rest of the text.
 #[tactic(auto, unfolding(crate::specs::Points::written_point_at))]
 fn written_point_at(bytes: &[u8]) -> Option<(Option<Point>, &[u8])>
     ensures read { option_map (λ x. (x.0, x.1.now)) result ≡ written_point_in bytes.now }
@@ -60,7 +61,7 @@ fn written_point_at(bytes: &[u8]) -> Option<(Option<Point>, &[u8])>
     Some((point, rest))
 }
 
-/// What stands behind `SRID=0;`.
+/// Reads `SRID=0;` at the front. Returns the rest of the text.
 #[tactic(auto, unfolding(crate::specs::Points::srid_zero_at))]
 pub fn srid_zero_at(bytes: &[u8]) -> Option<((), &[u8])>
     ensures read { option_map (λ x. (x.0, x.1.now)) result ≡ srid_zero_in bytes.now }
@@ -70,8 +71,8 @@ pub fn srid_zero_at(bytes: &[u8]) -> Option<((), &[u8])>
     Some(((), rest))
 }
 
-/// The point in front, before which `SRID=0;` may stand, where its coordinates fit, and what stands
-/// behind it.
+/// Reads a point at the front, with or without `SRID=0;` before it. Returns the point, if its
+/// coordinates fit, and the rest of the text.
 #[tactic(auto, unfolding(crate::specs::Points::point_value_at, crate::specs::Points::behind_srid_at))]
 pub fn point_value_at(bytes: &[u8]) -> Option<(Option<Point>, &[u8])>
     ensures read { option_map (λ x. (x.0, x.1.now)) result ≡ point_value_in bytes.now }
@@ -83,19 +84,19 @@ pub fn point_value_at(bytes: &[u8]) -> Option<(Option<Point>, &[u8])>
     Some((point, rest))
 }
 
-/// All of the bytes, as a point with blanks at its ends.
+/// Reads all of the bytes as a point with optional blanks at both ends.
 fn point_in_all(bytes: &[u8]) -> Option<Option<Point>>
     ensures value { result ≡ all_of (within_blanks_at point_value_in) bytes.now }
 {
     within_blanks(point_value_at, bytes)
 }
 
-/// The point that a text says.
+/// Reads a point from its text, which has the form of WKT.
 ///
-/// A point is `POINT(x y)`, its letters small or capital, of two numbers as `read_number` reads
-/// them. Blanks may stand beside each bracket and at both ends, and one or more stand between the
-/// numbers. `SRID=0;` may stand before it. Any other text is `NotText`, and `TooLarge` a point of
-/// which a coordinate has more than 62 bits. It takes no memory.
+/// A point is `POINT(x y)`, in any letter case, with two numbers as `read_number` reads them.
+/// Blanks may be beside each bracket and at both ends, and at least one is between the numbers.
+/// `SRID=0;` may come before it. Any other text is `NotText`. A point with a coordinate of more
+/// than 62 bits is `TooLarge`. It takes no memory.
 pub fn read_point(text: &str) -> Result<Point, ReadText>
     ensures reading { Lit points text.now result }
     ensures memory { result ≢ Err NoMemory }

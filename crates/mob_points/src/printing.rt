@@ -1,4 +1,4 @@
-//! Points, printed.
+//! Prints points.
 ghost use Rattle.std.specs.Prelude.{◌≡◌, ◌++◌, OnOk, OnErr, string_bytes};
 ghost use Rattle.mob_points.specs.PointText.{point_text};
 
@@ -16,7 +16,8 @@ fn push_point(point: &Point, into: &mut String) -> Result<(), AllocError>
     into.push_str(")")
 }
 
-/// Appends the text of a point, `POINT(x y)`. After `Err` the text is as before.
+/// Appends the text of a point, `POINT(x y)`. An error means that an allocation failed; the text is
+/// then unchanged.
 pub fn write_point(point: &Point, into: &mut String) -> Result<(), AllocError>
     ensures ok { OnOk result (string_bytes into.new ≡ string_bytes into.old ++ point_text point.now) }
     ensures err { OnErr result (string_bytes into.new ≡ string_bytes into.old) }

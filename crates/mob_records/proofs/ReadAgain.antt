@@ -1,4 +1,4 @@
--- What is written of records is read again as these records.
+-- The text of records reads back as these records.
 use Rattle.std.specs.Prelude.{◌≡◌, ℕ, List, [], ◌∷◌, ◌++◌, false, map, Some, None, refl}
 use Rattle.std.specs.List.{concat, AllByRecursion}
 use Rattle.std.proofs.Common.{ap, sym, ◌∙◌}

@@ -1,4 +1,4 @@
--- The text of a record is that of `csv`.
+-- `csv` gives each record the text that `record_line` defines.
 use Rattle.std.proofs.Common.{◌≡◌, ◌∙◌, ap, ap₂, sym, refl, ℕ, ◌+◌, ◌<◌, List, [], ◌∷◌, ◌++◌, true, false, Bool, take, get_or, Some}
 use Rattle.std.specs.Prelude.{◌||◌, ◌==◌, if◌then◌else◌, length, map, Option, unwrap_or}
 use Rattle.std.specs.List.{concat, join_with_byte, list_any}
@@ -9,7 +9,7 @@ use Rattle.std.proofs.Math.Dec.{eqb-suc-zero}
 use Rattle.csv.specs.Writing as csv
 use Rattle.mob_records.specs.AnswerText.{with_doubled_quotes, record_field, is_special, record_line}
 
--- the usual writer: of records of any length, or of one length alone
+-- the usual writer, for records of any length or of one fixed length
 abbrev pub writer : Bool → WriterBuilder
 writer flexible = csv.with_flexible csv.default_writer flexible
 
@@ -36,7 +36,7 @@ module _ (flexible : Bool) where
   same_field : (f : List ℕ) → record_field f ≡ csv.field_text (writer flexible) f
   same_field f = ap₂ (λ (t : Bool) (w : List ℕ). if t then 34 ∷ (w ++ 34 ∷ []) else f) (any_special f) (same_doubled f)
 
-  -- the fields after a first one, each behind a comma
+  -- the fields after the first, each after a comma
   same_rest : (f : List ℕ) (rest : List (List ℕ)) → join_with_byte 44 (map record_field (f ∷ rest)) ≡ csv.field_text (writer flexible) f ++ csv.fields_text (writer flexible) rest
   unfolding csv.fields_text
   same_rest f [] = same_field f ∙ sym (append-nil (csv.field_text (writer flexible) f))
@@ -52,7 +52,7 @@ module _ (flexible : Bool) where
   same_body : (f : List ℕ) (rest : List (List ℕ)) → join_with_byte 44 (map record_field (f ∷ rest)) ++ 10 ∷ [] ≡ (csv.field_text (writer flexible) f ++ csv.fields_text (writer flexible) rest) ++ 10 ∷ []
   same_body f rest = ap (λ (w : List ℕ). w ++ 10 ∷ []) (same_rest f rest)
 
-  -- what the writer writes of a record is the record's text
+  -- the text that `csv` writes for a record is `record_line`
   pub record_text-csv : (fs : List (List ℕ)) → record_line fs ≡ csv.row_text (writer flexible) fs
   unfolding csv.is_blank csv.fields_text
   record_text-csv [] = refl
@@ -61,7 +61,7 @@ module _ (flexible : Bool) where
   record_text-csv ([] ∷ g ∷ rest) = same_body [] (g ∷ rest)
   record_text-csv ((x ∷ xs) ∷ g ∷ rest) = same_body (x ∷ xs) (g ∷ rest)
 
--- one more row in the text of the records
+-- the text of the records, with one more row
 text_more : (names : List (List ℕ)) (front : List (List (List ℕ))) (row : List (List ℕ)) (old new : List ℕ) → Some old ≡ Some (concat (map record_line (names ∷ front))) → new ≡ old ++ record_line row → Some new ≡ Some (concat (map record_line (names ∷ (front ++ row ∷ []))))
 text_more names front row old new before next =
     let more : concat (map record_line (front ++ row ∷ [])) ≡ concat (map record_line front) ++ record_line row =
@@ -80,7 +80,7 @@ records_more names rows i d old new lt before next =
     text_more names (take i rows) (get_or rows i d) old new before next
     ∙ ap (λ (w : List (List (List ℕ))). Some (concat (map record_line (names ∷ w)))) (sym (take_more rows i d lt))
 
--- and where the row is printed by f
+-- the same, with a row that f prints
 pub records_more_by : {R : Type 0} (f : R → List (List ℕ)) (names : List (List ℕ)) (rows : List R) (i : ℕ) (x : R) (fields : List (List ℕ)) (old new : List ℕ) → i < length rows → x ≡ get_or rows i x → fields ≡ f x
     → Some old ≡ Some (concat (map record_line (names ∷ map f (take i rows)))) → new ≡ old ++ record_line fields
     → Some new ≡ Some (concat (map record_line (names ∷ map f (take (i + 1) rows))))

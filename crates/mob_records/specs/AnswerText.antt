@@ -1,5 +1,5 @@
--- The text of an answer: a record of the column names, a record of each row, and a line with the
--- count of the rows.
+-- The text of an answer: a record of the column names, a record for each row, and a line with the
+-- number of rows.
 use Rattle.std.specs.Prelude.{◌==◌, ◌||◌, ◌++◌, Bool, ℕ, List, [], ◌∷◌, if◌then◌else◌, codes, decimal, length, map}
 use Rattle.std.specs.List.{concat, join_with_byte, list_any}
 
@@ -12,22 +12,22 @@ abbrev pub with_doubled_quotes : List ℕ → List ℕ
 with_doubled_quotes [] = []
 with_doubled_quotes (b ∷ rest) = if b == 34 then 34 ∷ b ∷ with_doubled_quotes rest else b ∷ with_doubled_quotes rest
 
--- the field between double quotes, its own doubled
+-- the field in double quotes, its own doubled
 abbrev pub quoted_field : List ℕ → List ℕ
 quoted_field field = 34 ∷ (with_doubled_quotes field ++ 34 ∷ [])
 
--- a field stands in double quotes exactly where it has a special character
+-- a field is in double quotes exactly if it has a special character
 abbrev pub record_field : List ℕ → List ℕ
 record_field field = if list_any is_special field then quoted_field field else field
 
--- The fields of a record with commas between, and a line feed. No record is an empty line: one
--- empty field, or none, stands as two double quotes.
+-- The fields of a record with commas between them, and a line feed. A record is never an empty
+-- line: a record of one empty field, or of none, is two double quotes.
 abbrev pub record_line : List (List ℕ) → List ℕ
 record_line [] = 34 ∷ 34 ∷ 10 ∷ []
 record_line ([] ∷ []) = 34 ∷ 34 ∷ 10 ∷ []
 record_line (field ∷ rest) = join_with_byte 44 (map record_field (field ∷ rest)) ++ 10 ∷ []
 
--- the line `(n rows)`, with this word for every n
+-- the line `(n rows)`; the word is `rows` for every n
 abbrev pub count_line : ℕ → List ℕ
 count_line n = codes "(" ++ decimal n ++ codes " rows)\n"
 

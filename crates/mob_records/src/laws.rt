@@ -1,7 +1,7 @@
-//! What holds of the text of all records. No code runs here.
+//! A law of the text of records: it reads back as the same records. No code runs here.
 ghost use Rattle.mob_records.specs.ReadAgain.{ReadsAgain};
 
-/// `csv` reads the text of records that have at least one field each as these records.
+/// If each record has at least one field, `csv` reads their text back as these records.
 pub fn records_read_again()
     ensures again { ReadsAgain }
 {}

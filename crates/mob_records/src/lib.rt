@@ -1,4 +1,4 @@
-//! Records of fields as text, written by `csv`: a table file, and an answer with its last line.
+//! Writes records of fields as text with `csv`: a table file, or an answer with its last line.
 #![tactic(auto)]
 
 pub mod laws;

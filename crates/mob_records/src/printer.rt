@@ -1,4 +1,4 @@
-//! How rows are printed.
+//! The trait by which callers print the fields of a row.
 ghost use Rattle.std.specs.Prelude.{◌≡◌, ◌<◌, ◌++◌, ℕ, List, [], OnOk, get_or, length, string_bytes};
 
 use std::alloc::AllocError;
@@ -7,11 +7,12 @@ use std::alloc::AllocError;
 pub trait FieldPrinter<R> {
     ghost fields: { Self → R → List (List ℕ) };
 
-    /// How many fields a row has.
+    /// The number of fields of a row.
     fn count(&self, row: &R) -> usize
         ensures count { result ≡ length (fields self.now row.now) };
 
-    /// Appends the field of a number, counted from 0.
+    /// Appends the field at this position, counted from 0. After an error `into` may hold part of
+    /// the field.
     fn append(&self, row: &R, number: usize, into: &mut String) -> Result<(), AllocError>
         requires there { number < length (fields self.now row.now) }
         ensures appended { OnOk result (string_bytes into.new ≡ string_bytes into.old ++ get_or (fields self.now row.now) number []) };

@@ -1,4 +1,4 @@
-// Records as text.
+//! Writes answers and table files as text, record by record.
 ghost use Rattle.std.specs.Prelude.{◌≡◌, ◌++◌, ◌∷◌, ◌<◌, ◌-◌, ◌^◌, [], IfOk, OnOk, List, Option, ℕ, Some, length, map};
 ghost use Rattle.std.specs.List.{concat};
 ghost use Rattle.std.specs.Io.KnownBytes.{Appends};
@@ -13,8 +13,10 @@ use mob_list::items::Items;
 use mob_list::text::Text;
 use std::alloc::{AllocError, Global};
 
-/// The text of an answer: a line for its names, a line for each row, and the line `(n rows)`, each
-/// with a line feed. Fields are joined by commas, and stand in double quotes where they need them.
+/// The text of an answer: a line with the names, a line for each row, and the line `(n rows)`, each
+/// ending with a line feed. Fields are separated by commas. A field with a comma, a double quote, a
+/// carriage return or a line feed is in double quotes, and its own double quotes are doubled. An
+/// error means that an allocation failed.
 pub fn counted_text(
     alloc: Global,
     names: &[Text],
@@ -26,8 +28,8 @@ pub fn counted_text(
     with_count(text, rows.len())
 }
 
-/// The text of an answer whose rows `printer` prints, a field where it is written, so that no
-/// printed row is in memory.
+/// The text of an answer, as `counted_text` writes it. `printer` prints each field as it is
+/// written, so no printed row is kept in memory. An error means that an allocation failed.
 pub fn counted_text_by<R, P: FieldPrinter<R>>(
     alloc: Global,
     names: &[Text],
@@ -40,7 +42,7 @@ pub fn counted_text_by<R, P: FieldPrinter<R>>(
     with_count(text, rows.len())
 }
 
-// The text with the line of the count behind it.
+// Appends the line with the number of rows.
 fn with_count(mut text: Vec<u8>, count: usize) -> Result<Vec<u8>, AllocError>
     ensures text { IfOk result (λ v. v.items ≡ text.items ++ count_line count) }
 {
@@ -51,8 +53,8 @@ fn with_count(mut text: Vec<u8>, count: usize) -> Result<Vec<u8>, AllocError>
     Ok(text)
 }
 
-/// The text of a table file: a line for the names of its columns and a line for each row, each with
-/// a line feed.
+/// The text of a table file: a line with the names of its columns and a line for each row, each
+/// ending with a line feed. An error means that an allocation failed.
 pub fn records_text(
     alloc: Global,
     names: &[Text],
@@ -73,7 +75,7 @@ pub fn records_text(
     }
 }
 
-// The records of the names and of the rows as `printer` prints them.
+// The records of the names and of the rows, which `printer` prints.
 fn records_by<R, P: FieldPrinter<R>>(
     alloc: Global,
     names: &[Text],
@@ -96,7 +98,7 @@ fn records_by<R, P: FieldPrinter<R>>(
     }
 }
 
-// One record, as `printer` prints the row. Each field is printed into `text` first.
+// Writes one record. Each field is first printed into `text`.
 fn print_record<R, P: FieldPrinter<R>>(
     printer: &P,
     row: &R,
@@ -115,7 +117,6 @@ fn print_record<R, P: FieldPrinter<R>>(
     end_record(writer)
 }
 
-// One record.
 fn write_record(writer: &mut Writer<Vec<u8>>, fields: &[Text]) -> Result<(), AllocError>
     requires between { IsBetweenRecords writer.old }
     ensures text { OnOk result (Appends (text_written (λ w. Some w.items) writer.old) (text_written (λ w. Some w.items) writer.new) (record_line fields.now)) }
@@ -127,8 +128,8 @@ fn write_record(writer: &mut Writer<Vec<u8>>, fields: &[Text]) -> Result<(), All
     end_record(writer)
 }
 
-// One field more of a record. The writer writes to memory, so it fails for lack of memory alone.
-// `csv` states no cause of a writer's error, so no clause says this.
+// Writes one more field of a record. The writer writes to memory, so only an allocation can fail.
+// `csv` states no cause for a writer's error, so no clause says this.
 fn write_field(writer: &mut Writer<Vec<u8>>, field: &str) -> Result<(), AllocError>
     ensures within { OnOk result ((before : Option (List ℕ)) (fields : List (List ℕ)) → length fields < 2 ^ 64 - 1 → IsWithinRecord before fields writer.old → IsWithinRecord before (fields ++ field.now ∷ []) writer.new) }
 {
@@ -138,8 +139,7 @@ fn write_field(writer: &mut Writer<Vec<u8>>, field: &str) -> Result<(), AllocErr
     }
 }
 
-// The end of a record. It fails for lack of memory alone, since the writer takes records of any
-// length.
+// Ends a record. Only an allocation can fail, since the writer takes records of any length.
 fn end_record(writer: &mut Writer<Vec<u8>>) -> Result<(), AllocError>
     ensures text { OnOk result ((before : Option (List ℕ)) (fields : List (List ℕ)) → IsWithinRecord before fields writer.old → Appends before (text_written (λ w. Some w.items) writer.new) (record_line fields)) }
     ensures between { OnOk result (writer_setup writer.old ≡ any_length → IsBetweenRecords writer.new) }
@@ -150,7 +150,8 @@ fn end_record(writer: &mut Writer<Vec<u8>>) -> Result<(), AllocError>
     }
 }
 
-/// The texts as slices of bytes, in order. It takes memory for the list alone.
+/// The texts as byte slices, in order. It allocates only the list; an error means that this
+/// allocation failed.
 pub fn bytes_of<'a>(alloc: Global, fields: &'a [Text]) -> Result<Vec<&'a [u8]>, AllocError>
     ensures same { IfOk result (λ v. map (λ b. b.now) v.items ≡ fields.now) }
 {

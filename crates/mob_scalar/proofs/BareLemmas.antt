@@ -47,7 +47,7 @@ other_more bytes i lt e =
     whole (suc n) [] h = absurd (omega (arith, h))
     whole (suc n) (x ∷ xs) h = let k = whole n xs (omega (arith, h)) in omega (arith, k)
 
--- the bare value in front, as a cut of the bytes
+-- the bare value at the front, as a cut of the bytes
 pub record IsCut (bytes : Text) (n : ℕ) : Type 0 where
   pub within : n ≤ length bytes
   pub value : take n bytes ≡ (trimmed (split_while is_plain bytes).0).0

@@ -1,5 +1,5 @@
--- Truth values and values of a ttext may stand before a sign with blanks beside it, as before the @
--- of a temporal text.
+-- Bools and values of a ttext may come before a sign with blanks beside it, such as the @ of a
+-- temporal text.
 use Rattle.std.proofs.Common.{◌∷◌, ◌++◌, refl, rules, codes}
 use Rattle.std.specs.Char.{is_ascii_alphabetic}
 use Rattle.mob_language.specs.Language.{Text, is_blank, spaced}
@@ -8,7 +8,7 @@ use Rattle.mob_language.proofs.Heads.{Apart}
 use Rattle.mob_numeral.proofs.BeforeSign.{signed_of, stops_before}
 use Rattle.mob_scalar.proofs.QuotedExact.{Behind}
 
--- truth values
+-- bools
 pub truth_before_at : (text rest : Text) (u : Unit {0}) → spaced (codes "@") text u → Stops is_ascii_alphabetic (text ++ rest)
 truth_before_at = stops_before is_ascii_alphabetic blank_letter 64 refl
   where

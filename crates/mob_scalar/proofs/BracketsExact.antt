@@ -1,5 +1,4 @@
--- Brackets, braces and commas are read exactly, and may stand behind a moment; so are lists with
--- commas between.
+-- Brackets, braces, commas and lists with commas are read exactly, and may follow a moment.
 use Rattle.std.proofs.Common.{◌≡◌, ℕ, [], ◌∷◌, ◌++◌, Bool, true, false, None, refl, sym, ap, subst, ◌∙◌, append_assoc, rules, codes}
 use Rattle.std.specs.Prelude.{nat_eq}
 use Rattle.mob_language.specs.Language.{Text, Language, ◌▷◌, Word, AreAll, Separated, blanks, is_blank}
@@ -41,7 +40,7 @@ comma_byte = means_byte (λ (v : Text × (Unit {0} × Text)). tt) (λ text v sai
 pub head_less : {A : Type 0} {l : Language A} {test some : ℕ → Bool} → ((c : ℕ) → test c ≡ false → some c ≡ false) → NoHead l test → NoHead l some
 head_less {test = test} {some = some} less h text v said = stops_less test some less text (h text v said)
 
--- a list begins as its first entry does
+-- a list begins with the first byte of its first entry
 pub list_head : {A : Type 0} (l : Language A) (s : Language (Unit {0})) (test : ℕ → Bool) → NoHead l test → HasByte l → NoHead (Separated l s) test
 list_head l s test h k text [] said = absurd said
 list_head l s test h k text (i ∷ []) said = h text i said
@@ -52,7 +51,7 @@ list_byte l s k text [] said e = absurd said
 list_byte l s k text (i ∷ []) said e = k text i said e
 list_byte l s k text (i ∷ j ∷ is) said e = k said.0 i said.4 (front_nil said.0 (said.1 ++ said.2) (sym said.3 ∙ e))
 
--- what ends a list of entries
+-- the bytes that end a list of entries
 pub record ListEnds (rest : Text) : Type 0 where
   pub closes : Closes rest
   pub no_comma : comma_at rest ≡ None
@@ -112,10 +111,10 @@ close_brace_ends text rest v s =
     let is : text ++ rest ≡ s.front ++ (125 ∷ rest) = ap (λ (t : Text). t ++ rest) s.whole ∙ append_assoc s.front s.back rest ∙ ap (λ (t : Text). s.front ++ (t ++ rest)) s.second in
     subst ListEnds (sym is) (sign_ends s.front 125 rest (subst (AreAll is_blank) (sym s.first.is) s.first.each) brace_ends refl)
 
--- no comma stands before the rest
+-- the rest does not begin with a comma
 abbrev pub NoComma : Text → Type 0
 NoComma rest = comma_at rest ≡ None
 
--- what stands behind two texts, one behind the other
+-- the text after two texts, regrouped
 pub regrouped : (text a b rest : Text) → text ≡ a ++ b → text ++ rest ≡ a ++ (b ++ rest)
 regrouped text a b rest e = ap (λ (t : Text). t ++ rest) e ∙ append_assoc a b rest

@@ -1,4 +1,4 @@
--- Brackets, braces, commas and moments, as they are printed, are texts of their languages.
+-- The printed texts of brackets, braces, commas and moments are texts of their languages.
 use Rattle.std.proofs.Common.{◌≡◌, ℤ, List, [], ◌∷◌, ◌++◌, map, codes, Bool, true, false, cond, Some, refl, sym, append_assoc}
 use Rattle.mob_ratio.specs.Ratio.{Ratio}
 use Rattle.mob_language.specs.Language.{Text, Language, Separated}
@@ -11,7 +11,7 @@ use Rattle.mob_scalar.specs.Moments.{moment_value}
 use Rattle.mob_scalar.specs.MomentText.{moment_text, IsDated}
 use Rattle.mob_scalar.proofs.MomentAgain.{moment_plain}
 
--- ---- signs as they are printed
+-- ---- printed signs
 
 pub comma_said : comma (codes ", ") tt
 comma_said = record {
@@ -28,7 +28,7 @@ pub closing_said : (included : Bool) → closing (cond included (codes "]") (cod
 closing_said true = record { meant = ([], 93); said = record { front = []; back = codes "]"; whole = refl; first = record { is = refl; each = tt }; second = (refl, refl) }; is = refl }
 closing_said false = record { meant = ([], 41); said = record { front = []; back = codes ")"; whole = refl; first = record { is = refl; each = tt }; second = (refl, refl) }; is = refl }
 
--- the language says each of the values with its text
+-- each value has its printed text in the language
 abbrev pub Each : {A X : Type 0} → (Text → A → Type 0) → (X → Text) → (X → A) → List X → Type 0
 Each l f g [] = Unit {0}
 Each l f g (x ∷ xs) = l (f x) (g x) × Each l f g xs
@@ -50,9 +50,9 @@ within_braces_said inner v h = record {
   is = refl;
 }
 
--- ---- moments as they are printed
+-- ---- printed moments
 
--- a moment that is printed is read, and fits
+-- the printed text of a moment is read, and the moment fits
 pub record IsMomentSaid (day : ℤ) (t : Ratio) : Type 0 where
   pub stamp : Stamp
   pub said : moment (moment_text day t) stamp

@@ -9,7 +9,7 @@ use Rattle.mob_scalar.specs.Moment.{is_t}
 use Rattle.mob_scalar.specs.MomentReaders.{two_digits_below_at, clock_at, t_at, gap_at, time_at}
 use Rattle.mob_scalar.proofs.MomentExact.{moment_on, Closes}
 
--- a byte that goes on no moment
+-- a byte with which no moment goes on
 pub record Ends (c : ℕ) : Type 0 where
   pub moment : moment_on c ≡ false
   pub blank : is_blank c ≡ false

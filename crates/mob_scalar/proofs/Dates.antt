@@ -49,7 +49,7 @@ day_in_years y m d h =
       to_last = omega (arith, signed_arith, days_from_civil-day_count (pos y) m d, b);
     }
 
--- a date of the calendar whose day is one of these years
+-- a date of the calendar whose day is in these years
 year_within : (d : Date) → IsInYears (epoch_day d) → pos 1 ≤ℤ d.year
 year_within d h = by_lt_z d.year (pos 1)
     (λ lt. absurd (omega (arith, signed_arith, first, day_count-lt_year d.year d.month d.day (pos 1) 1 1 (civil d) (omega arith) lt, days_from_civil-day_count d.year d.month d.day, h.from_first)))
@@ -79,7 +79,7 @@ year_back d h = back_small w16 d.year (omega (arith, signed_arith, year_is_natur
 pub year_small : (d : Date) → IsInYears (epoch_day d) → unsigned_abs d.year < 2 ^ 32
 year_small d h = let k = dated_date d h in omega (arith, k.to)
 
--- a day of these years as the 32 bits that hold it
+-- a day of these years fits in 32 bits
 pub day_back : (day : ℤ) → IsInYears day → to_z w32 (of_z w32 day) ≡ day
 day_back day h = back_small w32 day (small day h.from_first h.to_last)
   where
@@ -90,7 +90,7 @@ day_back day h = back_small w32 day (small day h.from_first h.to_last)
 pub read_day : (c : Civil) (day : ℤ) → is_civil c ≡ true → day ≡ day_of c → IsInYears day
 read_day c day h e = subst IsInYears (sym e) (day_in_years c.year c.month c.day (dated c h))
 
--- a date part by part is a date of the calendar
+-- the parts of such a date are a valid date
 pub civil_again : (y m d : ℕ) → IsDated y m d → is_civil (record { year = y; month = m; day = d }) ≡ true
 civil_again y m d h = tests y m d (days_in_month (pos y) m) h.from h.to h.month h.day
   where

@@ -14,7 +14,7 @@ use Rattle.mob_scalar.specs.declared.civil.Civil.{Civil}
 use Rattle.mob_scalar.specs.Calendar.{is_civil, day_of, greatest_passing, year_of, month_of, place_in, date_of, IsInYears}
 use Rattle.mob_scalar.proofs.Dates.{first, civil_again, le_yes, dated, as_civil}
 
--- the greatest number up to n that passes the test, where 1 does
+-- the greatest number up to n that passes the test, if 1 does
 record IsLast (test : ℕ → Bool) (n k : ℕ) : Type 0 where
   one : 1 ≤ k
   le : k ≤ n
@@ -52,7 +52,7 @@ le_from a b e = grind (arith, ints)
 lt_from : (a b : ℤ) → le_z a b ≡ false → b <ℤ a
 lt_from a b e = grind (arith, ints)
 
--- the day lies in the year that begins on 1 January of y
+-- the day is in the year that begins on 1 January of y
 record IsInYear (y : ℕ) (day : ℤ) : Type 0 where
   from : 1 ≤ y
   to : y ≤ 9999
@@ -79,7 +79,7 @@ year_found day h =
       ];
     }
 
--- the day lies in the month m of the year y
+-- the day is in the month m of the year y
 record IsInMonth (y m : ℕ) (day : ℤ) : Type 0 where
   month : IsInRange 1 12 m
   begun : days_from_civil (pos y) m 1 ≤ℤ day
@@ -112,7 +112,7 @@ month_found y day h =
       ];
     }
 
--- the place of a day in its month
+-- the position of a day in its month
 record IsPlace (y m d : ℕ) (day : ℤ) : Type 0 where
   within : IsInRange 1 (days_in_month (pos y) m) d
   same : days_from_civil (pos y) m d ≡ day
@@ -132,7 +132,7 @@ place_found y m day h =
     beyond : (a b : ℤ) → b ≤ℤ a → a ≡ b +ℤ pos (unsigned_abs (a -ℤ b))
     beyond a b le = grind (arith, ints)
 
--- the date of a day is a date of the calendar, and its day is that day
+-- the date of a day is valid, and its day is that day
 pub record IsItsDate (day : ℤ) : Type 0 where
   pub there : is_civil (date_of day) ≡ true
   pub same : day_of (date_of day) ≡ day
@@ -151,7 +151,7 @@ date_there day h =
       same = place.same;
     }
 
--- a date of the calendar with that day is that date: no other has its day
+-- a date with this day is its date: no other date has this day
 pub date_of_day : (d : Date) (day : ℤ) → epoch_day d ≡ day → IsInYears day → ◌≡◌ {A = Civil} (record { year = unsigned_abs d.year; month = d.month; day = d.day }) (date_of day)
 date_of_day d day e h =
     let c = date_of day in

@@ -46,12 +46,12 @@ one_byte c h = search rules
 pub escape_one : (c : ℕ) → is_escaped c ≡ true → escaped (encode_utf8 c) ≡ 92 ∷ encode_utf8 c
 escape_one c e = rw (one_byte c (small c e), e) refl
 
--- a character is written, and what is left is shorter by it
+-- a character is written, and the rest is shorter by it
 pub escape_step : (old new one rest left : Text) → new ≡ old ++ escaped one → rest ≡ one ++ left → new ++ escaped left ≡ old ++ escaped rest
 escape_step old new one rest left e h =
     ap (λ (t : Text). t ++ escaped left) e ∙ append_assoc old (escaped one) (escaped left) ∙ ap (λ (t : Text). old ++ t) (sym (escaped-append one left) ∙ ap escaped (sym h))
 
--- a quote before and behind
+-- the quotes before and after the value
 pub quoted_end : (old begun into value rest : Text) → begun ≡ old ++ codes "\"" → into ++ escaped rest ≡ begun ++ escaped value → rest ≡ [] → into ++ codes "\"" ≡ old ++ quoted_text value
 unfolding quoted_text
 quoted_end old begun into value rest b e n =

@@ -1,5 +1,5 @@
--- The text of an instant outside the years 0001 to 9999 is no moment: it begins with a letter, and
--- a moment with a digit.
+-- The text of an instant outside the years 0001 to 9999 is not a moment: it begins with a letter,
+-- and a moment begins with a digit.
 use Rattle.std.proofs.Common.{◌≡◌, [], ◌++◌, Bool, true, false, Some, None, ℤ, refl, sym, ◌∙◌, codes}
 use Rattle.std.specs.Prelude.{Option, Err, if◌then◌else◌}
 use Rattle.mob_ratio.specs.Ratio.{Ratio}

@@ -1,4 +1,4 @@
--- The printed text of a moment is a text of that moment.
+-- The printed text of a moment denotes that moment.
 use Rattle.std.proofs.Common.{◌≡◌, ℕ, zero, suc, ◌+◌, ◌*◌, ◌/◌, ◌%◌, ◌^◌, ◌<◌, ◌≤◌, [], ◌++◌, length, true, Option, Some, None, ℤ, pos, neg_ℤ, ◌+ℤ◌, ◌-ℤ◌, ◌*ℤ◌, unsigned_abs, codes, refl, sym, ap, subst, ◌∙◌, append_assoc, arith, rules, inl, inr}
 use Rattle.std.specs.Prelude.{Ok}
 use Rattle.std.specs.Int.{int_div_euclid, int_rem_euclid}
@@ -34,7 +34,7 @@ use Rattle.mob_scalar.proofs.Dates.{dated}
 use Rattle.mob_scalar.proofs.Padding.{placed}
 use Rattle.mob_scalar.proofs.PaddedAgain.{padded_is, padded_digits, fixed_said, behind_said}
 
--- a text of the one and behind it a text of the other
+-- a text of the first language, and a text of the second after it
 then_said : {A B : Type 0} {l : Language A} {m : Language B} (front back : Text) (a : A) (b : B) → l front a → m back b → (l ▷ m) (front ++ back) (a, b)
 then_said front back a b said more = record { front = front; back = back; whole = refl; first = said; second = more }
 
@@ -219,7 +219,7 @@ time_said s text o lt said =
 stamp_for : Civil → ℕ → Part → Stamp
 stamp_for d s p = record { date = d; clock = record { seconds = s; part = p }; offset = utc }
 
--- a date, a number of seconds and a part of a second, as a moment
+-- a date, a number of seconds and a part of a second form a moment
 stamp_said : (d : Civil) (s numerator denominator : ℕ) → is_civil d ≡ true → s < 86400 → (p : SaysPart (part_text numerator denominator) numerator denominator) → is_in_years (stamp_for d s (part_of p.o)) ≡ true
     → moment (stamp_text d s numerator denominator) (stamp_for d s (part_of p.o))
 unfolding stamp_text stamp_for
@@ -240,7 +240,7 @@ euclid_is z d some = omega (arith, signed_arith, int_rem_euclid-parts z d some)
 rest_lt : (z : ℤ) (d : ℕ) → 0 < d → unsigned_abs (int_rem_euclid z (pos d)) < d
 rest_lt z d some = omega (arith, signed_arith, int_rem_euclid-parts z d some)
 
--- an instant is its whole seconds and its part of a second
+-- an instant is the sum of its whole seconds and its part of a second
 whole_and_part : (q : Ratio) → whole (whole_seconds q) +ℚ over (pos (part_numerator q)) q.den ≡ q
 unfolding whole
 whole_and_part q =
@@ -285,7 +285,7 @@ stamp_part : (q : Ratio) (d : Civil) (clock : ℕ) (p : SaysPart (part_text (par
 unfolding stamp_for
 stamp_part q d s p = part_is (part_numerator q) q.den (part_of p.o) (den_pos q) p.is
 
--- the text of an instant of the years 0001 to 9999 is a text of that instant
+-- the text of an instant in the years 0001 to 9999 denotes that instant
 pub moment_plain : (epoch : ℤ) (q : Ratio) → Fits q → HasDate epoch q → (s : Stamp) × moment (moment_text epoch q) s × (q ≡ instant epoch s)
 unfolding second_text
 moment_plain epoch q fits date =

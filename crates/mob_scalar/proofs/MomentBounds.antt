@@ -1,4 +1,4 @@
--- Texts of moments stand for small parts of a second.
+-- Texts of moments denote small parts of a second.
 use Rattle.std.proofs.Common.{◌≡◌, ℕ, ◌<◌, Option, Some, None, sym, subst, arith, rules, codes, true, inl, inr}
 use Rattle.mob_language.specs.Language.{Text, ◌▷◌, Maybe, behind}
 use Rattle.mob_numeral.specs.declared.numeral.Figures.{Figures}

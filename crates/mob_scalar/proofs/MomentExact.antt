@@ -1,4 +1,4 @@
--- The reader of moments reads exactly the texts of moments.
+-- The reader of moments accepts exactly the texts of moments.
 use Rattle.std.proofs.Common.{◌≡◌, ℕ, suc, [], ◌∷◌, length, Bool, true, false, Option, None, refl, sym, ap, ◌∙◌, arith, rules, codes}
 use Rattle.std.specs.Prelude.{◌||◌, nat_eq}
 use Rattle.std.proofs.lemmas.Bool.{eqb-true}
@@ -22,11 +22,11 @@ use Rattle.mob_numeral.proofs.NumberExact.{digits_base, left, right}
 same : (c : ℕ) → is_digit c ≡ false → is_digit c ≡ false
 same c e = e
 
--- a time of day may go on with such a byte
+-- a byte with which a time of day may go on
 abbrev pub clock_on : ℕ → Bool
 clock_on c = is_digit c || (nat_eq c 58 || (nat_eq c 46 || nat_eq c 40))
 
--- and a moment
+-- a byte with which a moment may go on
 abbrev pub moment_on : ℕ → Bool
 moment_on c = clock_on c || (is_z c || is_number_sign c)
 
@@ -280,7 +280,7 @@ time_head : NoHead time is_digit
 unfolding blanks_language
 time_head = means_head (byte_head (clock ▷ Maybe zone) (or_head (means_head (where_head (many_head blank_digit))) (means_head (one_head t_digit))) (or_byte blanks_byte (means_byte (λ (c : ℕ). tt) (one_byte is_t))))
 
--- a moment may stand before such a rest
+-- a moment may come before this rest
 pub record Closes (rest : Text) : Type 0 where
   pub stops : Stops moment_on rest
   pub no_time : time_at rest ≡ None

@@ -1,4 +1,4 @@
--- A text has one reading as a number, as an int, as a moment, as a truth value and as an epoch.
+-- A text has at most one reading as a number, as an int, as a moment, as a bool and as an epoch.
 use Rattle.std.proofs.Common.{ℤ, sym, ◌∙◌, refl}
 use Rattle.mob_language.proofs.Exact.{one_value}
 use Rattle.mob_numeral.specs.Numbers.{numbers, whole_numbers}

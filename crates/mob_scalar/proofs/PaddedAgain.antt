@@ -1,4 +1,4 @@
--- Numbers printed with zeros in front are read again as themselves.
+-- Numbers printed with leading zeros read back as themselves.
 use Rattle.std.proofs.Common.{◌≡◌, ℕ, zero, suc, ◌+◌, ◌-◌, ◌^◌, ◌<◌, ◌≤◌, ◌++◌, length, replicate, true, refl, sym, ◌∙◌, arith, rules}
 use Rattle.std.specs.Prelude.{nat_eq}
 use Rattle.std.specs.Fmt.{decimal}
@@ -66,7 +66,7 @@ fixed_said k n one six h =
       is = sym p.value;
     }
 
--- a text behind a word
+-- a text after a word
 pub behind_said : {A : Type 0} {l : Language A} (word text : Text) (v : A) → l text v → behind word l (word ++ text) v
 behind_said word text v said = record {
   meant = (tt, v);

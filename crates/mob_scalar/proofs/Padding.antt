@@ -1,4 +1,4 @@
--- How long a number in digits is.
+-- The length of a number in digits.
 use Rattle.std.proofs.Common.{◌≡◌, ℕ, zero, suc, ◌%◌, ◌==◌, Some, get_or, refl, sym, inl, inr, ◌^◌, ◌<◌, ◌≤◌, length, arith, ap, ◌∙◌}
 use Rattle.std.specs.Fmt.{decimal}
 use Rattle.std.proofs.lemmas.Bool.{eqb-true, cases_lt}
@@ -34,7 +34,7 @@ divisor_le p d some e = elim (cases_lt p d) [
   | inr ge ↦ ge
 ]
 
--- a fraction that k digits give has a denominator of at most 10^k, which it divides
+-- if k digits are exact for a fraction, its denominator divides 10^k
 pub record IsPlaced (denominator k : ℕ) : Type 0 where
   pub most : k ≤ 6
   pub divides : 10 ^ k % denominator ≡ 0

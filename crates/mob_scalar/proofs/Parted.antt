@@ -1,4 +1,4 @@
--- A list by its first entry and the others, and what follows from an answer.
+-- A list as its first entry and the others, and the consequence of an answer.
 use Rattle.std.proofs.Common.{◌≡◌, ◌-◌, ◌≤◌, List, [], ◌∷◌, length, get_or, take, drop, sym, ap, arith, Result, Ok, Err}
 use Rattle.std.specs.Prelude.{OnOk}
 use Rattle.std.proofs.lemmas.List.{take_all}

@@ -18,7 +18,7 @@ whole_parts n = over-lowest n 1 (lowest_in n 1 (omega arith) (gcd_one_right (nat
 pub whole_fits : (n : ℤ) → nat_abs n < 2 ^ 62 → Fits (whole n)
 whole_fits n h = let p = whole_parts n in record { num_fits = rw p.0 h; den_fits = rw p.1 (omega arith) }
 
--- a part's numbers are at most its denominator
+-- the numerator of a part is at most its denominator
 part_le : (numerator denominator : ℕ) → numerator < denominator → nat_abs (over (pos numerator) denominator).num ≤ (over (pos numerator) denominator).den
 part_le numerator denominator h =
     let p = over-parts (pos numerator) denominator (omega (arith, h)) in
@@ -39,7 +39,7 @@ neg_den a = den_le (neg_ℤ a.num) a.den (den_pos a)
 back : (w f : Ratio) → f ≡ (w +ℚ f) +ℚ neg_ℚ w
 back w f = sym (ap (λ (x : Ratio). x +ℚ neg_ℚ w) (add_comm w f) ∙ add_assoc f w (neg_ℚ w) ∙ ap (λ (x : Ratio). f +ℚ x) (sub_self w) ∙ add_zero f)
 
--- the part has no greater denominator than the sum
+-- the denominator of the part is at most that of the sum
 part_den : (n : ℤ) (f : Ratio) → f.den ≤ (whole n +ℚ f).den
 part_den n f =
     let w = whole n in

@@ -1,4 +1,4 @@
--- The reader of the values of a ttext reads exactly their texts.
+-- The reader of the values of a ttext accepts exactly their texts.
 use Rattle.std.proofs.Common.{◌≡◌, ℕ, [], ◌∷◌, ◌++◌, Bool, true, false, cond, Some, None, refl, sym, ap, subst, ◌∙◌, append_assoc, rules, codes}
 use Rattle.std.specs.Prelude.{nat_eq}
 use Rattle.std.specs.Str.{is_utf8}
@@ -11,7 +11,7 @@ use Rattle.mob_scalar.specs.Quoted.{is_escaped, escaped, quoted_text, quoted, is
 
 -- ---- quoted values
 
--- a byte behind its backslash, and the rest of the value up to the closing quote
+-- a byte after its backslash, and the rest of the value up to the closing quote
 record Pending (text v rest : Text) : Type 0 where
   byte : ℕ
   others : Text
@@ -132,7 +132,7 @@ trim_again [] bs e each = absurd cc
 trim_again (c ∷ []) bs e each = rw (trim_blanks bs each, not_true (is_blank c) e) refl
 trim_again (c ∷ d ∷ ds) bs e each = ap (put_before c) (trim_again (d ∷ ds) bs e each)
 
--- what may stand behind a bare value: blanks, and then the end or a byte that no bare value has
+-- what may follow a bare value: blanks, and then the end or a byte that no bare value has
 pub record Behind (rest : Text) : Type 0 where
   pub blanks : Text
   pub more : Text
@@ -169,7 +169,7 @@ bare_exact = record {
   chosen : (b : Bool) → b ≡ true → (x : Text × Text) → cond b (Some x) None ≡ Some x
   chosen b h x = rw h refl
 
--- a bare value begins with a byte that is plain and no blank
+-- a bare value begins with a byte that is plain and not a blank
 pub bare_first : (test : ℕ → Bool) → ((c : ℕ) → is_plain c ≡ true → is_blank c ≡ false → test c ≡ false) → NoHead bare test
 bare_first test h text v said = subst (Stops test) (sym said.said.is) (first v (both (begins_well v) (ends_well v) said.holds).0 said.said.each)
   where

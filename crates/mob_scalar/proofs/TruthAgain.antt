@@ -1,4 +1,4 @@
--- The printed text of a truth value is a text of that truth value.
+-- The printed text of a bool denotes that bool.
 use Rattle.std.proofs.Common.{Bool, true, false, refl, codes}
 use Rattle.std.specs.Prelude.{Ok}
 use Rattle.mob_language.proofs.Heads.{within_said}

@@ -1,4 +1,4 @@
--- Whole texts of moments and truth values, with blanks at their ends, are read exactly.
+-- Texts of moments and bools with blanks at both ends are read exactly.
 use Rattle.std.proofs.Common.{◌≡◌, ℕ, ℤ, [], ◌∷◌, ◌++◌, Bool, true, Some, None, refl, sym, subst, ◌∙◌, rules}
 use Rattle.std.specs.Char.{is_ascii_alphabetic}
 use Rattle.mob_scalar.proofs.Closing.{some_blank}
@@ -51,7 +51,7 @@ gap_to_end : (b : ℕ) (bs : Text) → AreAll is_blank (b ∷ bs) → gap_at ((b
 unfolding gap_at some_blanks_at
 gap_to_end b bs each = rw (many_again is_blank (b ∷ bs) [] each tt, some_blank b bs) refl
 
--- blanks to the end may stand behind a moment
+-- blanks up to the end may follow a moment
 pub blanks_close : (bs : Text) → AreAll is_blank bs → Closes (bs ++ [])
 unfolding time_at
 blanks_close [] each = nothing_closes
@@ -63,7 +63,7 @@ blanks_close (b ∷ bs) each = record {
 pub moment_whole : Exact (within_blanks moment) (within_blanks_at moment_at) IsEnd
 moment_whole = within_exact moment_exact moment_blank moment_byte blanks_close
 
--- a moment for the instant that it stands for, where it fits
+-- the reader of a moment with its instant, if it fits, is exact
 pub moment_value_exact : (epoch : ℤ) → Exact (moment_value epoch) (moment_value_at epoch) Closes
 unfolding moment_value_at
 moment_value_exact epoch = means_exact (fitting_instant epoch) moment_exact
@@ -74,7 +74,7 @@ moment_value_blank epoch = means_head moment_blank
 pub moment_value_byte : (epoch : ℤ) → HasByte (moment_value epoch)
 moment_value_byte epoch = means_byte (fitting_instant epoch) moment_byte
 
--- ---- truth values
+-- ---- bools
 
 pub truth_exact : Exact truth truth_at (Stops is_ascii_alphabetic)
 unfolding truth_at

@@ -1,7 +1,6 @@
 -- Brackets, braces and commas, with blanks beside them.
 --
--- Blanks may stand on both sides of each sign of a text that stands outside a number, a moment and
--- a quoted value.
+-- Blanks may be on both sides of each sign outside numbers, moments and quoted values.
 use Rattle.std.specs.Prelude.{ℕ, List, [], ◌∷◌, ◌++◌, codes, Bool, ◌||◌, nat_eq}
 use Rattle.mob_language.specs.Language.{Text, Language, ◌▷◌, Means, Word, OneOf, blanks, spaced, in_middle}
 use Rattle.mob_language.specs.Readers.{TextReader, then_at, means_at, word_at, one_at, blanks_at, spaced_at}
@@ -15,7 +14,7 @@ is_open c = nat_eq c 91 || nat_eq c 40
 abbrev pub is_close : ℕ → Bool
 is_close c = nat_eq c 93 || nat_eq c 41
 
--- an opening bracket; what stands behind it may begin with blanks
+-- an opening bracket, which blanks may follow
 abbrev pub opening : Language ℕ
 opening = Means (λ (v : ℕ × Text). v.0) (OneOf is_open ▷ blanks)
 
@@ -27,9 +26,9 @@ closing = Means (λ (v : Text × ℕ). v.1) (blanks ▷ OneOf is_close)
 abbrev pub within_braces : {A : Type 0} → Language A → Language A
 within_braces l = Means in_middle ((Word (codes "{") ▷ blanks) ▷ (l ▷ (blanks ▷ Word (codes "}"))))
 
--- ---- as they are printed
+-- ---- their printed texts
 
--- the texts with a comma and a space between each two
+-- the texts, separated by commas and spaces
 abbrev pub with_commas : List Text → Text
 with_commas [] = []
 with_commas (x ∷ []) = x
@@ -38,7 +37,7 @@ with_commas (x ∷ y ∷ ys) = x ++ codes ", " ++ with_commas (y ∷ ys)
 abbrev pub in_braces : Text → Text
 in_braces text = codes "{" ++ text ++ codes "}"
 
--- what stands behind the first of texts with commas between
+-- the texts after the first one, each after a comma and a space
 abbrev pub more_texts : {A : Type 0} → (A → Text) → List A → Text
 more_texts text [] = []
 more_texts text (x ∷ xs) = codes ", " ++ text x ++ more_texts text xs

@@ -4,7 +4,7 @@ use Rattle.mob_scalar.specs.declared.civil.Civil.{Civil}
 use Rattle.mob_scalar.specs.Calendar.{date, day_of}
 use Rattle.mob_numeral.specs.Verdict.{TextForm}
 
--- an epoch is written as a date, and stands for the number of its day
+-- an epoch is written as a date, and its value is the number of the day
 abbrev pub epochs : TextForm Civil ℤ
 epochs = record {
   shape = date;

@@ -51,7 +51,7 @@ second_part (Some v) = part_of v.1
 abbrev pub clock_of : ℕ × (ℕ × Option (ℕ × Option Part)) → Clock
 clock_of v = record { seconds = v.0 * 3600 + v.1.0 * 60 + seconds_of v.1.1; part = second_part v.1.1 }
 
--- HH:MM, perhaps :SS, perhaps a part of a second
+-- HH:MM, then optionally :SS, which a part of a second may follow
 abbrev pub clock : Language Clock
 clock = Means clock_of (two_digits_below 24 ▷ (behind (codes ":") (two_digits_below 60) ▷ Maybe (behind (codes ":") (two_digits_below 60 ▷ Maybe part))))
 
@@ -78,7 +78,7 @@ zone = Means (λ (c : ℕ). utc) (OneOf is_z) ∣ Means offset_of (OneOf is_numb
 abbrev pub is_t : ℕ → Bool
 is_t c = nat_eq c 84 || nat_eq c 116
 
--- one blank or more, or a T
+-- at least one blank, or a T
 abbrev pub gap : Language Unit
 gap = some_blanks ∣ Means (λ (c : ℕ). tt) (OneOf is_t)
 
@@ -110,18 +110,18 @@ seconds s = day_of s.date *ℤ pos 86400 +ℤ pos s.clock.seconds +ℤ shift s.o
 abbrev pub is_year_second : ℤ → Bool
 is_year_second n = le_z (neg_ℤ (pos 62135596800)) n && le_z n (pos 253402300799)
 
--- in the years 0001 to 9999 in UTC
+-- the moment is in the years 0001 to 9999 in UTC
 abbrev pub is_in_years : Stamp → Bool
 is_in_years s = is_year_second (seconds s)
 
 abbrev pub moment : Language Stamp
 moment = Where is_in_years (Means stamp_of (date ▷ Maybe time))
 
--- the moment in seconds since midnight of the epoch
+-- the moment in seconds since midnight of the epoch day
 unfoldable pub instant : ℤ → Stamp → Ratio
 instant epoch s = whole (seconds s -ℤ epoch *ℤ pos 86400) +ℚ over (pos s.clock.part.numerator) s.clock.part.denominator
 
--- a part below a second, with a numerator that 126 bits hold
+-- a part of a second, with a numerator of at most 126 bits
 pub record IsPartSmall (p : Part) : Type 0 where
   pub below : p.numerator < p.denominator
   pub fits : p.numerator < 2 ^ 126

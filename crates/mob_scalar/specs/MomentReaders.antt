@@ -57,6 +57,6 @@ time_at = means_at time_of (then_at gap_at (then_at clock_at (maybe_at zone_at))
 unfoldable pub moment_at : TextReader Stamp
 moment_at = where_at is_in_years (means_at stamp_of (then_at date_at (maybe_at time_at)))
 
--- an offset behind its sign
+-- an offset after its sign
 abbrev pub after_sign_in : ℕ → Text → Option (Offset × Text)
 after_sign_in c text = then_at (two_digits_below_at 16) (maybe_at colon_at) text >>= λ x. Some (offset_of (c, x.0), x.1)

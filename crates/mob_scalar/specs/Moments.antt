@@ -1,5 +1,5 @@
--- The form of moments: a moment, with blanks at its ends; and moments for the instants that they
--- stand for, where these fit.
+-- The form of moments: a moment with optional blanks at both ends. Also the language of moments
+-- with their instants, if these fit.
 use Rattle.std.specs.Prelude.{◌≡◌, Option, ℤ}
 use Rattle.mob_ratio.specs.Ratio.{Ratio}
 use Rattle.mob_frac.specs.Fits.{Fits}
@@ -20,11 +20,11 @@ moments epoch = record {
   means = λ s q. q ≡ instant epoch s;
 }
 
--- the instant of a moment, where it fits
+-- the instant of a moment, if it fits
 abbrev pub fitting_instant : ℤ → Stamp → Option Ratio
 fitting_instant epoch s = fitting (instant epoch s)
 
--- the texts of moments, for the instants that they stand for where these fit
+-- the texts of moments, with their instants if these fit
 abbrev pub moment_value : ℤ → Language (Option Ratio)
 moment_value epoch = Means (fitting_instant epoch) moment
 

@@ -1,8 +1,8 @@
 -- The texts of the values of a ttext.
 --
--- A value is written in double quotes, where each double quote and each backslash of it has a
--- backslash before it; or bare, as one character or more without blanks at its ends and without @ ,
--- { } [ ] ( ) and double quotes.
+-- A value is written in double quotes, with a backslash before each of its double quotes and
+-- backslashes. Or it is bare: at least one character, without blanks at its ends and without any of
+-- @ , { } [ ] ( ) and double quotes.
 use Rattle.std.specs.Prelude.{◌≡◌, ℕ, [], ◌∷◌, ◌++◌, codes, Bool, true, false, ◌||◌, ◌&&◌, not, cond, nat_eq, Option, Some, None}
 use Rattle.std.specs.Str.{is_utf8}
 use Rattle.mob_language.specs.Language.{Text, Language, ◌∣◌, Where, ManyOf, is_blank}
@@ -12,7 +12,7 @@ use Rattle.mob_language.specs.Readers.{TextReader, ◌>>=◌, or_at, where_at, b
 abbrev pub is_escaped : ℕ → Bool
 is_escaped c = nat_eq c 34 || nat_eq c 92
 
--- the value with a backslash before each of these
+-- the value with a backslash before each of its double quotes and backslashes
 abbrev pub escaped : Text → Text
 escaped [] = []
 escaped (c ∷ cs) = cond (is_escaped c) (92 ∷ c ∷ escaped cs) (c ∷ escaped cs)
@@ -37,7 +37,7 @@ ends_well [] = false
 ends_well (c ∷ []) = not (is_blank c)
 ends_well (c ∷ d ∷ cs) = ends_well (d ∷ cs)
 
--- one byte or more, and no blank at the ends
+-- at least one byte, and no blank at either end
 abbrev pub is_bare : Text → Bool
 is_bare v = begins_well v && ends_well v
 
@@ -53,8 +53,8 @@ text_value = Where is_utf8 (quoted ∣ bare)
 abbrev pub put_first : ℕ → Option (Text × Text) → Option (Text × Text)
 put_first c read = read >>= λ x. Some (c ∷ x.0, x.1)
 
--- the value up to its closing quote, and what stands behind that; a backslash may stand before the
--- first byte
+-- the value up to its closing quote, and the rest of the text; `pending` says whether a backslash
+-- is before the first byte
 unfoldable pub unescaped_at : Bool → TextReader Text
 unescaped_at pending [] = None
 unescaped_at true (c ∷ cs) = cond (is_escaped c) (put_first c (unescaped_at false cs)) None
@@ -67,7 +67,7 @@ abbrev pub put_before : ℕ → Text × Text → Text × Text
 put_before c ([], blanks) = cond (is_blank c) ([], c ∷ blanks) (c ∷ [], blanks)
 put_before c (d ∷ ds, blanks) = (c ∷ d ∷ ds, blanks)
 
--- a text without the blanks at its end, and these blanks
+-- a text without the blanks at its end, and those blanks
 unfoldable pub trimmed : Text → Text × Text
 trimmed [] = ([], [])
 trimmed (c ∷ cs) = put_before c (trimmed cs)

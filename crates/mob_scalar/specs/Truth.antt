@@ -1,4 +1,4 @@
--- The texts of truth values: t, true, f and false, their letters small or capital.
+-- The texts of bools: t, true, f and false, in any letter case.
 use Rattle.std.specs.Prelude.{◌≡◌, Bool, codes, ◌||◌, cond}
 use Rattle.std.specs.Char.{is_ascii_alphabetic}
 use Rattle.std.specs.Str.{str_eq_ignore_ascii_case}
@@ -15,18 +15,18 @@ is_word_false word = str_eq_ignore_ascii_case word (codes "f") || str_eq_ignore_
 abbrev pub is_truth : Text → Bool
 is_truth word = is_word_true word || is_word_false word
 
--- letters that are one of these words
+-- letters that form one of these words
 abbrev pub truth : Language Bool
 truth = Means is_word_true (Where is_truth (ManyOf is_ascii_alphabetic))
 
 unfoldable pub truth_at : TextReader Bool
 truth_at = means_at is_word_true (where_at is_truth (many_at is_ascii_alphabetic))
 
--- a truth value as it is printed
+-- the printed text of a bool
 abbrev pub truth_text : Bool → Text
 truth_text b = cond b (codes "t") (codes "f")
 
--- the form of truth values, with blanks at their ends
+-- the form of bools, with optional blanks at both ends
 abbrev pub truths : TextForm Bool Bool
 truths = record {
   shape = within_blanks truth;

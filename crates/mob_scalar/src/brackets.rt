@@ -1,4 +1,4 @@
-//! Brackets, commas and what stands between them.
+//! Reads brackets, commas and the members between them.
 ghost use Rattle.std.specs.Prelude.{◌≡◌, option_map, IfOk};
 ghost use Rattle.mob_language.specs.Readers.{TextReader, separated_at as separated_in};
 ghost use Rattle.mob_scalar.specs.Brackets.{comma_at as comma_in, opening_at as opening_in, closing_at as closing_in};
@@ -6,7 +6,7 @@ ghost use Rattle.mob_scalar.specs.Brackets.{comma_at as comma_in, opening_at as 
 use mob_numeral::{blanks, spaced_at};
 use std::alloc::{AllocError, Global};
 
-/// An opening bracket, and what stands behind it and the blanks after it.
+/// Reads an opening bracket and the blanks after it. Returns the bracket and the rest of the text.
 #[tactic(auto, unfolding(crate::specs::Brackets::opening_at))]
 pub fn opening_at(bytes: &[u8]) -> Option<(u8, &[u8])>
     ensures read { option_map (λ x. (x.0, x.1.now)) result ≡ opening_in bytes.now }
@@ -18,7 +18,7 @@ pub fn opening_at(bytes: &[u8]) -> Option<(u8, &[u8])>
     }
 }
 
-/// A closing bracket behind blanks, and what stands behind it.
+/// Reads a closing bracket and the blanks before it. Returns the bracket and the rest of the text.
 #[tactic(auto, unfolding(crate::specs::Brackets::closing_at))]
 pub fn closing_at(bytes: &[u8]) -> Option<(u8, &[u8])>
     ensures read { option_map (λ x. (x.0, x.1.now)) result ≡ closing_in bytes.now }
@@ -30,7 +30,8 @@ pub fn closing_at(bytes: &[u8]) -> Option<(u8, &[u8])>
     }
 }
 
-/// Members with commas between, and what stands behind them.
+/// Reads members with commas between them. Returns them and the rest of the text. An error means
+/// that an allocation failed.
 #[tactic(auto, unfolding(mob_language::specs::Readers::separated_at))]
 pub fn separated_at<'a, A: Drop, F: Fn(&'a [u8]) -> Result<Option<(A, &'a [u8])>, AllocError>>(
     alloc: Global,

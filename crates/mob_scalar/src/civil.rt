@@ -1,4 +1,4 @@
-//! Dates of the calendar, of the years 0001 to 9999.
+//! Dates of the calendar, from the year 0001 to 9999.
 ghost use Rattle.std.specs.Prelude.{◌≡◌, ◌<◌, ◌^◌, option_map, Option, Some, None, IfSome, true};
 ghost use Rattle.mob_language.specs.Readers.{all_of};
 ghost use Rattle.mob_scalar.specs.Calendar.{is_civil as civil, day_of as day_number, date_of as date_of_day, IsInYears};
@@ -10,15 +10,15 @@ use mob_numeral::{Figures, behind, digits_at};
 /// A date of the calendar.
 #[derive(Clone, Copy, Debug, PartialEq, Eq)]
 pub struct Civil {
-    /// The year, from 1 to 9999 in a date of the calendar.
+    /// The year, from 1 to 9999 in a valid date.
     pub year: u32,
-    /// The month, from 1.
+    /// The month, from 1 to 12 in a valid date.
     pub month: u32,
     /// The day of the month, from 1.
     pub day: u32,
 }
 
-/// The number of exactly `count` digits in front, and what stands behind them.
+/// Reads exactly `count` digits. Returns their number and the rest of the text.
 #[tactic(auto, unfolding(crate::specs::CalendarReaders::fixed_at))]
 pub fn fixed_at(count: u32, bytes: &[u8]) -> Option<(u128, &[u8])>
     ensures value { option_map (λ x. (x.0, x.1.now)) result ≡ fixed_in count bytes.now }
@@ -40,7 +40,7 @@ fn dash_at(bytes: &[u8]) -> Option<(u128, &[u8])>
     fixed_at(2, behind(b'-', bytes)?)
 }
 
-/// Whether the calendar has a date, of the years 0001 to 9999.
+/// Whether the date exists in the calendar, in the years 0001 to 9999.
 fn is_civil(date: Civil) -> bool
     requires year { date.year < 10000 }
     requires month { date.month < 100 }
@@ -53,7 +53,7 @@ fn is_civil(date: Civil) -> bool
     Date::new(date.year as i16, date.month as i8, date.day as i8).is_ok()
 }
 
-/// The date `YYYY-MM-DD` in front, which the calendar has, and what stands behind it.
+/// Reads a date `YYYY-MM-DD` that exists. Returns it and the rest of the text.
 #[tactic(auto, unfolding(crate::specs::CalendarReaders::date_at))]
 pub fn date_at(bytes: &[u8]) -> Option<(Civil, &[u8])>
     ensures value { option_map (λ x. (x.0, x.1.now)) result ≡ date_in bytes.now }
@@ -74,7 +74,7 @@ pub fn date_at(bytes: &[u8]) -> Option<(Civil, &[u8])>
     }
 }
 
-/// The number of a date's day, where 1970-01-01 is 0.
+/// The number of a date's day; 1970-01-01 is 0.
 pub fn day_of(date: Civil) -> i32
     requires there { civil date ≡ true }
     ensures number { result ≡ day_number date }
@@ -85,7 +85,7 @@ pub fn day_of(date: Civil) -> i32
     }
 }
 
-/// All of the bytes, as a date.
+/// Reads all of the bytes as a date.
 pub fn date_in_all(bytes: &[u8]) -> Option<Civil>
     ensures value { result ≡ all_of date_in bytes.now }
     ensures there { IfSome result (λ date. civil date ≡ true) }
@@ -96,7 +96,7 @@ pub fn date_in_all(bytes: &[u8]) -> Option<Civil>
     }
 }
 
-/// The date of the day with this number, where 1970-01-01 is 0.
+/// The date of the day with this number; 1970-01-01 is 0.
 pub fn date_of(day: i64) -> Civil
     requires years { IsInYears day }
     ensures value { result ≡ date_of_day day }

@@ -1,10 +1,11 @@
-//! What is made of each item of a list.
+//! Maps the items of a list by a function that may fail.
 ghost use Rattle.std.specs.Prelude.{◌≡◌, option_map, Option, IfOk};
 ghost use Rattle.mob_scalar.specs.Traverse.{traverse};
 
 use std::alloc::{AllocError, Global};
 
-/// What `fit` makes of each item, where it makes something of every one.
+/// What `fit` makes of each item; `None` if it makes nothing of one of them. An error means that an
+/// allocation failed.
 pub fn fitting_each<A: Drop, B: Drop, F: Fn(A) -> Result<Option<B>, AllocError>>(
     alloc: Global,
     items: Vec<A>,

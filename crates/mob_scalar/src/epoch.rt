@@ -1,4 +1,4 @@
-//! The epoch: the day from whose midnight the instants count.
+//! The epoch: the day from whose midnight instants count.
 ghost use Rattle.std.specs.Prelude.{◌≡◌, ◌<◌, ◌^◌, ℤ, pos, nat_abs, ◌*ℤ◌, ◌≢◌, Err};
 ghost use Rattle.mob_scalar.specs.Calendar.{IsInYears, standard_day};
 ghost use Rattle.mob_scalar.specs.Epochs.{epochs};
@@ -9,8 +9,8 @@ use crate::civil::{date_in_all, day_of};
 use mob_numeral::ReadText;
 use std::marker::Model;
 
-/// The epoch, a day of the years 0001 to 9999. An instant is the number of seconds since midnight
-/// UTC of this day. Clauses see an epoch as the number of its day, where 1970-01-01 is 0.
+/// The epoch, a day of the years 0001 to 9999. An instant is in seconds since midnight UTC of this
+/// day. Contracts see an epoch as the number of its day; 1970-01-01 is 0.
 #[derive(Clone, Copy, Debug, PartialEq, Eq)]
 pub struct Epoch {
     day: i32,
@@ -37,9 +37,8 @@ impl Epoch {
         Epoch { day: 10957 }
     }
 
-    /// The epoch that a text names: ten characters `YYYY-MM-DD`, a date of the years 0001 to 9999.
-    ///
-    /// Any other text is `NotText`. Blanks are not taken.
+    /// Reads an epoch from its text: ten characters `YYYY-MM-DD`, a date of the years 0001 to 9999.
+    /// Any other text is `NotText`, also one with blanks around the date.
     pub fn read(text: &str) -> Result<Epoch, ReadText>
         ensures reading { Lit epochs text.now result }
         ensures memory { result ≢ Err NoMemory }
@@ -50,7 +49,7 @@ impl Epoch {
         }
     }
 
-    /// The number of its day, where 1970-01-01 is 0.
+    /// The number of its day; 1970-01-01 is 0.
     pub fn day(&self) -> i64
         ensures day { result ≡ self.now }
         ensures years { IsInYears result }

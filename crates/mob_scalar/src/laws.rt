@@ -1,4 +1,4 @@
-//! Laws of reading and printing: each is a promise without running code.
+//! Laws of reading and printing scalars. No code runs here.
 ghost use Rattle.std.specs.Prelude.{◌≡◌, ℕ, ℤ, List, Ok, Err, true, Bool};
 ghost use Rattle.mob_ratio.specs.Ratio.{Ratio};
 ghost use Rattle.mob_frac.specs.Fits.{Fits};
@@ -15,22 +15,22 @@ ghost use Rattle.mob_numeral.specs.Verdict.{HasOneReading, Lit};
 use crate::Epoch;
 use mob_list::laws::crosses_threads;
 
-/// A truth value that is printed is read again as itself.
+/// A printed bool reads back as itself.
 pub fn truth_read_again()
     ensures again { (b : Bool) → Lit truths (truth_text b) (Ok b) }
 {}
 
-/// A moment that is printed is read again as itself, where it lies in the years 0001 to 9999.
+/// A printed moment in the years 0001 to 9999 reads back as itself.
 pub fn moment_read_again()
     ensures again { (epoch : ℤ) (t : Ratio) → Fits t → HasDate epoch t → Lit (moments epoch) (moment_text epoch t) (Ok t) }
 {}
 
-/// What is printed of a moment outside the years 0001 to 9999 is no moment.
+/// The printed text of a moment outside the years 0001 to 9999 does not read as a moment.
 pub fn far_moment_not_read()
     ensures not_read { (epoch : ℤ) (t : Ratio) → ¬ HasDate epoch t → Lit (moments epoch) (moment_text epoch t) (Err NotText) }
 {}
 
-/// A text has one reading as a number, as an int, as a moment, as a truth value and as an epoch.
+/// A text has at most one reading as a number, as an int, as a moment, as a bool and as an epoch.
 pub fn one_reading()
     ensures numbers { HasOneReading numbers }
     ensures wholes { HasOneReading whole_numbers }
@@ -39,7 +39,7 @@ pub fn one_reading()
     ensures epochs { HasOneReading epochs }
 {}
 
-/// A ttext value that is printed is read again as itself, where a ttext value may stand.
+/// A printed ttext value reads back as itself inside a ttext.
 pub fn text_value_read_again()
     ensures again { (v : List ℕ) → is_utf8 v ≡ true → text_value (quoted_text v) v }
 {}

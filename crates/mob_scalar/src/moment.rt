@@ -1,4 +1,4 @@
-//! The instants that moments stand for.
+//! Computes the instants of moments.
 ghost use Rattle.std.specs.Prelude.{◌≡◌, ◌<◌, ◌^◌, ℤ, pos, nat_abs, ◌*ℤ◌, ◌-ℤ◌, option_map, Option, Some, None, IfSome, true, ◌≢◌, Err};
 ghost use Rattle.mob_frac.specs.Fits.{IsExact};
 ghost use Rattle.mob_ratio.specs.Ratio.{whole, over, ◌+ℚ◌};
@@ -16,7 +16,7 @@ use crate::stamp::{Part, Stamp, moment_at, seconds_of};
 use mob_frac::{Frac, Overflow, over_product};
 use mob_numeral::{ReadText, within_blanks};
 
-// Seconds since midnight of the epoch's day.
+// Seconds since midnight of the epoch day.
 fn since(seconds: i64, epoch: &Epoch) -> i64
     requires seconds { nat_abs seconds < 2 ^ 51 }
     ensures value { result ≡ seconds -ℤ epoch.now *ℤ pos 86400 }
@@ -45,7 +45,8 @@ fn plus_part(n: i64, part: Part) -> Result<Frac, Overflow>
     }
 }
 
-/// The instant of a moment, in seconds since midnight UTC of the epoch's day.
+/// The instant of a moment, in seconds since midnight UTC of the epoch day. `Overflow` if it does
+/// not fit in 62 bits.
 #[tactic(auto, unfolding(crate::specs::Moment::instant))]
 pub fn place(stamp: Stamp, epoch: &Epoch) -> Result<Frac, Overflow>
     requires date { civil stamp.date ≡ true }
@@ -55,7 +56,7 @@ pub fn place(stamp: Stamp, epoch: &Epoch) -> Result<Frac, Overflow>
     plus_part(since(seconds_of(stamp), epoch), stamp.clock.part)
 }
 
-/// The instant of a moment. None where it does not fit.
+/// The instant of a moment; `None` if it does not fit.
 #[tactic(auto, unfolding(mob_numeral::specs::Fitting::fits))]
 pub fn instant_of(stamp: Stamp, epoch: &Epoch) -> Option<Frac>
     requires date { civil stamp.date ≡ true }
@@ -68,7 +69,7 @@ pub fn instant_of(stamp: Stamp, epoch: &Epoch) -> Option<Frac>
     }
 }
 
-/// The instant of the moment in front, where it fits, and what stands behind it.
+/// Reads a moment at the front. Returns its instant, if it fits, and the rest of the text.
 #[tactic(auto, unfolding(crate::specs::Moments::moment_value_at))]
 pub fn moment_value_at<'a>(epoch: &Epoch, bytes: &'a [u8]) -> Option<(Option<Frac>, &'a [u8])>
     ensures read { option_map (λ x. (x.0, x.1.now)) result ≡ moment_value_in epoch.now bytes.now }
@@ -79,7 +80,7 @@ pub fn moment_value_at<'a>(epoch: &Epoch, bytes: &'a [u8]) -> Option<(Option<Fra
     }
 }
 
-/// All of the bytes, as a moment with blanks at its ends.
+/// Reads all of the bytes as a moment with optional blanks at both ends.
 fn stamp_of(bytes: &[u8]) -> Option<Stamp>
     ensures value { result ≡ all_of (within_blanks_at moment_in) bytes.now }
     ensures there { IfSome result (λ s. civil s.date ≡ true) }
@@ -87,13 +88,15 @@ fn stamp_of(bytes: &[u8]) -> Option<Stamp>
     within_blanks(moment_at, bytes)
 }
 
-/// The instant of a moment, in seconds since midnight UTC of the epoch's day.
+/// Reads a moment from its text, which has the form of a timestamptz of PostgreSQL. Returns its
+/// instant, in seconds since midnight UTC of the epoch day.
 ///
-/// A moment is `YYYY-MM-DD`, then perhaps blanks or `T` and `HH:MM`, perhaps `:SS`, perhaps a part
-/// of the second (`.` and 1 to 18 digits, or `(p/q)`), perhaps `Z`, `+HH`, `-HH`, `+HH:MM` or
-/// `-HH:MM`. The date exists, and the instant lies in the years 0001 to 9999 in UTC. Blanks may
-/// stand at both ends. Any other text
-/// is `NotText`, and `TooLarge` an instant that has more than 62 bits. It takes no memory.
+/// A moment is a date `YYYY-MM-DD`, optionally followed by a time; blanks or a `T` are between the
+/// two. A time is `HH:MM` or `HH:MM:SS`. After the seconds there may be a part of a second: `.` and
+/// 1 to 18 digits, or `(p/q)` with p below q. After the time there may be an offset: `Z`, `+HH`,
+/// `-HH`, `+HH:MM` or `-HH:MM`, with at most 15 hours. The date exists, and the instant is in the
+/// years 0001 to 9999 in UTC. Blanks may be at both ends. Any other text is `NotText`. An instant
+/// of more than 62 bits is `TooLarge`. It takes no memory.
 pub fn read_moment(text: &str, epoch: &Epoch) -> Result<Frac, ReadText>
     ensures reading { Lit (moments epoch.now) text.now result }
     ensures memory { result ≢ Err NoMemory }

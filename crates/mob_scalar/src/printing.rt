@@ -1,4 +1,4 @@
-//! Moments, printed.
+//! Prints moments.
 ghost use Rattle.std.specs.Prelude.{◌≡◌, ◌+◌, ◌-◌, ◌*◌, ◌/◌, ◌%◌, ◌^◌, ◌<◌, ◌≤◌, ◌++◌, length, replicate, OnOk, OnErr, IsOk, Option, ℤ, pos, nat_abs, unsigned_abs, ◌+ℤ◌, ◌*ℤ◌, string_bytes, string_len, string_capacity, true};
 ghost use Rattle.std.specs.Fmt.{decimal};
 ghost use Rattle.std.specs.Int.{int_div_euclid, int_rem_euclid};
@@ -14,10 +14,10 @@ use mob_frac::Frac;
 use mob_numeral::ten_to;
 use std::alloc::AllocError;
 
-// No text of a number or a moment is longer.
+// The greatest length of the text of a number or a moment, in bytes.
 const MOST: usize = 64;
 
-// The powers of ten from 1 to a million: the place of each is its number of zeros.
+// The powers of ten from 1 to a million, each at the position of its exponent.
 const POWERS: [u64; 7] = [1, 10, 100, 1000, 10000, 100000, 1000000];
 
 fn zeros(count: usize) -> &'static str
@@ -81,7 +81,7 @@ fn push_clock(seconds: u64, into: &mut String) -> Result<(), AllocError>
     push_padded(2, seconds % 60, into)
 }
 
-// How many decimal digits give a fraction with this denominator exactly.
+// The number of decimal digits, at most 6, that are exact for a fraction with this denominator.
 #[tactic(auto, unfolding(crate::specs::MomentText::places))]
 fn places(denominator: u64) -> Option<usize>
     requires positive { 0 < denominator }
@@ -231,7 +231,7 @@ fn whole_part(t: &Frac) -> i64
     t.num().div_euclid(t.den())
 }
 
-// The numerator of the part of a second beyond it.
+// The numerator of the part of a second beyond that.
 fn numerator_of(t: &Frac) -> u64
     ensures value { result ≡ part_numerator t.now }
     ensures below { result < t.now.den }
@@ -273,8 +273,9 @@ fn is_in_years(second: i64) -> bool
     -62135596800 <= second && second <= 253402300799
 }
 
-/// Appends the text of the instant `t`, in seconds since midnight UTC of the epoch's day:
-/// `YYYY-MM-DD HH:MM:SS`, the part of a second, and `+00`. After `Err` the text is as before.
+/// Appends the text of the instant `t`, in seconds since midnight UTC of the epoch day: `YYYY-MM-DD
+/// HH:MM:SS`, the part of a second, and `+00`; or `epoch+(n)` with the seconds if it is outside the
+/// years 0001 to 9999. An error means that an allocation failed; the text is then unchanged.
 #[tactic(auto, unfolding(crate::specs::MomentText::moment_text))]
 pub fn write_moment(t: &Frac, epoch: &Epoch, into: &mut String) -> Result<(), AllocError>
     ensures ok { OnOk result (string_bytes into.new ≡ string_bytes into.old ++ moment_text epoch.now t.now) }

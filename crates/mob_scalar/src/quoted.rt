@@ -1,4 +1,4 @@
-//! The values of a ttext as they are written: in double quotes, or bare.
+//! Reads and prints the values of a ttext: in double quotes, or bare.
 ghost use Rattle.std.specs.Prelude.{◌≡◌, ◌++◌, Some, IfOk, IfSome, option_map, OnOk, OnErr, string_bytes, length, is_some, encode_utf8, true, false};
 ghost use Rattle.std.specs.Str.{is_utf8};
 ghost use Rattle.mob_language.specs.Readers.{split_while, or_at};
@@ -20,7 +20,7 @@ fn is_plain(c: u8) -> bool
     !matches!(c, 64 | 44 | 123 | 125 | 91 | 93 | 40 | 41 | 34)
 }
 
-/// The value up to its closing quote, and what stands behind that.
+/// Reads a value up to its closing quote. Returns it and the rest of the text.
 #[tactic(auto, unfolding(crate::specs::Quoted::unescaped_at))]
 fn unescaped_at(alloc: Global, bytes: &[u8]) -> Result<Option<(Vec<u8>, &[u8])>, AllocError>
     ensures value { IfOk result (λ o. option_map (λ x. (x.0.items, x.1.now)) o ≡ unescaped_in false bytes.now) }
@@ -57,7 +57,7 @@ fn quoted_at(alloc: Global, bytes: &[u8]) -> Result<Option<(Vec<u8>, &[u8])>, Al
     }
 }
 
-/// How many bytes stand in front that are plain, without the blanks at their end.
+/// The number of plain bytes at the front, without the blanks at their end.
 fn bare_len(bytes: &[u8]) -> usize
     ensures value { result ≡ length (trimmed_parts (split_while plain bytes.now).0).0 }
 {
@@ -97,7 +97,7 @@ fn bare_at(bytes: &[u8]) -> Option<(&[u8], &[u8])>
     }
 }
 
-/// The bytes of the value in front, and what stands behind it.
+/// Reads a value at the front. Returns its bytes and the rest of the text.
 fn value_bytes_at(alloc: Global, bytes: &[u8]) -> Result<Option<(Vec<u8>, &[u8])>, AllocError>
     ensures value { IfOk result (λ o. option_map (λ x. (x.0.items, x.1.now)) o ≡ or_at quoted_in bare_in bytes.now) }
 {
@@ -120,7 +120,8 @@ fn text_of(bytes: Vec<u8>) -> Option<Text>
     }
 }
 
-/// The value in front as it stands in a ttext, and what stands behind it.
+/// Reads a value of a ttext at the front. Returns it and the rest of the text. An error means that
+/// an allocation failed.
 #[tactic(auto, unfolding(crate::specs::Quoted::text_value_at))]
 pub fn text_value_at(alloc: Global, bytes: &[u8]) -> Result<Option<(Text, &[u8])>, AllocError>
     ensures value { IfOk result (λ o. option_map (λ x. (x.0, x.1.now)) o ≡ text_value_in bytes.now) }
@@ -140,7 +141,7 @@ fn needs_backslash(c: char) -> bool
     c == '"' || c == '\\'
 }
 
-/// One character of a value, with a backslash before it where it needs one.
+/// Appends one character of a value, with a backslash before it if it needs one.
 #[tactic(auto, using(crate::proofs::EscapedLemmas::escape_one, crate::proofs::EscapedLemmas::escape_none))]
 fn push_escaped(c: char, into: &mut String) -> Result<(), AllocError>
     ensures written { OnOk result (string_bytes into.new ≡ string_bytes into.old ++ escaped (encode_utf8 c)) }
@@ -163,7 +164,7 @@ fn push_quoted(value: &str, into: &mut String) -> Result<(), AllocError>
 }
 
 /// Appends the text of a ttext value: in double quotes, with a backslash before each double quote
-/// and each backslash. After `Err` the text is as before.
+/// and each backslash. An error means that an allocation failed; the text is then unchanged.
 pub fn write_text_value(value: &Text, into: &mut String) -> Result<(), AllocError>
     ensures ok { OnOk result (string_bytes into.new ≡ string_bytes into.old ++ quoted_text value.now) }
     ensures err { OnErr result (string_bytes into.new ≡ string_bytes into.old) }

@@ -1,4 +1,4 @@
-//! Moments as they are written.
+//! Reads moments as they are written.
 ghost use Rattle.std.specs.Prelude.{◌≡◌, ◌<◌, ◌^◌, option_map, ℤ, pos, nat_abs, ◌*ℤ◌, ◌+ℤ◌, Option, Some, None, IfSome, true};
 ghost use Rattle.mob_scalar.specs.Calendar.{is_civil as civil};
 ghost use Rattle.mob_scalar.specs.Moment.{stamp_of as stamp_made, clock_of as clock_made, offset_of as offset_made, zone_of as zone_made, is_in_years as in_years, seconds, shift as moved};
@@ -25,23 +25,23 @@ pub struct Clock {
     pub part: Part,
 }
 
-/// An offset from UTC in seconds.
+/// An offset from UTC.
 #[derive(Clone, Copy, Debug, PartialEq, Eq)]
 pub struct Offset {
-    /// Whether its sign is a minus: the clock is behind UTC.
+    /// Whether its sign is a minus.
     pub west: bool,
-    /// Its size in seconds.
+    /// Its absolute value, in seconds.
     pub seconds: u32,
 }
 
-/// A moment: a day, a time of that day and the offset.
+/// A moment as written: a day, a time of that day and the offset.
 #[derive(Clone, Copy, Debug, PartialEq, Eq)]
 pub struct Stamp {
     /// The day.
     pub date: Civil,
     /// The time of that day.
     pub clock: Clock,
-    /// The offset from UTC at which they are read.
+    /// The offset from UTC of that time.
     pub offset: Offset,
 }
 
@@ -336,7 +336,7 @@ fn is_in_years(stamp: Stamp) -> bool
     -62135596800 <= seconds && seconds <= 253402300799
 }
 
-/// The moment in front, as it is written, and what stands behind it.
+/// Reads a moment at the front, as written. Returns it and the rest of the text.
 #[tactic(auto, unfolding(crate::specs::MomentReaders::moment_at))]
 pub fn moment_at(bytes: &[u8]) -> Option<(Stamp, &[u8])>
     ensures value { option_map (λ x. (x.0, x.1.now)) result ≡ moment_in bytes.now }

@@ -1,4 +1,4 @@
-//! Truth values as they are written: `t`, `true`, `f`, `false`.
+//! Reads and prints bools: `t`, `true`, `f`, `false`.
 ghost use Rattle.std.specs.Prelude.{◌≡◌, ◌++◌, Some, option_map, OnOk, OnErr, string_bytes, ◌≢◌, Err};
 ghost use Rattle.std.specs.Char.{is_ascii_alphabetic};
 ghost use Rattle.std.specs.Str.{str_eq_ignore_ascii_case};
@@ -10,7 +10,7 @@ ghost use Rattle.mob_numeral.specs.Verdict.{Lit};
 use mob_numeral::{ReadText, split_while, within_blanks};
 use std::alloc::AllocError;
 
-/// The letters in front, and what stands behind them.
+/// Splits the text into the letters at the front and the rest.
 fn letters(bytes: &[u8]) -> (&[u8], &[u8])
     ensures value { (result.0.now, result.1.now) ≡ split_while is_ascii_alphabetic bytes.now }
 {
@@ -35,7 +35,7 @@ fn is_truth(word: &[u8]) -> bool
     is_word_true(word) || is_word(word, b"f") || is_word(word, b"false")
 }
 
-/// The truth value in front, and what stands behind it.
+/// Reads a bool at the front. Returns it and the rest of the text.
 #[tactic(auto, unfolding(crate::specs::Truth::truth_at))]
 pub fn truth_at(bytes: &[u8]) -> Option<(bool, &[u8])>
     ensures value { option_map (λ x. (x.0, x.1.now)) result ≡ truth_in bytes.now }
@@ -48,15 +48,15 @@ pub fn truth_at(bytes: &[u8]) -> Option<(bool, &[u8])>
     }
 }
 
-/// All of the bytes, as a truth value with blanks at its ends.
+/// Reads all of the bytes as a bool with optional blanks at both ends.
 fn truth_in_all(bytes: &[u8]) -> Option<bool>
     ensures value { result ≡ all_of (within_blanks_at truth_in) bytes.now }
 {
     within_blanks(truth_at, bytes)
 }
 
-/// The truth value that a text says: `t`, `true`, `f` or `false`, its letters small or capital,
-/// perhaps with blanks at its ends. Any other text is `NotText`.
+/// Reads a bool from its text: `t`, `true`, `f` or `false`, in any letter case, with optional
+/// blanks at both ends. Any other text is `NotText`. It takes no memory.
 pub fn read_truth(text: &str) -> Result<bool, ReadText>
     ensures reading { Lit truths text.now result }
     ensures memory { result ≢ Err NoMemory }
@@ -67,7 +67,8 @@ pub fn read_truth(text: &str) -> Result<bool, ReadText>
     }
 }
 
-/// Appends the text of a truth value, `t` or `f`. After `Err` the text is as before.
+/// Appends the text of a bool, `t` or `f`. An error means that an allocation failed; the text is
+/// then unchanged.
 pub fn write_truth(truth: bool, into: &mut String) -> Result<(), AllocError>
     ensures ok { OnOk result (string_bytes into.new ≡ string_bytes into.old ++ truth_text truth) }
     ensures err { OnErr result (string_bytes into.new ≡ string_bytes into.old) }

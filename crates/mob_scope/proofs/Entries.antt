@@ -1,4 +1,4 @@
--- Names in a map: where the first of a name stands, and that a new name goes last.
+-- Names in a map: the place of the first entry with a name, and that a new name goes last.
 use Rattle.std.proofs.Common.{◌≡◌, ◌∙◌, sym, ap, refl, ℕ, ◌+◌, List, [], ◌∷◌, ◌++◌, map, Bool, true, false, cond, ◌||◌, Option, Some, None, String, Global, position}
 use Rattle.std.specs.Prelude.{string_bytes, is_some}
 use Rattle.std.specs.List.{position_from, list_any}

@@ -1,4 +1,4 @@
--- Columns, as far as they are found.
+-- The columns that match a name in the tables read so far.
 use Rattle.std.proofs.Common.{List, ◌∷◌, Option, Some, None}
 use Rattle.mob_scope.specs.declared.scope.Found.{Found}
 

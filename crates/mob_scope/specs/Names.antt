@@ -1,10 +1,9 @@
--- Entries by their names, and the columns of a table.
+-- Lists of entries by name, and the columns of a table.
 use Rattle.std.specs.Prelude.{◌+◌, ℕ, List, [], ◌∷◌, Bool, Option, Some, None, is_some, if◌then◌else◌}
 use Rattle.std.specs.Str.{bytes_eq}
 use Rattle.mob_ast.specs.declared.types.SqlType.{SqlType}
 
--- the number and the content of the first entry of this name, where the first of the entries has
--- number n
+-- the number and the content of the first entry with this name, counted from n
 abbrev pub entry_from : {A : Type 0} → ℕ → List (List ℕ × A) → List ℕ → Option (ℕ × A)
 entry_from n [] name = None
 entry_from n (e ∷ es) name = if bytes_eq name e.0 then Some (n, e.1) else entry_from (n + 1) es name
@@ -13,6 +12,6 @@ entry_from n (e ∷ es) name = if bytes_eq name e.0 then Some (n, e.1) else entr
 abbrev pub has_entry : {A : Type 0} → List (List ℕ × A) → List ℕ → Bool
 has_entry es name = is_some (entry_from 0 es name)
 
--- the number and the type of the column of this name
+-- the number and the type of the column with this name
 abbrev pub column_of : List (List ℕ × SqlType) → List ℕ → Option (ℕ × SqlType)
 column_of columns name = entry_from 0 columns name

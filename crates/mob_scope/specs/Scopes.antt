@@ -1,4 +1,4 @@
--- What an expression sees.
+-- What an expression can name.
 use Rattle.std.specs.Prelude.{ℕ, List, map}
 use Rattle.mob_ast.specs.declared.types.SqlType.{SqlType}
 use Rattle.mob_scope.specs.declared.scope.ScopeTable.{ScopeTable}
@@ -9,8 +9,8 @@ pub record ScopeTableParts : Type 0 where
   pub table : ℕ
   pub columns : List (List ℕ × SqlType)
 
--- what an expression sees: tables of FROM that stand side by side, under the names that they go by
--- there, the number of the first of them in FROM, and the number of its statement
+-- what an expression can name: adjacent tables of FROM under their names in this SELECT, the number
+-- of the first of them in FROM, and the number of the statement
 pub record ScopeParts : Type 0 where
   pub from : List (List ℕ × ScopeTableParts)
   pub first : ℕ

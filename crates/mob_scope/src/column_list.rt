@@ -1,4 +1,4 @@
-//! The columns of a table, by name and by number.
+//! The columns of a table, found by name or by number.
 ghost use Rattle.std.specs.Prelude.{◌≡◌, ◌<◌, Some, ◌∷◌, ◌++◌, [], false, length, OnErr, OnOk, slice_get};
 ghost use Rattle.mob_scope.specs.Names.{column_of, has_entry};
 
@@ -7,7 +7,7 @@ use mob_ast::SqlType;
 use std::alloc::{AllocError, Global};
 use std::marker::Model;
 
-/// The columns of a table in their order, each with its type.
+/// The columns of a table in order, each with its type.
 #[derive(Drop)]
 pub struct Columns {
     types: IndexMap<String, SqlType>,
@@ -23,7 +23,7 @@ impl Model for Columns {
 }
 
 impl Columns {
-    /// No columns yet.
+    /// An empty list. It takes no memory.
     pub fn new(alloc: Global) -> Self
         ensures empty { result ≡ [] }
     {
@@ -32,14 +32,14 @@ impl Columns {
         }
     }
 
-    /// How many columns there are.
+    /// The number of columns.
     pub fn len(&self) -> usize
         ensures count { result ≡ length self.now }
     {
         self.types.len()
     }
 
-    /// The number and the type of the column of this name.
+    /// The number, from 0, and the type of the column with this name; `None` if there is none.
     pub fn find(&self, name: &str) -> Option<(usize, SqlType)>
         ensures first { result ≡ column_of self.now name.now }
     {
@@ -47,14 +47,14 @@ impl Columns {
         Some((index, *ty))
     }
 
-    /// Whether there is a column of this name.
+    /// Whether a column has this name.
     pub fn has(&self, name: &str) -> bool
         ensures known { result ≡ has_entry self.now name.now }
     {
         self.find(name).is_some()
     }
 
-    /// The name and the type of the column of this number.
+    /// The name and the type of the column at this number, from 0.
     pub fn at(&self, index: usize) -> (&str, SqlType)
         requires there { index < length self.now }
         ensures stored { slice_get self.now index ≡ Some (result.0.now, result.1) }
@@ -65,8 +65,8 @@ impl Columns {
         (name.as_str(), *ty)
     }
 
-    /// Adds a column of a new name behind the others. Where memory is refused they stay as they
-    /// were.
+    /// Appends a column with a new name. An error means that an allocation failed; the columns are
+    /// then unchanged.
     pub fn add(&mut self, alloc: Global, name: &str, ty: SqlType) -> Result<(), AllocError>
         requires absent { has_entry self.old name.now ≡ false }
         ensures last { OnOk result (self.new ≡ self.old ++ (name.now, ty) ∷ []) }

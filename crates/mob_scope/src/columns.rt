@@ -1,4 +1,4 @@
-//! The column that a name stands for.
+//! Finds the column that a name means.
 ghost use Rattle.std.specs.Prelude.{◌≡◌, Ok, option_map};
 ghost use Rattle.mob_scope.specs.Answers.{AnswersAs};
 ghost use Rattle.mob_scope.specs.Names.{entry_from};
@@ -10,7 +10,7 @@ use crate::scope::{Found, Scope, ScopeTable, number};
 use mob_ast::{Kind, SqlType, Word};
 use mob_list::fault::Fault;
 
-// A column by the numbers of its table and of itself, from 0.
+// A column by the number of its table and its own number, both from 0.
 fn found_at(from: usize, column: usize, ty: SqlType) -> Result<Found, Fault<Mistake>>
     ensures numbered { AnswersAs (λ f. f) result (Ok (record { from = from; column = column; ty = ty })) }
 {
@@ -19,7 +19,7 @@ fn found_at(from: usize, column: usize, ty: SqlType) -> Result<Found, Fault<Mist
     Ok(Found { from, column, ty })
 }
 
-// The one column of this name in all tables of FROM.
+// The only column of this name in all tables of FROM.
 fn bare_column(from: &[ScopeTable<'_>], name: &Word) -> Result<Found, Fault<Mistake>>
     ensures only_one { AnswersAs (λ f. f) result (the_one name.now.place (matches 0 (sources_of from.now) name.now.text)) }
 {
@@ -41,8 +41,8 @@ fn bare_column(from: &[ScopeTable<'_>], name: &Word) -> Result<Found, Fault<Mist
     }))
 }
 
-/// The number, from 0, and the content of the first table of FROM that goes by this name. None
-/// where no table does.
+/// The number, from 0, and the entry of the first table of FROM with this name or alias; `None` if
+/// there is none.
 pub fn source_named<'a>(
     from: &'a [ScopeTable<'a>],
     name: &str,
@@ -57,7 +57,7 @@ pub fn source_named<'a>(
     None
 }
 
-// The column that a name stands for among these tables, which are counted from 0.
+// The column that a name means among these tables, which are counted from 0.
 fn column_among(
     from: &[ScopeTable<'_>],
     table: &Option<Word>,
@@ -83,7 +83,8 @@ fn column_among(
     found_at(from, index, ty)
 }
 
-// A column by the number of its table in FROM. A sum past 32 bits is answered as out of memory.
+// The column, with its table counted over all of FROM. A sum beyond 32 bits is reported as out of
+// memory.
 fn in_from(first: u32, found: Found) -> Result<Found, Fault<Mistake>>
     ensures counted { AnswersAs (λ f. f) result (Ok (in_from first found)) }
 {
@@ -97,7 +98,10 @@ fn in_from(first: u32, found: Found) -> Result<Found, Fault<Mistake>>
     })
 }
 
-/// The column that a name stands for, with its table before a point or without.
+/// The column that a name means, with or without its table before a point.
+///
+/// `UnknownName` at the place of the table or of the column if there is none, and `Duplicate` if a
+/// bare name is that of two columns.
 pub fn column_named(
     scope: &Scope<'_>,
     table: &Option<Word>,

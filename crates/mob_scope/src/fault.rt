@@ -1,4 +1,4 @@
-//! Why typing stops.
+//! The reasons for which typing stops.
 ghost use Rattle.mob_scope.specs.Answers.{AnswersAs, unless};
 
 use mob_ast::Kind;
@@ -13,7 +13,7 @@ pub struct Mistake {
     pub place: u32,
 }
 
-/// Refuses with this kind at this place where the test holds.
+/// Refuses with this kind at this place if the test holds.
 pub fn unless(test: bool, kind: Kind, place: u32) -> Result<(), Fault<Mistake>>
     ensures refused { AnswersAs (λ u. u) result (unless test kind place) }
 {

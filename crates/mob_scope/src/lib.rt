@@ -1,5 +1,5 @@
-//! Names of columns among the tables of FROM: the columns of a table by name and by number, the
-//! tables that an expression sees, the one column that a name stands for, and why typing stops.
+//! Resolves names of columns among the tables of FROM: the columns of a table, the tables that an
+//! expression sees, and the reasons for which typing stops.
 #![tactic(auto)]
 
 pub mod column_list;

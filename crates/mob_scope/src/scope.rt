@@ -1,4 +1,4 @@
-//! What an expression sees: tables of FROM and their columns.
+//! What an expression can name: tables of FROM and their columns.
 ghost use Rattle.std.specs.Prelude.{Ok};
 ghost use Rattle.mob_scope.specs.Answers.{AnswersAs};
 
@@ -7,22 +7,21 @@ use crate::fault::Mistake;
 use mob_ast::SqlType;
 use mob_list::fault::Fault;
 
-/// A table of FROM under the name that it goes by there.
+/// A table of FROM, under its name or alias.
 #[derive(Clone, Copy)]
 pub struct ScopeTable<'a> {
-    /// The name.
+    /// Its name in this SELECT: the alias, if it has one.
     pub name: &'a str,
-    /// The number of the table.
+    /// The number of the table, from 0.
     pub table: u32,
-    /// Its columns.
     pub columns: &'a Columns,
 }
 
-/// What an expression sees: tables of FROM, and the number of its statement. A condition of ON sees
-/// a part of FROM, all else the whole.
+/// What an expression can name: tables of FROM, and the number of its statement. A condition of ON
+/// sees a part of FROM; every other expression sees all of it.
 #[derive(Clone, Copy)]
 pub struct Scope<'a> {
-    /// The tables, which stand side by side in FROM.
+    /// The tables, adjacent in FROM.
     pub from: &'a [ScopeTable<'a>],
     /// The number of the first of them in FROM, from 0.
     pub first: u32,
@@ -30,19 +29,18 @@ pub struct Scope<'a> {
     pub statement: u32,
 }
 
-/// A column that a name stands for.
+/// The column that a name means.
 #[derive(Clone, Copy)]
 pub struct Found {
-    /// Its table of FROM.
+    /// The number of its table in FROM, from 0.
     pub from: u32,
-    /// Its number in the table.
+    /// Its number in the table, from 0.
     pub column: u32,
-    /// Its type.
     pub ty: SqlType,
 }
 
-/// A number of 32 bits. What is past it cannot be held in memory, so that it counts as a
-/// failed allocation.
+/// The number in 32 bits. A list with more entries does not fit in memory, so a larger number is
+/// `NoMemory`.
 pub fn number(index: usize) -> Result<u32, Fault<Mistake>>
     ensures same { AnswersAs (λ n. n) result (Ok index) }
 {

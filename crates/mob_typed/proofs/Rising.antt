@@ -1,10 +1,10 @@
--- Lists that rise.
+-- Sorted lists.
 use Rattle.std.specs.List.{AllByRecursion}
 use Rattle.std.proofs.Common.{◌≡◌, ◌≤◌, ◌<◌, ◌+◌, arith, ℕ, List, [], ◌∷◌, ◌++◌}
 use Rattle.mob_list.proofs.Each.{each_both, each_on}
 use Rattle.mob_typed.specs.Written.{Rises}
 
--- what has one number, and behind it what has later ones
+-- a list whose elements all have the number n, then one whose elements have greater numbers
 module _ {A : Type 0} (R : A → A → Type 0) (number : A → ℕ) (earlier : (x y : A) → number x < number y → R x y) where
   pub both_rise : (n : ℕ) (xs ys : List A) → Rises R xs → AllByRecursion (λ x. number x ≡ n) xs → Rises R ys → AllByRecursion (λ y. n + 1 ≤ number y) ys → Rises R (xs ++ ys)
   both_rise n [] ys h own k later = k

@@ -1,4 +1,4 @@
--- Typed statements and what they are made of cross threads.
+-- Typed statements and their parts cross threads.
 use denote.Param.Send.{IsSend, IsSync, sendable}
 use Rattle.std.proofs.Crossing.{crosses}
 use Rattle.mob_ast.proofs.types.SqlType.TheSendSync.{the_field_send as type_send, the_field_sync as type_sync}
@@ -27,7 +27,7 @@ agg_sync = search (sendable, crosses, type_sync, kind_sync) depth 60 fits 20000
 pub select_sync : IsSync select.the_row
 select_sync = search (sendable, crosses, texpr_sync, agg_sync, items_sync, text_sync) depth 60 fits 20000
 
--- as a part of another value
+-- the same for a field of another value
 pub select_field_send : IsSend (select.the_field).row
 select_field_send = search (sendable, crosses, texpr_send, agg_send, items_send, text_send) depth 60 fits 20000
 

@@ -9,10 +9,9 @@ use Rattle.mob_typed.specs.Trees.{TypedTree, typed_of}
 abbrev pub Output : Type 0
 Output = TypedTree × List ℕ
 
--- A typed SELECT. For each table of FROM, `joins` has the ON of that table, or None where it is not
--- left-joined. For each column of the answer, `aggs` has the aggregate over its expression, where
--- it is one. For each key, `key_items` has the number of the column of the answer that it means by
--- its name behind AS.
+-- A typed SELECT. For each table of FROM, `joins` has its ON, or None if it is not left-joined. For
+-- each column of the answer, `aggs` has the aggregate over its expression, or None. For each key
+-- that is an AS name, `key_items` has the number of that column of the answer.
 pub record TypedSelectParts : Type 0 where
   pub distinct : Bool
   pub items : List Output
@@ -27,7 +26,7 @@ pub record TypedSelectParts : Type 0 where
   pub key_items : List (Option ℕ)
   pub limit : Option ℕ
 
--- the ON of the table of a place of FROM, where it is left-joined
+-- the ON of the table at this position of FROM, if it is left-joined
 abbrev pub on_of : List (Option TypedTree) → ℕ → Option TypedTree
 on_of joins place = option_and_then (λ on. on) (slice_get joins place)
 
@@ -37,7 +36,7 @@ output_of o = (typed_of o.0, o.1)
 abbrev pub key_seen : TExpr × Bool → TypedTree × Bool
 key_seen k = (typed_of k.0, k.1)
 
--- the program's typed SELECT as such a value
+-- the program's typed SELECT as a plain value
 abbrev pub select_seen : TypedSelect → TypedSelectParts
 select_seen s = record {
   distinct = s.distinct;

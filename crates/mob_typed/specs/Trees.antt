@@ -1,4 +1,4 @@
--- Typed trees as plain values, without where they lie in memory: what contracts compare.
+-- Typed trees as plain values, independent of their place in memory. Contracts compare these.
 use Rattle.std.specs.Prelude.{ℕ, List, [], ◌∷◌, map}
 use Rattle.mob_ast.specs.declared.types.SqlType.{SqlType}
 use Rattle.mob_operators.specs.declared.operator.Op.{Op}

@@ -1,9 +1,9 @@
-//! What holds of every typed script. No code runs here.
+//! A law of typed scripts: they cross threads. No code runs here.
 
 use crate::typed::{Agg, ConstText, TExpr, Typed, TypedSelect, TypedStatement};
 use mob_list::laws::crosses_threads;
 
-/// Typed scripts and what they are made of cross threads.
+/// Typed scripts and their parts cross threads.
 pub fn typed_scripts_cross_threads() {
     crosses_threads::<Typed>();
     crosses_threads::<TypedStatement>();

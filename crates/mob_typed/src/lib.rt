@@ -1,4 +1,4 @@
-//! The trees of typed scripts: what `mob_typing` makes of a script. Names are numbers, and each
+//! The trees of typed scripts, which `mob_typing` makes of a script. Names are numbers, and each
 //! expression has its operator, its type and its place.
 #![tactic(auto)]
 

@@ -1,4 +1,4 @@
-//! Typed expressions made of their arguments, and copies of them.
+//! Makes typed expressions from their arguments, and copies them.
 ghost use Rattle.std.specs.Prelude.{◌≡◌, IfOk, map};
 ghost use Rattle.mob_typed.specs.Trees.{typed, typed_of, typed_trees};
 
@@ -19,7 +19,7 @@ pub fn with_args(op: Op, ty: SqlType, place: u32, args: Vec<TExpr>) -> TExpr
     }
 }
 
-/// A second typed tree like this one.
+/// A copy of a typed tree. An error means that an allocation failed.
 #[tactic(auto, using(crate::proofs::TreeFacts::typed_is))]
 pub fn copy_of(alloc: Global, value: &TExpr) -> Result<TExpr, AllocError>
     ensures same { IfOk result (λ t. typed_of t ≡ typed_of value.now) }

@@ -8,9 +8,8 @@ use mob_operators::{AggKind, Op};
 /// A typed expression.
 #[derive(Drop)]
 pub struct TExpr {
-    /// What it does with its arguments.
+    /// The operator that is applied to the arguments.
     pub op: Op,
-    /// Its type.
     pub ty: SqlType,
     /// Its place in the script, in bytes from 0.
     pub place: u32,
@@ -18,12 +17,12 @@ pub struct TExpr {
     pub args: Vec<TExpr>,
 }
 
-/// A constant of the script, which is yet to be read as its type.
+/// A constant of the script, not yet read as a value of its type.
 #[derive(Drop)]
 pub struct ConstText {
-    /// Its type.
     pub ty: SqlType,
-    /// Its text.
+    /// The text to read: a string without its outer quotes, a number, `true` or `false`. A number
+    /// of an INSERT has its sign.
     pub text: Text,
     /// The number of its statement, from 1.
     pub statement: u32,
@@ -31,10 +30,9 @@ pub struct ConstText {
     pub place: u32,
 }
 
-/// What a grouped query makes of the values of an item in each group.
+/// The aggregate of an item of a grouped query, over the values of the item in each group.
 #[derive(Clone, Copy, Debug, PartialEq, Eq)]
 pub struct Agg {
-    /// The aggregate.
     pub kind: AggKind,
     /// The type of its result.
     pub ty: SqlType,
@@ -51,74 +49,72 @@ pub struct TypedSelect {
     pub items: Items<(TExpr, Text)>,
     /// The numbers of the tables of FROM.
     pub from: Items<u32>,
-    /// The names that the tables of FROM go by.
+    /// For each table of FROM its name in this SELECT: the alias, if it has one.
     pub names: Items<Text>,
-    /// The ON of each table of FROM, a bool; None for a table that is not left-joined.
+    /// The ON of each table of FROM, of type bool; `None` for a table that is not left-joined.
     pub joins: Items<Option<TExpr>>,
-    /// The condition of WHERE, a bool.
+    /// The condition of WHERE, of type bool.
     pub cond: Option<TExpr>,
     /// Whether the query is grouped: it has GROUP BY or an aggregate.
     pub grouped: bool,
-    /// The columns of GROUP BY.
+    /// The columns of GROUP BY; empty without it.
     pub groups: Items<TExpr>,
-    /// For each column of the answer, the aggregate over its expression, or None. The expression of
-    /// `count(*)` is NULL and is not evaluated.
+    /// For each column of the answer, the aggregate over its expression, or `None`. The expression
+    /// of `count(*)` is NULL and is not evaluated.
     pub aggs: Items<Option<Agg>>,
-    /// The keys of ORDER BY; true for DESC.
+    /// The keys of ORDER BY; true means DESC.
     pub keys: Items<(TExpr, bool)>,
-    /// For each key that is an AS name, the number of its column of the answer, from 0; else None.
-    /// In a grouped query such a key has the value of that column, and its own expression is not
-    /// evaluated.
+    /// For each key that is an AS name, the number of its column of the answer, from 0; else
+    /// `None`. In a grouped query such a key has the value of that column, and its own expression
+    /// is not evaluated.
     pub key_items: Items<Option<u32>>,
-    /// How many rows there are at most.
+    /// The greatest number of rows of the answer; `None` without LIMIT.
     pub limit: Option<u64>,
 }
 
 /// A typed statement. Tables, columns and constants are numbers from 0.
 #[derive(Drop)]
 pub enum TypedStatement {
-    /// Nothing.
+    /// An empty statement.
     Empty,
     /// A new table.
     CreateTable {
-        /// Its number: how many tables were made before.
+        /// Its number, from 0: how many tables the script made before.
         table: u32,
-        /// Its name.
         name: Text,
         /// Its columns, each with its type.
         columns: Items<(Text, SqlType)>,
     },
     /// A new index on a column of type tgeompoint.
     CreateIndex {
-        /// The table.
+        /// The number of the table.
         table: u32,
-        /// The column.
+        /// The number of the column in the table.
         column: u32,
         /// The name of the index.
         name: Text,
     },
     /// New rows.
     Insert {
-        /// The table.
+        /// The number of the table.
         table: u32,
-        /// The rows: for each column the number of a constant, or None for NULL.
+        /// The rows: for each column the number of a constant, or `None` for NULL.
         rows: Items<Items<Option<u32>>>,
-        /// The place of each row's opening bracket.
+        /// The place of each row's opening bracket, in bytes from 0.
         places: Items<u32>,
     },
     /// New rows from a file.
     Copy {
-        /// The table.
+        /// The number of the table.
         table: u32,
-        /// The name of the file.
         file: Text,
     },
-    /// Deleted rows: those of the one table of FROM that meet the condition. The answer has no
+    /// Deletes the rows of the one table of FROM that meet the condition. The answer has no
     /// columns.
     Delete(TypedSelect),
     /// A query.
     Select(TypedSelect),
-    /// A query whose plan is asked for.
+    /// A query whose plan is printed.
     Explain(TypedSelect),
 }
 

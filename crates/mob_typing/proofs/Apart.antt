@@ -1,4 +1,4 @@
--- Distinct names stay distinct with a new one behind them.
+-- Appending a new name to distinct names keeps them distinct.
 use Rattle.std.proofs.Common.{◌≡◌, refl, sym, subst, ℕ, ◌+◌, List, [], ◌∷◌, ◌++◌, map, Bool, true, false, cond, ◌||◌, Some}
 use Rattle.std.proofs.lemmas.Bool.{or_parts}
 use Rattle.std.specs.Prelude.{is_some}
@@ -33,7 +33,7 @@ none_named {A} n (e ∷ es) name h = by (bytes_eq name e.0) h (none_named (n + 1
     by true so later = absurd (cc)
     by false so later = later so
 
--- entries of distinct names, and one of a new name
+-- entries with distinct names, and one more with a new name
 pub entry_last : {A : Type 0} (es : List (List ℕ × A)) (name : List ℕ) (x : A) → IsDistinct bytes_eq (map (λ e. e.0) es) → has_entry es name ≡ false → IsDistinct bytes_eq (map (λ e. e.0) (es ++ (name, x) ∷ []))
 entry_last {A} es name x h new =
     subst (IsDistinct bytes_eq) (sym (map-append (λ (e : List ℕ × A). e.0) es ((name, x) ∷ []))) (name_last (map (λ (e : List ℕ × A). e.0) es) name h (none_named 0 es name new))

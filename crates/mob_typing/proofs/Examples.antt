@@ -1,4 +1,4 @@
--- Worked examples of what typing guarantees, and of what it excludes.
+-- Examples of what typing guarantees and what it excludes.
 use Rattle.std.proofs.Common.{◌≡◌, ◌+◌, ◌^◌, ◌-◌, refl, sym, subst, arith, ℕ, zero, suc, List, [], ◌∷◌, ◌++◌, Bool, true, false, cond, ◌&&◌, ◌||◌, length, codes, Option, Some, None}
 use Rattle.std.specs.Prelude.{IfSome, not, option_map, option_and_then}
 use Rattle.std.specs.List.{Contains, IsDistinct, list_all}
@@ -21,7 +21,7 @@ use Rattle.mob_typing.specs.Stands.{IsHeldIn}
 use Rattle.mob_typing.specs.WellTyped.{IsNumberLiteral, the_number, behind_minus, HasDivisor, HasOperatorRow, IsOperated, HasDistinctNames}
 use Rattle.mob_typing.proofs.OperatorRows.{line_passes, first_passes}
 
--- SELECT b: a place that the one tree does not hold, as that of the blank, is the place of no
+-- SELECT b: a place that the one tree does not hold, such as that of the blank, is not that of a
 -- refusal
 the_select : StatementParts
 the_select = select (record { distinct = false; items = one (tree (node.Column None (record { text = codes "b"; place = 7 })) 7 no_trees) None ∷ []; from = []; cond = None; groups = []; keys = []; limit = None })
@@ -42,7 +42,7 @@ blank_holds_nothing h = by (held_by_one the_select 6 h)
     by (suc zero, below, is) = absurd (omega (arith, is))
     by (suc (suc k), below, is) = absurd (omega (arith, below))
 
--- the sum of an int and a tgeompoint is no bool, nor anything else
+-- the sum of an int and a tgeompoint has no type
 a_sum : TypedTree
 a_sum = typed op.Add sql.Bool 9 (more (typed (op.Const 0) sql.Int 7 none) (more (typed (op.Const 1) sql.TPoint 11 none) none))
 
@@ -89,14 +89,14 @@ by_minus_two : HasOperatorRow two_numbers op.Divide sql.Numeric (more (typed (op
 unfolding two_numbers table
 by_minus_two = record { form = form.Sign; name = codes "/"; row = refl; divisor = λ division. (codes "2", behind_minus (the_number (refl, refl)), refl) }
 
--- a column is no divisor
+-- a column is not a divisor
 no_number : (consts : List ConstText) (text : List ℕ) (f k p : ℕ) (ty : SqlType) → IsNumberLiteral consts text (typed (op.Column f k) ty p none) → ⊥
 no_number consts text f k p ty h = elim h [ ]
 
 by_no_column : (consts : List ConstText) (f k p : ℕ) (ty : SqlType) (a : TypedTree) → HasDivisor consts (more a (more (typed (op.Column f k) ty p none) none)) → ⊥
 by_no_column consts f k p ty a h = no_number consts h.0 f k p ty h.1
 
--- two tables of one name
+-- two tables with one name
 one_name_twice : HasDistinctNames (record { statements = new_table 0 (codes "t") [] ∷ new_table 1 (codes "t") [] ∷ []; consts = [] }) → ⊥
 unfolding IsDistinct
 one_name_twice h = let other = h.tables.0.0 in absurd (cc)

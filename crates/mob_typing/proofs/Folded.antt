@@ -1,11 +1,11 @@
--- A list that is taken in entry by entry, or what is wrong first.
+-- A list that is processed entry by entry, up to its end or the first mistake.
 use Rattle.std.proofs.Common.{◌≡◌, ◌∙◌, ◌<◌, ◌≤◌, ◌+◌, sym, ap, ℕ, List, [], ◌∷◌, length, drop, get_or, Result, Ok}
 use Rattle.std.proofs.lemmas.List.{drop_more, drop_all}
 use Rattle.mob_list.specs.declared.fault.Fault.{Fault}
 use Rattle.mob_scope.specs.Answers.{Mistake, ◌>>=◌, StopsTyping}
 use Rattle.mob_expression.proofs.Wrongs.{fails_along, fails_bind}
 
--- the entries before the one of this number are taken in
+-- the entries before this position are processed
 module _ {X S : Type 0} (step : S → X → Result S Mistake) (steps : S → List X → Result S Mistake) (more : (o : S) (x : X) (xs : List X) → steps o (x ∷ xs) ≡ (step o x >>= λ p. steps p xs)) (none : (o : S) → steps o [] ≡ Ok o)
     (xs : List X) (i : ℕ) (o : S) (whole : Result S Mistake) (so_far : whole ≡ steps o (drop i xs)) where
   module _ (x : X) (within : i < length xs) (at : x ≡ get_or xs i x) where

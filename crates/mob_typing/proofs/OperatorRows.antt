@@ -1,5 +1,5 @@
--- What the table of operators gives: no leaf and no cast, a division by a number literal alone, and
--- for a sign before one argument the operator that keeps or turns its sign.
+-- What the table of operators gives: no leaf and no cast; a division only by a number literal; and
+-- for a sign before one argument an operator that keeps a number literal.
 use Rattle.std.proofs.Common.{◌≡◌, ◌∙◌, refl, sym, ap, subst, inl, inr, ℕ, List, [], ◌∷◌, Bool, true, false, cond, ◌&&◌, ◌||◌, Option, Some, None}
 use Rattle.std.proofs.lemmas.Bool.{and_parts}
 use Rattle.std.specs.Prelude.{◌⊎◌, IfSome, not, option_map, option_and_then, codes}
@@ -29,7 +29,7 @@ use Rattle.mob_typing.proofs.Sound.{types_are}
 abbrev Answer : Type 0
 Answer = Op × SqlType
 
--- what holds of each operator that a line names holds of what it gives
+-- a property of each operator that a line names is one of the operator that the line gives
 module _ (P : Op → Bool) where
   abbrev Passes : Option Answer → Type 0
   Passes o = IfSome o (λ a. P a.0 ≡ true)
@@ -60,7 +60,7 @@ module _ (P : Op → Bool) where
       by true (Some o) own = by_test o (takes l ts literal) own
       by false o own = tt
 
--- what holds of what each line gives holds of what the table gives
+-- a property of what each line gives is one of what the table gives
 pub first_passes : (P : Op → Bool) (ls : List Line) (f : Form) (name : List ℕ) (ts : List SqlType) (literal : Bool) (each : Line → Bool) → ((l : Line) → each l ≡ true → Passes P (answer_of l f name ts literal)) → list_all each ls ≡ true → Passes P (found_in ls f name ts literal)
 first_passes P [] f name ts literal each own h = tt
 first_passes P (l ∷ ls) f name ts literal each own h =
@@ -71,7 +71,7 @@ first_passes P (l ∷ ls) f name ts literal each own h =
     by None own others = others
     by (Some a) own others = own
 
--- an operator of the table is no leaf and no cast
+-- an operator of the table is neither a leaf nor a cast
 abbrev pub is_of_table : Op → Bool
 is_of_table op.Null = false
 is_of_table (op.Const k) = false
@@ -89,7 +89,7 @@ table_is_of_table = refl
 pub found_of_table : (f : Form) (name : List ℕ) (ts : List SqlType) (literal : Bool) → IfSome (found_in table f name ts literal) (λ a. is_of_table a.0 ≡ true)
 found_of_table f name ts literal = first_passes is_of_table table f name ts literal line_is_of_table (λ l h. line_passes is_of_table l f name ts literal h) table_is_of_table
 
--- so it names nothing by a number, and what it is by its arguments is that it has its row
+-- so it names nothing by a number, and it fits its arguments if it has its row
 pub names_nothing : (tables : List ColumnList) (from : List ℕ) (cs : List ConstText) (o : Op) (ty : SqlType) → is_of_table o ≡ true → HasNamedType tables from cs o ty
 names_nothing tables from cs (op.Const k) ty h = absurd (cc)
 names_nothing tables from cs (op.Column f k) ty h = absurd (cc)
@@ -106,7 +106,7 @@ row_fits cs op.Null ty args h row = absurd (cc)
 row_fits cs op.Cast ty args h row = absurd (cc)
 row_fits cs _ ty args h row = row
 
--- a line that asks for a number literal is of divisions alone, and every other line of none
+-- a line that needs a number literal has only divisions, and every other line has none
 abbrev not_division : Op → Bool
 not_division o = not (is_division o)
 
@@ -126,7 +126,7 @@ ends_false true = refl
 ends_false false = refl
 
 module _ (f : Form) (name : List ℕ) (ts : List SqlType) where
-  -- what a line answers by whether it takes its arguments
+  -- the answer of a line, depending on whether it takes its arguments
   abbrev answer_by : Line → Bool → Option Answer
   answer_by l b = option_and_then (λ x. cond b (option_map (λ ty. (x, ty)) (given l.gives ts)) None) (operator_in l f name)
 
@@ -137,7 +137,7 @@ module _ (f : Form) (name : List ℕ) (ts : List SqlType) where
       by None = refl
       by (Some x) = refl
 
-  -- without a literal a line that asks for one gives nothing, and every other gives what it gives
+  -- without a literal a line that needs one gives nothing, and every other line gives the same as
   -- with one
   abbrev WithoutLiteral : Line → Type 0
   WithoutLiteral l = ((answer_of l f name ts false ≡ None) × Passes is_division (answer_of l f name ts true)) ⊎ ((answer_of l f name ts true ≡ answer_of l f name ts false) × Passes not_division (answer_of l f name ts false))
@@ -159,7 +159,7 @@ module _ (f : Form) (name : List ℕ) (ts : List SqlType) where
       by l (inl w) = subst (Passes not_division) (sym w.0) tt
       by l (inr w) = w.1
 
-  -- what is no division is found without a literal where it is found with one
+  -- an operator other than a division is found without a literal if it is found with one
   abbrev AsWell : List Line → Answer → Type 0
   AsWell ls a = found_in ls f name ts true ≡ Some a → found_in ls f name ts false ≡ Some a
 
@@ -181,7 +181,7 @@ module _ (f : Form) (name : List ℕ) (ts : List SqlType) where
       by (inl w) rest = ap (λ x. option_or x (found_in ls f name ts false)) w.0 ∙ off (answer_of l f name ts true) w.1 rest is
       by (inr w) rest = on (answer_of l f name ts false) rest (ap (λ x. option_or x (found_in ls f name ts true)) (sym w.0) ∙ is)
 
--- an operator that is found on typed operands has its row
+-- an operator that is found for typed operands has its row
 pub has_row : (cs : List ConstText) (f : Form) (name : List ℕ) (ts : List TypedTree) (literal : Bool) (a : Op × SqlType) → found_in table f name (types_of ts) literal ≡ Some a
     → (literal ≡ true → is_division a.0 ≡ true → HasDivisor cs (typed_trees ts)) → HasOperatorRow cs a.0 a.1 (typed_trees ts)
 has_row cs f name ts literal a is divisor = by literal (is_division a.0) refl refl
@@ -202,7 +202,7 @@ has_row cs f name ts literal a is divisor = by literal (is_division a.0) refl re
         none_other true so other without = absurd (cc)
         none_other false so other without = record { form = f; name = name; row = found_so false so without; divisor = λ division. absurd (cc) }
 
--- an operator that keeps a number or turns its sign
+-- an operator that keeps a number or changes its sign
 abbrev pub keeps_number : Op → Bool
 keeps_number op.Negate = true
 keeps_number op.Same = true
@@ -211,7 +211,7 @@ keeps_number _ = false
 abbrev KeepsNumber : Option (Op × SqlType) → Type 0
 KeepsNumber o = IfSome o (λ a. keeps_number a.0 ≡ true)
 
--- a `-` or `+` before one argument is such an operator, whatever the type
+-- a `-` or `+` before one argument is such an operator, for every type
 minus_keeps : (ty : SqlType) → KeepsNumber (found_in table form.Sign (codes "-") (ty ∷ []) false)
 unfolding table
 minus_keeps sql.Int = refl
@@ -231,7 +231,7 @@ sign_keeps g ty h = by (bytes_eq g (codes "-")) refl h
     by true minus h = subst (λ s. KeepsNumber (found_in table form.Sign s (ty ∷ []) false)) (sym ((bytes_eq-Decides g (codes "-")).0 minus)) (minus_keeps ty)
     by false other plus = subst (λ s. KeepsNumber (found_in table form.Sign s (ty ∷ []) false)) (sym ((bytes_eq-Decides g (codes "+")).0 plus)) (plus_keeps ty)
 
--- behind such an operator a number literal stays one
+-- a number literal after such an operator is still one
 pub behind_sign : (cs : List ConstText) (text : List ℕ) (t : TypedTree) (o : Op) (ty : SqlType) (p : ℕ) → keeps_number o ≡ true → IsNumberLiteral cs text t → IsNumberLiteral cs text (typed o ty p (more t none))
 behind_sign cs text t op.Negate ty p h is = behind_minus is
 behind_sign cs text t op.Same ty p h is = behind_plus is

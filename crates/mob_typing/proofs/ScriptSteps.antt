@@ -1,4 +1,4 @@
--- Statements that are typed, and behind them the others.
+-- The statements typed so far, and those that follow.
 use Rattle.std.proofs.Common.{◌≡◌, ◌∙◌, ◌<◌, ◌+◌, refl, sym, ap, inl, inr, ℕ, List, [], ◌∷◌, ◌++◌, length, map, drop, get_or, Result, Ok, Err}
 use Rattle.std.proofs.lemmas.List.{drop_more}
 use Rattle.mob_ast.specs.declared.refusal.Kind.{Kind}
@@ -13,7 +13,7 @@ use Rattle.mob_scope.specs.Answers.{Mistake, StopsTyping}
 use Rattle.mob_typing.specs.Names.{NameLists}
 use Rattle.mob_typing.specs.Statements.{Made, in_statement, or_refused, put_statement, typed_statement, typed_from, IsTypingRefusal, refusal_of}
 
--- these statements, and behind them those of a script
+-- these statements, and those of a script after them
 abbrev pub behind_script : List StatementOut → Result ScriptOut Refusal → Result ScriptOut Refusal
 behind_script [] r = r
 behind_script (s ∷ ss) r = or_refused (behind_script ss r) (λ out. Ok (put_statement s out))

@@ -1,4 +1,4 @@
--- What is sound stays so beside more constants, and behind its numbers stands what they name.
+-- Soundness survives the appending of constants, and numbers keep naming what they name.
 use Rattle.std.proofs.Common.{◌≡◌, ◌∙◌, ◌+◌, refl, sym, ap, arith, subst, ℕ, zero, suc, List, [], ◌∷◌, ◌++◌, append_assoc, length, length-append, map, Bool, true, false, ◌&&◌, cond, Option, Some, None}
 use Rattle.std.specs.Prelude.{IfSome, slice_get, option_map}
 use Rattle.std.specs.List.{AllByRecursion, AllZip}
@@ -19,7 +19,7 @@ use Rattle.mob_typing.specs.Stands.{operators_in, operators_among}
 use Rattle.mob_typing.specs.WellTyped.{constant_type, HasNamedType, HasNamedTypes, AllHaveNamedTypes, IsNumberLiteral, the_number, behind_minus, behind_plus, HasDivisor, HasOperatorRow, FitsArguments, IsOperated, AreOperated, expressions_of, IsGroup, IsOfColumn, IsTypedQuery, IsTypedStatement}
 use Rattle.mob_typing.proofs.Walk.{Stays, all_stay}
 
--- what stands at a number of a list stands there in a longer one
+-- the element at a position of a list is also there in a longer one
 pub slice_more : {A : Type 0} (xs more : List A) (k : ℕ) (x : A) → slice_get xs k ≡ Some x → slice_get (xs ++ more) k ≡ Some x
 slice_more [] more k x h = absurd (cc)
 slice_more (y ∷ xs) more zero x h = h
@@ -29,7 +29,7 @@ pub slice_seam : {A : Type 0} (xs ys : List A) (x : A) → slice_get (xs ++ x �
 slice_seam [] ys x = refl
 slice_seam (y ∷ xs) ys x = slice_seam xs ys x
 
--- what stands at a number of a list stands behind others at that number and theirs
+-- the element at a position of a list, after other elements
 pub slice_behind : {A : Type 0} (xs ys : List A) (k : ℕ) (y : A) → slice_get ys k ≡ Some y → slice_get (xs ++ ys) (length xs + k) ≡ Some y
 slice_behind [] ys k y h = let e : 0 + k ≡ k = omega arith in ap (λ n. slice_get ys n) e ∙ h
 slice_behind (x ∷ xs) ys k y h = let e : length (x ∷ xs) + k ≡ suc (length xs + k) = omega arith in ap (λ n. slice_get (x ∷ (xs ++ ys)) n) e ∙ slice_behind xs ys k y h
@@ -39,11 +39,11 @@ slice_map f [] k x h = absurd (cc)
 slice_map f (y ∷ xs) zero x h = let same : y ≡ x = cc in ap (λ z. Some (f z)) same
 slice_map f (y ∷ xs) (suc k) x h = slice_map f xs k x h
 
--- this entry, with its number, stands among these
+-- this entry is in the list, at its number
 abbrev pub StandsIn : {A : Type 0} → List (List ℕ × A) → ℕ × A → Type 0
 StandsIn {A} all e = (found : List ℕ × A) × (slice_get all e.0 ≡ Some found) × (found.1 ≡ e.1)
 
--- the entry of a name stands at its number
+-- the entry with a name is at its number
 pub entry_stands : {A : Type 0} (before es : List (List ℕ × A)) (name : List ℕ) (e : ℕ × A) → entry_from (length before) es name ≡ Some e → StandsIn (before ++ es) e
 entry_stands before [] name e h = absurd (cc)
 entry_stands {A} before (x ∷ es) name e h = by (bytes_eq name x.0) refl (entry_stands (before ++ x ∷ []) es name e)
@@ -57,7 +57,7 @@ entry_stands {A} before (x ∷ es) name e h = by (bytes_eq name x.0) refl (entry
         let behind : entry_from (length before + 1) es name ≡ Some e = sym (ap (λ b. cond b (Some (length before, x.1)) (entry_from (length before + 1) es name)) is) ∙ h in
         subst (λ all. StandsIn all e) (append_assoc before (x ∷ []) es) (later (ap (λ n. entry_from n es name) (length-append before (x ∷ [])) ∙ behind))
 
--- soundness beside more constants
+-- soundness after more constants
 module _ {A : Type 0} (f : ConstText → A) where
   pub part_stays : (y : A) (k : ℕ) (cs more : List ConstText) → option_map f (slice_get cs k) ≡ Some y → option_map f (slice_get (cs ++ more) k) ≡ Some y
   part_stays y k cs more h = by (slice_get cs k) refl
@@ -93,8 +93,8 @@ module _ (tables : List ColumnList) (from : List ℕ) where
   operands_hold cs [] h = tt
   operands_hold cs (t ∷ ts) h = (h.0, operands_hold cs ts h.1)
 
--- an expression is sound: its leaves name what is there, its operators have their rows, they stand
--- at such places, and it names tables of FROM from a first one on, before another one
+-- an expression is sound: its leaves name what exists, its operators have their rows and are at
+-- such places, and it names tables of FROM from `first` on and before `past`
 pub record IsSound (At : ℕ → Type 0) (tables : List ColumnList) (from : List ℕ) (first past : ℕ) (cs : List ConstText) (t : TypedTree) : Type 0 where
   pub named : HasNamedTypes tables from cs t
   pub operated : IsOperated cs t
@@ -114,7 +114,7 @@ pub all_below : (past : ℕ) (ts : List TypedTree) → AllByRecursion (λ t. nam
 all_below past [] h = refl
 all_below past (t ∷ ts) h = both_true (names_before past t) (all_name_before past (typed_trees ts)) h.0 (all_below past ts h.1)
 
--- a number literal stays one
+-- a number literal is still one after more constants
 pub literal_stays : (text : List ℕ) (cs more : List ConstText) {t : TypedTree} → IsNumberLiteral cs text t → IsNumberLiteral (cs ++ more) text t
 literal_stays text cs more (the_number {k} is) = the_number (part_stays (λ (c : ConstText). c.text) text k cs more is.0, constant_stays (number_type text) k cs more is.1)
 literal_stays text cs more (behind_minus h) = behind_minus (literal_stays text cs more h)
@@ -126,7 +126,7 @@ divisor_stays none cs more h = absurd h
 divisor_stays (more_trees a none) cs more h = absurd h
 divisor_stays (more_trees a (more_trees b (more_trees c ts))) cs more h = absurd h
 
--- a node stays as it is by its arguments
+-- a node still fits its arguments after more constants
 row_stays_so : (o : Op) (ty : SqlType) (args : TypedTrees) (cs more : List ConstText) → HasOperatorRow cs o ty args → HasOperatorRow (cs ++ more) o ty args
 row_stays_so o ty args cs more h = record { form = h.form; name = h.name; row = h.row; divisor = λ division. divisor_stays args cs more (h.divisor division) }
 
@@ -170,7 +170,7 @@ row_stays [] (v ∷ vs) cs more h = h
 row_stays (c ∷ columns) [] cs more h = h
 row_stays (c ∷ columns) (v ∷ vs) cs more h = (value_stays c v cs more h.0, row_stays columns vs cs more h.1)
 
--- an expression is a bool whose leaves name what is there, where there is one
+-- an optional expression is a bool whose leaves name what exists
 abbrev IsNamedBool : List ColumnList → List ℕ → List ConstText → Option TypedTree → Type 0
 IsNamedBool tables from cs c = IfSome c (λ t. HasNamedTypes tables from cs t × (is_bool (type_of t) ≡ true))
 

@@ -1,5 +1,5 @@
--- The walk over what typing answers: what holds of what a step gives, and the place at which it
--- stops.
+-- The walk over the answers of typing: what holds of a value that is given, and of the place of a
+-- mistake.
 use Rattle.std.proofs.Common.{◌≡◌, ◌∙◌, refl, sym, ap, subst, ℕ, List, [], ◌∷◌, ◌++◌, map, append_assoc, append-nil, Bool, true, false, Option, Some, None, Result, Ok, Err}
 use Rattle.std.specs.Prelude.{not}
 use Rattle.std.specs.List.{AllByRecursion}
@@ -11,18 +11,18 @@ use Rattle.mob_typed.specs.declared.typed.ConstText.{ConstText}
 use Rattle.mob_list.proofs.Each.{each_both, each_on}
 use Rattle.mob_scope.specs.Answers.{Mistake, ◌>>=◌, unless, found}
 
--- an answer gives what has this property, or stops at such a place
+-- an answer has a value with this property, or a mistake at such a place
 pub data GivesOrStops {A : Type 0} (At : ℕ → Type 0) (Gives : A → Type 0) : Result A Mistake → Type 0 where
   gives : {x : A} → Gives x → GivesOrStops At Gives (Ok x)
   stops : {w : Mistake} → At w.place → GivesOrStops At Gives (Err w)
 
--- one answer, and then what follows from what it gives
+-- one answer, and then the one that depends on its value
 pub then : {A B : Type 0} {At : ℕ → Type 0} {Q : A → Type 0} {P : B → Type 0} {r : Result A Mistake} {f : A → Result B Mistake}
     → GivesOrStops At Q r → ((x : A) → Q x → GivesOrStops At P (f x)) → GivesOrStops At P (r >>= f)
 then (gives {x} q) k = k x q
 then (stops at) k = stops at
 
--- what is given has another property too
+-- the value has another property too
 pub also : {A : Type 0} {At : ℕ → Type 0} {Q P : A → Type 0} {r : Result A Mistake} → GivesOrStops At Q r → ((x : A) → Q x → P x) → GivesOrStops At P r
 also (gives {x} q) on = gives (on x q)
 also (stops at) on = stops at
@@ -36,7 +36,7 @@ module _ {At : ℕ → Type 0} where
   finds kind p None at = stops at
   finds kind p (Some x) at = gives refl
 
--- a test that is denied holds
+-- a test whose negation is false holds
 pub not_false : (b : Bool) → not b ≡ false → b ≡ true
 not_false true h = refl
 not_false false h = absurd (cc)
@@ -47,8 +47,8 @@ Belongs n c = c.statement ≡ n
 abbrev pub places_of : List ConstText → List ℕ
 places_of cs = map (λ c. c.place) cs
 
--- the constants after a step are those before it and new ones, which belong to statement n and
--- stand at places among ps
+-- the constants after a step are those before it and new ones, which belong to statement n and are
+-- at places among ps
 pub record Adds (n : ℕ) (ps : List ℕ) (before after : List ConstText) : Type 0 where
   pub new : List ConstText
   pub is : after ≡ before ++ new
@@ -72,13 +72,13 @@ adds_both {n} {ps} {qs} {a} h k = record {
   within = subst (λ qs'. IsWithin qs' (ps ++ qs)) (sym (map-append (λ c. c.place) h.new k.new)) (within_both h.within k.within);
 }
 
--- a step of statement n gives what is sound beside the constants after it, and adds to those before
--- it literals at places among ps
+-- a step of statement n gives a value that is sound with the constants after it, and appends
+-- literals at places among ps
 pub record Steps {A : Type 0} (n : ℕ) (ps : List ℕ) (Sound : List ConstText → A → Type 0) (before : List ConstText) (x : A × List ConstText) : Type 0 where
   pub adds : Adds n ps before x.1
   pub sound : Sound x.1 x.0
 
--- what is sound stays so beside more constants
+-- a sound value is still sound after more constants
 abbrev pub Stays : {A : Type 0} → (List ConstText → A → Type 0) → Type 0
 Stays {A} Sound = (x : A) (cs more : List ConstText) → Sound cs x → Sound (cs ++ more) x
 

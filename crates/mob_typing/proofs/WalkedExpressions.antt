@@ -1,6 +1,6 @@
--- The walk over expressions: their literals are gathered in written order, their leaves name what
--- is there, their operators have their rows, and what is refused, and each operator, is so at a
--- place of the tree.
+-- The walk over expressions. Their literals are gathered in written order, their leaves name what
+-- exists, and their operators have their rows. Each operator and each mistake is at a place of the
+-- tree.
 use Rattle.std.specs.Prelude.{IfSome, nat_le, nat_lt, not, codes, is_some, slice_get, option_map, option_and_then}
 use Rattle.std.specs.List.{AllByRecursion}
 use Rattle.std.proofs.Common.{◌≡◌, ◌<◌, ◌∙◌, ◌+◌, arith, refl, sym, ap, subst, ℕ, List, [], ◌∷◌, ◌++◌, append_assoc, length, length-append, map, Bool, true, false, cond, Option, Some, None, Ok}
@@ -43,7 +43,7 @@ use Rattle.mob_typing.proofs.Walk.{GivesOrStops, gives, stops, then, also, passe
 use Rattle.mob_typing.proofs.OperatorRows.{is_of_table, found_of_table, names_nothing, reads_nothing, row_fits, division_alone, has_row, own_cast, keeps_number, sign_keeps, behind_sign}
 use Rattle.mob_typing.proofs.Sound.{slice_more, slice_behind, slice_map, slice_seam, both_true, all_above, all_below, entry_stands, part_here, constant_here, literal_stays, operands_hold, all_operated, all_placed, types_are, IsSound, sound_stays}
 
--- the tables of FROM are those of their numbers
+-- the tables of FROM exist under their numbers
 abbrev pub AreThere : List ColumnList → List (List ℕ × ScopeTableParts) → Type 0
 AreThere tables from = AllByRecursion (λ s. slice_get tables s.1.table ≡ Some s.1.columns) from
 
@@ -95,7 +95,7 @@ module _ (At : ℕ → Type 0) (tables : List ColumnList) (seen : List (List ℕ
       let entry = entry_stands [] seen t.text f at in
       gives (found_there f.0 entry.0 c.text k entry.1 (ap (λ (x : ScopeTableParts). column_of x.columns c.text) entry.2 ∙ is))))
 
--- what an expression sees is a part of the tables of FROM, from its first on
+-- an expression sees a part of the tables of FROM, from its first table on
 pub record IsPart (all : List (List ℕ × ScopeTableParts)) (s : ScopeParts) : Type 0 where
   pub before : List (List ℕ × ScopeTableParts)
   pub behind : List (List ℕ × ScopeTableParts)
@@ -112,7 +112,7 @@ module _ (At : ℕ → Type 0) (tables : List ColumnList) (all : List (List ℕ 
   abbrev Holds : List ConstText → TypedTree → Type 0
   Holds cs t = IsSound At tables from s.first past cs t
 
-  -- and what has these digits is a number literal of this text
+  -- an expression with these digits is a number literal with this text
   abbrev Reads : Option (List ℕ) → List ConstText → TypedTree → Type 0
   Reads digits cs t = Holds cs t × IfSome digits (λ text. IsNumberLiteral cs text t)
 
@@ -122,7 +122,7 @@ module _ (At : ℕ → Type 0) (tables : List ColumnList) (all : List (List ℕ 
   ReadAs (more_trees t us) cs (x ∷ xs) = Reads (digits_of t) cs x × ReadAs us cs xs
   ReadAs _ cs _ = ⊥
 
-  -- a column that is found has its type, and is one of a table that is seen
+  -- a column that is found has its type, and is in a table that the expression sees
   abbrev pub IsFound : Found → Type 0
   IsFound f = (from_type tables from f.from f.column ≡ Some f.ty) × ((nat_le s.first f.from ≡ true) × (nat_lt f.from past ≡ true))
 
@@ -132,7 +132,7 @@ module _ (At : ℕ → Type 0) (tables : List ColumnList) (all : List (List ℕ 
       Named : List ℕ × ScopeTableParts → Type 0
       Named x = slice_get tables x.1.table ≡ Some x.1.columns
 
-  -- the number of a table that is seen, in FROM
+  -- the number in FROM of a table that the expression sees
   number_seen : (n : ℕ) (t : ℕ) → slice_get (numbers_of s.from) n ≡ Some t → slice_get from (s.first + n) ≡ Some t
   number_seen n t at =
       let number : List ℕ × ScopeTableParts → ℕ = λ x. x.1.table in
@@ -155,7 +155,8 @@ module _ (At : ℕ → Type 0) (tables : List ColumnList) (all : List (List ℕ 
   pub column_walked : (t : Option Word) (c : Word) → AllByRecursion At (c.place ∷ word_held t) → GivesOrStops At IsFound (column_named s t c)
   column_walked t c h = then (among_walked At tables s.from seen_there t c h) (λ f is. gives (found_in_from f is))
 
-  -- what is typed before its operands adds its literals; where nothing is settled, nothing is added
+  -- what is typed before its operands appends its literals; if nothing is typed early, nothing is
+  -- appended
   abbrev Settled : Option (List ℕ) → List ℕ → List ConstText → Option TypedTree → List ConstText → Type 0
   Settled digits ps cs None ds = ds ≡ cs
   Settled digits ps cs (Some t) ds = Steps s.statement ps (Reads digits) cs (t, ds)
@@ -215,7 +216,7 @@ module _ (At : ℕ → Type 0) (tables : List ColumnList) (all : List (List ℕ 
   operands_read (more_trees t us) cs [] h = absurd h
   operands_read (more_trees t us) cs (x ∷ xs) h = (h.0.0, operands_read us cs xs h.1)
 
-  -- and what is made of them is so by its own node
+  -- a node over such operands is sound
   node_sound : (o : Op) (ty : SqlType) (p : ℕ) (args : Trees) (cs : List ConstText) (ts : List TypedTree) → ReadAs args cs ts → HasNamedType tables from cs o ty → (reads_from s.first o ≡ true) × (reads_before past o ≡ true) → FitsArguments cs o ty (typed_trees ts) → At p → Holds cs (typed o ty p (typed_trees ts))
   node_sound o ty p args cs ts h own reads fits at =
       let all = operands_read args cs ts h in
@@ -227,7 +228,7 @@ module _ (At : ℕ → Type 0) (tables : List ColumnList) (all : List (List ℕ 
         below = both_true (reads_before past o) (all_name_before past (typed_trees ts)) reads.1 (all_below past ts (each_on (Holds cs) (λ t. names_before past t ≡ true) (λ t g. g.below) ts all));
       }
 
-  -- the second of two operands is a number literal that is 0 or not, where there is one
+  -- the second of two operands, if there are two, is a number literal that is 0 or not
   abbrev IsDivisor : List ConstText → Option Bool → List TypedTree → Type 0
   IsDivisor cs None ts = Unit {0}
   IsDivisor cs (Some zero) ts = zero ≡ false → HasDivisor cs (typed_trees ts)
@@ -245,7 +246,7 @@ module _ (At : ℕ → Type 0) (tables : List ColumnList) (all : List (List ℕ 
   divisor_read (more_trees a (more_trees b no_trees)) cs (x ∷ y ∷ z ∷ ts) h = absurd h.1.1
   divisor_read (more_trees a (more_trees b (more_trees c us))) cs ts h = tt
 
-  -- what an operator gives on typed operands
+  -- what an operator gives for typed operands
   record IsApplied (f : Form) (name : List ℕ) (p : ℕ) (divisor : Option Bool) (ts : List TypedTree) (cs : List ConstText) (t : TypedTree) : Type 0 where
     answer : Op × SqlType
     row : found_in table f name (types_of ts) (is_some divisor) ≡ Some answer
@@ -275,7 +276,7 @@ module _ (At : ℕ → Type 0) (tables : List ColumnList) (all : List (List ℕ 
             holds = node_sound a.0 a.1 p args cs ts h (names_nothing tables from cs a.0 a.1 (of_table a is)) (reads_nothing s.first past a.0 (of_table a is)) (row_fits cs a.0 a.1 (typed_trees ts) (of_table a is) row) at;
           }))
 
-  -- an operator that is no sign is no number literal
+  -- an operator other than a sign is not a number literal
   plainly_applied : (f : Form) (name : List ℕ) (p : ℕ) (args : Trees) (ts : List TypedTree) (cs : List ConstText) → At p → ReadAs args cs ts → GivesOrStops At (Reads None cs) (operated f name p None ts)
   plainly_applied f name p args ts cs at h = also (applied_walked f name p None args ts cs at h tt) (λ t applied. (applied.holds, tt))
 
@@ -319,7 +320,7 @@ module _ (At : ℕ → Type 0) (tables : List ColumnList) (all : List (List ℕ 
   finished_walked node.IsNotNull p args ts cs at held h = plainly_applied form.Word (codes "is not null") p args ts cs at h
   finished_walked n p args ts cs at held h = stops at
 
-  -- what is settled early is all, and else the operands follow
+  -- what is typed early is complete; else the operands follow
   later_walked : (digits : Option (List ℕ)) (own ps : List ℕ) (cs : List ConstText) (later : TypingStep TypedTree) (o : Option TypedTree) (ds : List ConstText) → Settled digits (own ++ ps) cs o ds
       → ((es : List ConstText) → GivesOrStops At (Steps s.statement ps (Reads digits) es) (later es)) → GivesOrStops At (Steps s.statement (own ++ ps) (Reads digits) cs) (or_later later o ds)
   later_walked digits own ps cs later (Some t) ds h k = gives h

@@ -69,7 +69,7 @@ module _ (At : ℕ → Type 0) (n : ℕ) where
     value_walked : (t : Tree) (cs : List ConstText) → AllByRecursion At (tree_held t) → GivesOrStops At (Steps n (tree_places t) Fits cs) (tree_value n column.1 t cs)
     value_walked (tree nd p args) cs h = node_walked nd p args cs h.0 (each_parts At (node_held nd) (trees_held args) h.1).0
 
-  -- a row with as many values as there are columns
+  -- a row with as many values as columns
   values_walked : (columns : ColumnList) (ts : List Tree) (cs : List ConstText) → length ts ≡ length columns → AllByRecursion At (flat_map tree_held ts) → GivesOrStops At (Steps n (flat_map tree_places ts) (λ ds vs. AllZip (IsOfColumn ds) columns vs) cs) (row_values n columns ts cs)
   values_walked [] ts cs long h = gives (record { adds = adds_none; sound = tt })
   values_walked (c ∷ columns) [] cs long h = absurd (cc)

@@ -20,19 +20,19 @@ use Rattle.mob_typing.proofs.Sound.{statement_stays}
 use Rattle.mob_typing.proofs.WalkedSelects.{named}
 use Rattle.mob_typing.proofs.WalkedStatements.{names_of, KeepsApart, IsMade, statement_walked}
 
--- what a typed script is made of: for each tree in order its statement, with the constants that
--- this adds; operators stand at such places of their statements
+-- how a typed script is made: for each tree in order its statement, with the constants that it
+-- appends; operators are at such places of their statements
 pub data AreMade (At : ℕ → ℕ → Type 0) : ℕ → NameLists → List ConstText → List StatementParts → ScriptOut → Type 0 where
   none_made : {n : ℕ} {names : NameLists} {cs : List ConstText} → AreMade At n names cs [] (record { statements = []; consts = cs })
   one_made : {n : ℕ} {names : NameLists} {cs ds : List ConstText} {s : StatementParts} {ss : List StatementParts} {m : Made} {out : ScriptOut}
       → Adds n (statement_places s) cs ds → IsMade (At n) names (statement_places s) ds m → AreMade At (n + 1) m.names ds ss out → AreMade At n names cs (s ∷ ss) (put_statement m.statement out)
 
--- a script gives what has this property, or stops in such a statement at such a place
+-- a script has a value with this property, or stops in a statement at such a place
 pub data ScriptGivesOrStops (At : ℕ → ℕ → Type 0) (Gives : ScriptOut → Type 0) : Result ScriptOut Refusal → Type 0 where
   script_gives : {out : ScriptOut} → Gives out → ScriptGivesOrStops At Gives (Ok out)
   script_stops : {e : Refusal} → At e.statement e.place → ScriptGivesOrStops At Gives (Err e)
 
--- the places that the trees hold are such places of their statements, from the one of number n on
+-- the places that the trees hold are such places of their statements, numbered from n
 abbrev pub HoldPlaces : (ℕ → ℕ → Type 0) → ℕ → List StatementParts → Type 0
 HoldPlaces At n [] = Unit {0}
 HoldPlaces At n (s ∷ ss) = AllByRecursion (At n) (statement_held s) × HoldPlaces At (n + 1) ss
@@ -55,7 +55,7 @@ module _ (At : ℕ → ℕ → Type 0) where
       script_gives_more : (x : Made × List ConstText) → Steps n (statement_places s) (IsMade (At n) names (statement_places s)) cs x → (out : ScriptOut) → AreMade At (n + 1) x.0.names x.1 ss out → AreMade At n names cs (s ∷ ss) (put_statement x.0.statement out)
       script_gives_more x q out made = one_made q.adds q.sound made
 
--- what a script gives where it is typed, and where it is refused
+-- what a typed script gives, and what a refused one gives
 given : {At : ℕ → ℕ → Type 0} {P : ScriptOut → Type 0} {out : ScriptOut} → ScriptGivesOrStops At P (Ok out) → P out
 given (script_gives h) = h
 
@@ -73,7 +73,7 @@ anywhere n (s ∷ ss) = (all_anywhere (statement_held s), anywhere (n + 1) ss)
     all_anywhere [] = tt
     all_anywhere (p ∷ ps) = (tt, all_anywhere ps)
 
--- where the trees hold such places a script is made so, or stops at one of them
+-- if the trees hold such places, a script is made in this way or stops at one of them
 module _ (At : ℕ → ℕ → Type 0) (ss : List StatementParts) (held : HoldPlaces At 1 ss) where
   pub script_made_at : (out : ScriptOut) → typed_script ss ≡ Ok out → AreMade At 1 no_names [] ss out
   script_made_at out typed = given (subst (ScriptGivesOrStops At (AreMade At 1 no_names [] ss)) typed (statements_walked At 1 no_names ss [] held))
@@ -84,7 +84,7 @@ module _ (At : ℕ → ℕ → Type 0) (ss : List StatementParts) (held : HoldPl
 pub script_made : (ss : List StatementParts) (out : ScriptOut) → typed_script ss ≡ Ok out → AreMade Anywhere 1 no_names [] ss out
 script_made ss out typed = script_made_at Anywhere ss (anywhere 1 ss) out typed
 
--- the constants of a script go on from those before it
+-- the constants of a script follow those before it
 follows : {At : ℕ → ℕ → Type 0} {n : ℕ} {names : NameLists} {cs : List ConstText} {ss : List StatementParts} {out : ScriptOut} → AreMade At n names cs ss out → (new : List ConstText) × (out.consts ≡ cs ++ new)
 follows (none_made {cs = cs}) = ([], sym (append-nil cs))
 follows (one_made {cs = cs} adds made others) = let rest = follows others in (adds.new ++ rest.0, rest.1 ∙ ap (λ x. x ++ rest.0) adds.is ∙ append_assoc cs adds.new rest.0)
@@ -98,7 +98,7 @@ are_typed (one_made {names = names} {ds = ds} {m = m} {out = out} adds made othe
 pub typing_gives_well_typed : TypingGivesWellTyped
 typing_gives_well_typed ss out typed = are_typed (script_made ss out typed)
 
--- the names of the tables and of the indexes that statements make, behind those before them
+-- the names of the tables and indexes that statements make are distinct from those before them
 tables_apart : {At : ℕ → ℕ → Type 0} {n : ℕ} {names : NameLists} {cs : List ConstText} {ss : List StatementParts} {out : ScriptOut} → AreMade At n names cs ss out → KeepsApart (names_of names.tables) (flat_map table_made out.statements)
 tables_apart (none_made {names = names}) h = subst (IsDistinct bytes_eq) (sym (append-nil (names_of names.tables))) h
 tables_apart (one_made {names = names} {m = m} {out = out} adds made others) h =
@@ -120,12 +120,12 @@ no_name = tt
 pub typing_keeps_names_apart : TypingKeepsNamesApart
 typing_keeps_names_apart ss out typed = let made = script_made ss out typed in record { tables = tables_apart made no_name; indexes = indexes_apart made no_name }
 
--- each place that a tree holds is held in it
+-- a tree contains each place that it holds
 all_contained : (before ps : List ℕ) → AllByRecursion (Contains (before ++ ps)) ps
 all_contained before [] = tt
 all_contained before (p ∷ ps) = (Contains-append_right before (p ∷ ps) p (0, omega arith, refl), subst (λ all. AllByRecursion (Contains all) ps) (append_assoc before (p ∷ []) ps) (all_contained (before ++ p ∷ []) ps))
 
--- and so in the tree of its number among those of a script
+-- the same for the tree with this number in a script
 hold_own : (trees front ss : List StatementParts) (n : ℕ) → trees ≡ front ++ ss → length front + 1 ≡ n → HoldPlaces (IsHeldIn trees) n ss
 hold_own trees front [] n parts number = tt
 hold_own trees front (s ∷ ss) n parts number = (

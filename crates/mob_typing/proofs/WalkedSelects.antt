@@ -48,7 +48,7 @@ use Rattle.mob_typing.proofs.WalkedExpressions.{AreThere, numbers_of, IsPart, Is
 abbrev pub named : List (List ℕ × ColumnList) → List ColumnList
 named tables = map (λ t. t.1) tables
 
--- the tables of FROM are there, at most four, and go by distinct names
+-- the tables of FROM exist, are at most four and have distinct names
 abbrev pub names_of : List (List ℕ × ScopeTableParts) → List (List ℕ)
 names_of from = map (λ t. t.0) from
 
@@ -61,7 +61,7 @@ pub table_there : (tables : List (List ℕ × ColumnList)) (name : List ℕ) (t 
 table_there tables name t is =
     let entry = entry_stands [] tables name t is in slice_map (λ (x : List ℕ × ColumnList). x.1) tables t.0 entry.0 entry.1 ∙ ap (λ columns. Some columns) entry.2
 
--- lists in step
+-- lists of equal length, element by element
 zip_both : {A B : Type 0} (R : A → B → Type 0) (xs : List A) (ys : List B) (us : List A) (vs : List B) → AllZip R xs ys → AllZip R us vs → AllZip R (xs ++ us) (ys ++ vs)
 zip_both R [] [] us vs h k = k
 zip_both R [] (y ∷ ys) us vs h k = absurd h
@@ -105,7 +105,7 @@ ons_of At (f ∷ fs) h =
     let parts = each_parts At (from_held f) (flat_map from_held fs) h in
     each_both At (condition_held f.on) (flat_map (λ e. condition_held e.on) fs) (each_parts At (word_held f.alias) (condition_held f.on) parts.0.1).1 (ons_of At fs parts.1)
 
--- a query is typed, and its operators and aggregates stand at such places
+-- a query is typed, and its operators and aggregates are at such places
 abbrev pub IsStandingQuery : (ℕ → Type 0) → List ColumnList → List ConstText → TypedSelectParts → Type 0
 IsStandingQuery At tables cs q = IsTypedQuery tables cs q × AllByRecursion At (query_operators q)
 
@@ -116,7 +116,7 @@ module _ (At : ℕ → Type 0) (tables : List (List ℕ × ColumnList)) where
   name_walked from table (Some a) h =
       then (passes (nat_le 4 (length from)) kind.Limit table.place h.0) (λ _ room. then (passes (has_entry from a.text) kind.Duplicate a.place h.1.0) (λ _ new. gives (leb-false 4 (length from) room, new)))
 
-  -- one table more
+  -- one more table
   abbrev IsOneMore : List (List ℕ × ScopeTableParts) → List (List ℕ × ScopeTableParts) → Type 0
   IsOneMore from more = IsScope (named tables) more × (length more ≡ length from + 1)
 
@@ -136,7 +136,7 @@ module _ (At : ℕ → Type 0) (tables : List (List ℕ × ColumnList)) where
         long,
       )))
 
-  -- the tables of FROM are as many as there are entries
+  -- FROM has as many tables as entries
   abbrev pub AreTables : List (List ℕ × ScopeTableParts) → List FromParts → List (List ℕ × ScopeTableParts) → Type 0
   AreTables from fs more = IsScope (named tables) more × (length more ≡ length from + length fs)
 
@@ -147,7 +147,7 @@ module _ (At : ℕ → Type 0) (tables : List (List ℕ × ColumnList)) where
       let own = each_parts At (word_held f.alias) (condition_held f.on) parts.0.1 in
       then (table_walked from f.table f.alias scope (parts.0.0, own.0)) (λ more larger. also (tables_walked more fs larger.0 parts.1) (λ all is. let a = is.1 in let b = larger.1 in (is.0, omega (arith, a, b))))
 
--- the place of an expression is held by its tree
+-- the tree of an expression holds its place
 own_place : (At : ℕ → Type 0) (t : Tree) → AllByRecursion At (tree_held t) → At (tree_place t)
 own_place At (tree nd p args) h = h.0
 
@@ -156,7 +156,7 @@ module _ (At : ℕ → Type 0) (tables : List ColumnList) (all : List (List ℕ 
   abbrev Sees : List ConstText → TypedTree → Type 0
   Sees cs t = IsSound At tables (numbers_of all) s.first (s.first + length s.from) cs t
 
-  -- a condition that is there is a bool
+  -- a condition, if there is one, is a bool
   abbrev IsCondition : List ConstText → Option TypedTree → Type 0
   IsCondition cs c = (t : TypedTree) × (c ≡ Some t) × (Sees cs t) × (is_bool (type_of t) ≡ true)
 
@@ -201,8 +201,7 @@ module _ (At : ℕ → Type 0) (tables : List ColumnList) (s : ScopeParts) (begi
   whole : IsPart s.from s
   whole = whole_part s begins
 
-  -- each ON, of which the first is that of table n; the source of the table before it begins at
-  -- table k
+  -- each ON, from that of table n on; the source of the table before it begins at table k
   abbrev SeesOwn : ℕ → ℕ → List ConstText → TypedTree → Type 0
   SeesOwn k m cs t = IsSound At tables (numbers_of s.from) k (m + 1) cs t × (is_bool (type_of t) ≡ true)
 
@@ -247,7 +246,7 @@ module _ (At : ℕ → Type 0) (tables : List ColumnList) (s : ScopeParts) (begi
   output_stays : Stays OutputHolds
   output_stays o cs more h = stay o.0 cs more h
 
-  -- the columns behind `*`
+  -- the columns that `*` gives
   columns_hold : (cs : List ConstText) (f : ℕ) (t : List ℕ × ScopeTableParts) (p : ℕ) (before columns : ColumnList) → At p → slice_get s.from f ≡ Some t → before ++ columns ≡ t.1.columns → AllByRecursion (OutputHolds cs) (columns_of_table f (length before) columns p)
   columns_hold cs f t p before [] own at parts = tt
   columns_hold cs f t p before (c ∷ columns) own at parts = (
@@ -276,13 +275,13 @@ module _ (At : ℕ → Type 0) (tables : List ColumnList) (s : ScopeParts) (begi
       (columns_hold cs (length before) t p [] t.1.columns own (ap (λ xs. slice_get xs (length before)) (sym parts) ∙ slice_seam before more t) refl)
       (subst (λ k. AllByRecursion (OutputHolds cs) (all_outputs k more p)) (length-append before (t ∷ [])) (all_hold cs p (before ++ t ∷ []) more own (append_assoc before (t ∷ []) more ∙ parts)))
 
-  -- the columns of a SELECT that is grouped or not
+  -- the columns of a SELECT, which may be grouped
   module _ (grouped : Bool) (gs : List Tree) where
     abbrev g : Option (List ColumnNumbers)
     g = grouping grouped s gs
 
-    -- an expression that is no aggregate is in a grouped SELECT a column of GROUP BY, and an
-    -- aggregate is of a grouped one, and is at such a place
+    -- in a grouped SELECT an expression without an aggregate is a column of GROUP BY; an aggregate
+    -- is in a grouped SELECT and at such a place
     abbrev IsValue : TypedTree → Option Agg → Type 0
     IsValue t None = is_ungrouped g t ≡ false
     IsValue t (Some a) = (grouped ≡ true) × (IsAggregateOf t a × At a.place)
@@ -391,8 +390,8 @@ module _ (At : ℕ → Type 0) (tables : List ColumnList) (s : ScopeParts) (begi
         then (group_walked t parts.0) (λ x own.
         also (groups_walked (done ++ x ∷ []) ts (each_both GroupHolds done (x ∷ []) so_far (own.0, tt)) parts.1) (λ all is. (is.0, (is.1.0 ∙ columns_more done x t ts own.1, let a = is.1.1 in let b = length-append done (x ∷ []) in omega (arith, a, b)))))
 
-    -- a key that means a column of the answer is its expression, and the value of that column has
-    -- an order; any other key is judged by itself
+    -- a key that means a column of the answer has the expression of that column, and the type of
+    -- the column's value has an order; any other key is judged by itself
     abbrev IsJudged : OutputLists → TypedTree × Bool → Option ℕ → Type 0
     IsJudged o k None = (is_key (type_of k.0) ≡ true) × (is_ungrouped g k.0 ≡ false)
     IsJudged o k (Some i) = (x : Output) × (a : Option Agg) × (slice_get o.columns i ≡ Some x) × (slice_get o.aggs i ≡ Some a) × (k.0 ≡ x.0) × (is_key (value_type x.0 a) ≡ true)
@@ -465,7 +464,7 @@ module _ (At : ℕ → Type 0) (tables : List ColumnList) (s : ScopeParts) (begi
         then (keys_walked o ks x.1 (still OutputsHold outputs_stay o a.adds so_far) parts.1) (λ xs b.
         gives (record { adds = adds_both a.adds b.adds; sound = ((still KeyHolds key_stays x.0 b.adds a.sound.0, b.sound.0), (a.sound.1, b.sound.1)) })))
 
-  -- what holds of each ON
+  -- a property of each ON
   joins_named : (k m : ℕ) (js : List (Option TypedTree)) (cs : List ConstText) → JoinsHold k m cs js → (p : ℕ) → IfSome (on_of js p) (λ t. names_before (m + p + 1) t ≡ true)
   joins_named k m [] cs h p = tt
   joins_named k m (None ∷ js) cs h zero = tt
@@ -483,7 +482,7 @@ module _ (At : ℕ → Type 0) (tables : List ColumnList) (s : ScopeParts) (begi
   joins_typed k m (None ∷ js) cs h = (tt, joins_typed m (m + 1) js cs h)
   joins_typed k m (Some t ∷ js) cs h = ((h.0.0.named, h.0.1), joins_typed k (m + 1) js cs h.1)
 
-  -- an expression is of operators with their rows at such places
+  -- the operators of an expression have their rows and are at such places
   abbrev Stands : List ConstText → TypedTree → Type 0
   Stands cs t = IsOperated cs t × AllByRecursion At (operators_in t)
 
@@ -543,7 +542,7 @@ module _ (At : ℕ → Type 0) (tables : List ColumnList) (s : ScopeParts) (begi
     abbrev made : OutputLists → List (Option TypedTree) → Option TypedTree → List TypedTree → List (TypedTree × Bool) → Option ℕ → TypedSelectParts
     made o js c gr ks l = select_made (scope_tables s) x grouped o (record { joins = js; cond = c }) (record { groups = gr; keys = ks; key_items = map (key_item o) x.keys; limit = l })
 
-    -- what is not outside the groups is one of them
+    -- an expression that is not outside the groups is one of them
     of_groups : (b : Bool) (columns : List ColumnNumbers) (t : TypedTree) → is_ungrouped (cond b (Some columns) None) t ≡ false → b ≡ true → is_column columns t ≡ true
     of_groups true columns t h so = not_false (is_column columns t) h
     of_groups false columns t h so = absurd (cc)
@@ -654,7 +653,7 @@ select_walked At tables n x cs h =
     then {P = Steps n (select_places x) (IsStandingQuery At (named tables)) cs} (tables_walked At tables [] x.from (no_tables (named tables)) from.0)
     (λ f are. let long = are.1 in clauses_walked At (named tables) (record { from = f; first = 0; statement = n }) refl are.0.there x cs are.0.few are.0.apart (omega (arith, long)) h)
 
--- a DELETE has one table and no column of an answer
+-- a DELETE has one table and no columns of an answer
 with_fact : {A : Type 0} {At : ℕ → Type 0} {P Q : A → Type 0} {r : Result A Mistake} → GivesOrStops At P r → ((x : A) → r ≡ Ok x → Q x) → GivesOrStops At (λ x. P x × Q x) r
 with_fact (gives {x} p) k = gives (p, k x refl)
 with_fact (stops at) k = stops at

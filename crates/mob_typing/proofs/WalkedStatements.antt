@@ -1,5 +1,5 @@
--- The walk over statements: what each gives, the literals and the rows that it adds, and the place
--- at which it stops.
+-- The walk over statements: what each gives, the literals and rows that it appends, and the place
+-- of a mistake.
 use Rattle.std.specs.Prelude.{not, codes, nat_le, slice_get, option_map, option_and_then}
 use Rattle.std.specs.List.{AllByRecursion, IsDistinct, flat_map}
 use Rattle.std.specs.Str.{bytes_eq}
@@ -36,7 +36,7 @@ use Rattle.mob_typing.proofs.Sound.{entry_stands}
 use Rattle.mob_typing.proofs.WalkedRows.{rows_walked}
 use Rattle.mob_typing.proofs.WalkedSelects.{named, table_there, delete_walked, select_walked}
 
--- at most 64 columns, of distinct names
+-- at most 64 columns, with distinct names
 record IsRoom (columns : ColumnList) : Type 0 where
   few : length columns ≤ 64
   apart : IsDistinct bytes_eq (map (λ c. c.0) columns)
@@ -49,12 +49,12 @@ no_columns = record { few = omega arith; apart = tt }
 abbrev pub names_of : List (List ℕ × ColumnList) → List (List ℕ)
 names_of tables = map (λ t. t.0) tables
 
--- distinct names stay so with these behind them
+-- distinct names followed by these are still distinct
 abbrev pub KeepsApart : List (List ℕ) → List (List ℕ) → Type 0
 KeepsApart before new = IsDistinct bytes_eq before → IsDistinct bytes_eq (before ++ new)
 
--- a statement that is made keeps to the tables before it, makes its own, each table and each index
--- under a new name, its operators stand at such places, and its rows at places among these
+-- a statement is typed over the tables before it and makes its own; each table and each index has a
+-- new name; its operators are at such places, and its rows at places among these
 pub record IsMade (At : ℕ → Type 0) (names : NameLists) (ps : List ℕ) (consts : List ConstText) (m : Made) : Type 0 where
   pub typed : IsTypedStatement (named names.tables) consts m.statement
   pub behind : named m.names.tables ≡ tables_behind (named names.tables) m.statement
@@ -95,7 +95,7 @@ module _ (At : ℕ → Type 0) where
     abbrev IsMadeAlone : Made → Type 0
     IsMadeAlone m = (consts : List ConstText) → IsMade At names [] consts m
 
-    -- a statement that makes no table and no index
+    -- a statement that makes neither a table nor an index
     no_more : (before : List (List ℕ)) → KeepsApart before []
     no_more before h = subst (IsDistinct bytes_eq) (sym (append-nil before)) h
 

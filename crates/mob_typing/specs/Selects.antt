@@ -1,5 +1,4 @@
--- Names and types of a SELECT: the tables of FROM first, and then the other clauses in written
--- order.
+-- Names and types of a SELECT: first the tables of FROM, then the other clauses in written order.
 use Rattle.std.specs.Prelude.{ℕ, List, [], ◌∷◌, ◌++◌, Option, Some, None, Result, Ok, length, nat_le}
 use Rattle.mob_ast.specs.declared.types.Word.{Word}
 use Rattle.mob_ast.specs.declared.refusal.Kind.TheVariants as kind
@@ -13,9 +12,9 @@ use Rattle.mob_scope.specs.Scopes.{ScopeTableParts}
 use Rattle.mob_clauses.specs.Clauses.{typed_clauses}
 use Rattle.mob_typing.specs.Names.{table_of}
 
--- The name that a table goes by in FROM. There are at most four tables, and no two go by one name.
--- What stands at an earlier place comes first, and at one place a name that is there already comes
--- before the limit.
+-- The name or alias of a table in FROM. There are at most four tables, and their names are
+-- distinct. Mistakes are in the order of their places; at one place a taken name comes before the
+-- limit.
 abbrev pub from_name : List (List ℕ × ScopeTableParts) → Word → Option Word → Result (List ℕ) Mistake
 from_name from table None = do
   _ ← unless (has_entry from table.text) kind.Duplicate table.place
@@ -26,7 +25,7 @@ from_name from table (Some a) = do
   _ ← unless (has_entry from a.text) kind.Duplicate a.place
   Ok a.text
 
--- a table of FROM behind those that stand before it
+-- the table that is added after these tables of FROM
 abbrev pub from_table : List (List ℕ × ColumnList) → List (List ℕ × ScopeTableParts) → Word → Option Word → Result (List (List ℕ × ScopeTableParts)) Mistake
 from_table tables from table alias = do
   t ← found kind.UnknownName table.place (table_of tables table.text)
@@ -38,6 +37,6 @@ abbrev pub from_tables : List (List ℕ × ColumnList) → List (List ℕ × Sco
 from_tables tables from [] = Ok from
 from_tables tables from (f ∷ fs) = from_table tables from f.table f.alias >>= λ more. from_tables tables more fs
 
--- The typed SELECT of the statement of this number, or what is wrong first.
+-- The typed SELECT of the statement with this number, or the first mistake.
 abbrev pub typed_select : List (List ℕ × ColumnList) → ℕ → SelectParts → TypingStep TypedSelectParts
 typed_select tables n s cs = from_tables tables [] s.from >>= λ from. typed_clauses (record { from = from; first = 0; statement = n }) s cs

@@ -1,5 +1,5 @@
--- Where a refusal of names and types stands, and each operator and aggregate of a typed script: in
--- the statement whose tree holds its place.
+-- The places of typing: a refusal, and each operator and aggregate of a typed script, is at a place
+-- that the tree of its statement holds.
 use Rattle.std.specs.Prelude.{◌≡◌, ◌+◌, ◌++◌, ℕ, List, [], ◌∷◌, length, Option, Some, None, Ok, Err}
 use Rattle.std.specs.List.{AllByRecursion, Contains, flat_map}
 use Rattle.mob_ast.specs.declared.refusal.Refusal.{Refusal}
@@ -12,7 +12,7 @@ use Rattle.mob_typed.specs.Statements.{StatementOut, nothing, new_table, new_ind
 use Rattle.mob_typing.specs.Statements.{typed_script}
 use Rattle.mob_typing.specs.WellTyped.{expressions_of}
 
--- the tree of this number, counted from 1, holds this place
+-- the tree with this number, from 1, holds this place
 pub record IsHeldIn (trees : List StatementParts) (n place : ℕ) : Type 0 where
   pub front : List StatementParts
   pub own : StatementParts
@@ -25,11 +25,11 @@ pub record IsHeldIn (trees : List StatementParts) (n place : ℕ) : Type 0 where
 abbrev pub IsHeldRefusal : List StatementParts → Refusal → Type 0
 IsHeldRefusal trees e = IsHeldIn trees e.statement e.place
 
--- what typing refuses, it refuses at a place that the tree of the statement holds
+-- each refusal of typing is at a place that the tree of its statement holds
 abbrev pub TypingRefusesWhatIsHeld : Type 0
 TypingRefusesWhatIsHeld = (trees : List StatementParts) (e : Refusal) → typed_script trees ≡ Err e → IsHeldRefusal trees e
 
--- the places of the operators of a typed expression, constants and columns among them
+-- the places of the operators of a typed expression, constants and columns included
 abbrev mutual
   pub operators_in : TypedTree → List ℕ
   operators_in (typed o ty p args) = p ∷ operators_among args
@@ -43,7 +43,7 @@ abbrev pub aggregate_place : Option Agg → List ℕ
 aggregate_place None = []
 aggregate_place (Some agg) = agg.place ∷ []
 
--- the places of the operators of a query, and of its aggregates
+-- the places of the operators and of the aggregates of a query
 abbrev pub query_operators : TypedSelectParts → List ℕ
 query_operators q = flat_map operators_in (expressions_of q) ++ flat_map aggregate_place q.aggs
 
@@ -57,13 +57,13 @@ operators_of (deletion s) = query_operators s
 operators_of (query s) = query_operators s
 operators_of (plan_of s) = query_operators s
 
--- the operators and aggregates of the first of these statements stand at such places of statement
--- n, and those of each other of one more
+-- the operators and aggregates of the first statement are at such places of statement n, and those
+-- of each further statement at such places of the next
 abbrev pub OperatorsStand : (ℕ → ℕ → Type 0) → ℕ → List StatementOut → Type 0
 OperatorsStand At n [] = Unit {0}
 OperatorsStand At n (s ∷ ss) = AllByRecursion (At n) (operators_of s) × OperatorsStand At (n + 1) ss
 
--- each operator and each aggregate of a typed script stands at a place that the tree of its
--- statement holds
+-- each operator and each aggregate of a typed script is at a place that the tree of its statement
+-- holds
 abbrev pub TypingHoldsOperators : Type 0
 TypingHoldsOperators = (trees : List StatementParts) (out : ScriptOut) → typed_script trees ≡ Ok out → OperatorsStand (IsHeldIn trees) 1 out.statements

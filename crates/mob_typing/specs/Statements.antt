@@ -29,7 +29,7 @@ use Rattle.mob_expression.specs.Expressions.{next_constant, only, is_signed}
 use Rattle.mob_clauses.specs.Clauses.{rows_to_go}
 use Rattle.mob_typing.specs.Selects.{typed_select}
 
--- a new column: its name is new, there are at most 64, and its type is known
+-- a new column: its name is new, there are at most 64 columns, and its type is known
 abbrev pub with_column : ColumnList → Word × TypeWord → Result ColumnList Mistake
 with_column columns c = unless (has_entry columns c.0.text) kind.Duplicate c.0.place >>= λ _. unless (nat_le 64 (length columns)) kind.Limit c.0.place >>= λ _.
     found kind.UnknownName c.1.name.place (type_named c.1.name.text c.1.inner) >>= λ ty. Ok (columns ++ (c.0.text, ty) ∷ [])
@@ -38,7 +38,7 @@ abbrev pub with_columns : ColumnList → List (Word × TypeWord) → Result Colu
 with_columns columns [] = Ok columns
 with_columns columns (c ∷ cs) = with_column columns c >>= λ more. with_columns more cs
 
--- what a statement gives: itself, typed, and the names after it
+-- the result of a statement: the typed statement, and the names after it
 pub record Made : Type 0 where
   pub statement : StatementOut
   pub names : NameLists
@@ -50,7 +50,7 @@ made_seen names t = record { statement = statement_seen t; names = names }
 abbrev pub with_table : NameLists → List ℕ → ColumnList → NameLists
 with_table names name columns = record { tables = names.tables ++ (name, columns) ∷ []; indexes = names.indexes }
 
--- a new table: its name is new, there are at most 64, and then its columns in order
+-- a new table: its name is new, there are at most 64 tables, and its columns are typed in order
 abbrev pub made_table : NameLists → Word → List (Word × TypeWord) → Result Made Mistake
 made_table names name columns = do
   _ ← unless (has_entry names.tables name.text) kind.Duplicate name.place
@@ -61,7 +61,7 @@ made_table names name columns = do
 abbrev pub with_index : NameLists → List ℕ → NameLists
 with_index names name = record { tables = names.tables; indexes = names.indexes ++ name ∷ [] }
 
--- a new index: the table is there, the name is new, and the column is there and a tgeompoint
+-- a new index: the table exists, the name is new, and the column exists and is a tgeompoint
 abbrev pub made_index : NameLists → Word → Word → Word → Result Made Mistake
 made_index names name table column = do
   t ← found kind.UnknownName table.place (table_of names.tables table.text)
@@ -70,11 +70,11 @@ made_index names name table column = do
   _ ← unless (not (same_type c.1 sql.TPoint)) kind.NoSuchOperator column.place
   Ok (record { statement = new_index t.0 c.0 name.text; names = with_index names name.text })
 
--- a constant of a statement of this number
+-- a constant of the statement with this number
 abbrev pub row_constant : ℕ → SqlType → List ℕ → ℕ → TypingStep (Option ℕ)
 row_constant n ty text p cs = next_constant n ty text p cs >>= λ r. Ok (Some r.0, r.1)
 
--- the digits of a number and their place, where there is one
+-- the digits of a number and their place, if the node is a number
 abbrev pub number_digits : Tree → Option (List ℕ × ℕ)
 number_digits (tree (node.Number s) p args) = Some (s, p)
 number_digits (tree _ p args) = None
@@ -82,20 +82,20 @@ number_digits (tree _ p args) = None
 abbrev pub lone_number : Trees → Option (List ℕ × ℕ)
 lone_number ts = option_and_then number_digits (only ts)
 
--- a number behind its sign
+-- a number with a sign before it
 abbrev pub signed_value : ℕ → SqlType → List ℕ → ℕ → Option (List ℕ × ℕ) → TypingStep (Option ℕ)
 signed_value n ty sign p None cs = refuse kind.NoSuchOperator p
 signed_value n ty sign p (Some d) cs = unless (not (is_signed sign)) kind.NoSuchOperator p >>= λ _. row_constant n ty (sign ++ d.0) d.1 cs
 
--- TRUE and FALSE stand in a bool column alone
+-- TRUE or FALSE, which only a bool column takes
 abbrev pub bool_value : ℕ → SqlType → List ℕ → ℕ → TypingStep (Option ℕ)
 bool_value n ty text p cs = unless (not (same_type ty sql.Bool)) kind.NoSuchOperator p >>= λ _. row_constant n ty text p cs
 
--- a typed string has the column's type
+-- a typed string, whose type must be that of the column
 abbrev pub typed_value : ℕ → SqlType → TypeWord → List ℕ → ℕ → TypingStep (Option ℕ)
 typed_value n ty w text p cs = found kind.UnknownName w.name.place (literal_type w.name.text w.inner text) >>= λ own. unless (not (same_type own ty)) kind.NoSuchOperator p >>= λ _. row_constant n ty text p cs
 
--- A value of a row, which is read as the column's type: the number of its constant, or none for
+-- A value of a row, read as a value of the column's type: the number of its constant, or None for
 -- NULL.
 unfoldable pub node_value : ℕ → SqlType → Node → ℕ → Trees → TypingStep (Option ℕ)
 node_value n ty node.Null p args cs = Ok (None, cs)
@@ -116,11 +116,11 @@ row_values n [] ts cs = Ok ([], cs)
 row_values n (c ∷ columns) [] cs = Ok ([], cs)
 row_values n (c ∷ columns) (t ∷ ts) cs = one_more (tree_value n c.1 t) (row_values n columns ts) cs
 
--- a row has as many values as the table has columns
+-- a row, which must have as many values as the table has columns
 abbrev pub typed_row : ℕ → ColumnList → RowParts → TypingStep (List (Option ℕ))
 typed_row n columns r cs = unless (not (length r.values == length columns)) kind.BadCount r.place >>= λ _. row_values n columns r.values cs
 
--- the rows in order
+-- the rows, in order
 abbrev pub typed_rows : ℕ → ColumnList → List RowParts → TypingStep (List (List (Option ℕ)))
 typed_rows n columns [] cs = Ok ([], cs)
 typed_rows n columns (r ∷ rs) cs = one_more (typed_row n columns r) (typed_rows n columns rs) cs
@@ -129,7 +129,7 @@ abbrev pub inserted : ℕ → NameLists → Word → List RowParts → TypingSte
 inserted n names table rows cs = found kind.UnknownName table.place (table_of names.tables table.text) >>= λ t. typed_rows n t.1 rows cs >>= λ r.
     Ok (record { statement = new_rows t.0 r.0 (map (λ row. row.place) rows); names = names }, r.1)
 
--- the string behind DELIMITER is one comma
+-- the string after DELIMITER is one comma
 abbrev pub good_delimiter : Option Quoted → Result (Unit {0}) Mistake
 good_delimiter None = Ok tt
 good_delimiter (Some q) = unless (not (bytes_eq q.text (codes ","))) kind.NoSuchOperator q.place
@@ -144,8 +144,7 @@ keeping cs r = r >>= λ m. Ok (m, cs)
 abbrev pub asked : (TypedSelectParts → StatementOut) → NameLists → Result (TypedSelectParts × List ConstText) Mistake → Result (Made × List ConstText) Mistake
 asked form names r = r >>= λ s. Ok (record { statement = form s.0; names = names }, s.1)
 
--- The statement of this number, typed, with the names and the constants after it, or what is wrong
--- first.
+-- The typed statement with this number, and the names and constants after it; or the first mistake.
 unfoldable pub typed_statement : ℕ → NameLists → StatementParts → TypingStep Made
 typed_statement n names empty cs = Ok (record { statement = nothing; names = names }, cs)
 typed_statement n names (create_table name columns) cs = keeping cs (made_table names name columns)
@@ -156,7 +155,7 @@ typed_statement n names (delete table cond) cs = asked deletion names (typed_sel
 typed_statement n names (select s) cs = asked query names (typed_select names.tables n s cs)
 typed_statement n names (explain s) cs = asked plan_of names (typed_select names.tables n s cs)
 
--- what is wrong in a statement is so in the script, with the statement's number
+-- a mistake in a statement is one of the script, with the number of the statement
 abbrev pub in_statement : ℕ → Result (Made × List ConstText) Mistake → Result (Made × List ConstText) Refusal
 in_statement n (Ok r) = Ok r
 in_statement n (Err w) = Err (record { kind = w.kind; statement = n; place = w.place })
@@ -169,8 +168,8 @@ or_refused (Err e) f = Err e
 abbrev pub put_statement : StatementOut → ScriptOut → ScriptOut
 put_statement s out = record { statements = s ∷ out.statements; consts = out.consts }
 
--- the statements from the one of number n on: the first, and then the others with the names and the
--- constants after it
+-- the statements from number n on: the first one, then the others with the names and constants
+-- after it
 abbrev pub typed_from : ℕ → NameLists → List StatementParts → List ConstText → Result ScriptOut Refusal
 typed_from n names [] cs = Ok (record { statements = []; consts = cs })
 typed_from n names (s ∷ ss) cs = or_refused (in_statement n (typed_statement n names s cs)) (λ r. or_refused (typed_from (n + 1) r.0.names ss r.1) (λ out. Ok (put_statement r.0.statement out)))
@@ -178,8 +177,7 @@ typed_from n names (s ∷ ss) cs = or_refused (in_statement n (typed_statement n
 abbrev pub no_names : NameLists
 no_names = record { tables = []; indexes = [] }
 
--- The typed script, or the first refusal: statement by statement, and within one in the order of
--- what it is made of.
+-- The typed script, or the first refusal: statement by statement, and in a statement part by part.
 abbrev pub typed_script : List StatementParts → Result ScriptOut Refusal
 typed_script ss = typed_from 1 no_names ss []
 

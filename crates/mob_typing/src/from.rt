@@ -1,4 +1,4 @@
-//! The tables of FROM.
+//! Types FROM: its tables, each under its name or alias.
 ghost use Rattle.std.specs.Prelude.{◌≡◌, ◌++◌, ◌∷◌, [], map};
 ghost use Rattle.mob_ast.specs.Trees.{from_of};
 ghost use Rattle.mob_scope.specs.Answers.{AnswersAs};
@@ -14,17 +14,17 @@ use mob_scope::fault::{Mistake, unless};
 use mob_scope::scope::{ScopeTable, number};
 use std::alloc::Global;
 
-// How many tables there may be in FROM.
+// The greatest number of tables in FROM.
 const TABLES: usize = 4;
 
-// Whether a table of FROM goes by this name already.
+// Whether a table of FROM already has this name or alias.
 fn has_source(sources: &[ScopeTable<'_>], name: &Word) -> bool
     ensures taken { result ≡ has_entry (sources_of sources.now) name.now.text }
 {
     source_named(sources, name.text.as_str()).is_some()
 }
 
-// The name that a table goes by in FROM, behind those that stand before it.
+// The name or alias of a table that is added after these tables of FROM.
 fn from_name<'a>(
     sources: &[ScopeTable<'_>],
     table: &'a Word,
@@ -47,7 +47,9 @@ fn from_name<'a>(
     }
 }
 
-/// A table of FROM behind those that stand before it.
+/// The table of FROM that is added after these. `UnknownName` if the script has made no such table,
+/// `Duplicate` if its name or alias is taken, `Limit` if it would be the fifth table, and
+/// `NoMemory` if an allocation fails.
 pub fn from_table<'a>(
     names: &'a Names,
     sources: &[ScopeTable<'_>],
@@ -71,7 +73,7 @@ pub fn from_table<'a>(
     })
 }
 
-/// The tables of FROM in order, or what is wrong first.
+/// The tables of FROM in order, or the first mistake.
 pub fn from_tables<'a>(
     alloc: Global,
     names: &'a Names,

@@ -1,6 +1,6 @@
-//! The code that types statements and whole scripts, and so makes the trees of `mob_typed`: each
-//! table, column and constant becomes a number, and each expression gets its operator and its type;
-//! or the first thing that is wrong is said, with its place.
+//! Types statements and whole scripts, which makes the trees of `mob_typed`. Each table, column and
+//! constant becomes a number, and each expression gets its operator and its type. Otherwise the
+//! first mistake is returned, with its place.
 #![tactic(auto)]
 
 mod from;

@@ -1,4 +1,4 @@
-//! The tables and the indexes that a script has made so far, by name and by number.
+//! The tables and indexes that a script has made so far, found by name or by number.
 ghost use Rattle.std.specs.Prelude.{◌≡◌, ◌∷◌, ◌++◌, [], false, length, OnErr, OnOk, option_map};
 ghost use Rattle.mob_operators.specs.Table.{is_one_of};
 ghost use Rattle.mob_scope.specs.Names.{has_entry};
@@ -9,7 +9,7 @@ use mob_scope::column_list::Columns;
 use std::alloc::{AllocError, Global};
 use std::marker::Model;
 
-/// The tables and the indexes that a script has made so far.
+/// The tables and indexes that a script has made so far.
 #[derive(Drop)]
 pub struct Names {
     tables: IndexMap<String, Columns>,
@@ -26,7 +26,7 @@ impl Model for Names {
 }
 
 impl Names {
-    /// No names yet.
+    /// No tables and no indexes. It takes no memory.
     pub fn new(alloc: Global) -> Self
         ensures no_tables { result.tables ≡ [] }
         ensures no_indexes { result.indexes ≡ [] }
@@ -37,14 +37,14 @@ impl Names {
         }
     }
 
-    /// How many tables there are.
+    /// The number of tables.
     pub fn len(&self) -> usize
         ensures count { result ≡ length self.now.tables }
     {
         self.tables.len()
     }
 
-    /// The number and the columns of the table of this name.
+    /// The number, from 0, and the columns of the table with this name; `None` if there is none.
     pub fn find(&self, name: &str) -> Option<(usize, &Columns)>
         ensures first { option_map (λ t. (t.0, t.1.now)) result ≡ table_of self.now.tables name.now }
     {
@@ -52,22 +52,22 @@ impl Names {
         Some((index, columns))
     }
 
-    /// Whether there is a table of this name.
+    /// Whether a table has this name.
     pub fn has(&self, name: &str) -> bool
         ensures known { result ≡ has_entry self.now.tables name.now }
     {
         self.find(name).is_some()
     }
 
-    /// Whether there is an index of this name.
+    /// Whether an index has this name.
     pub fn has_index(&self, name: &str) -> bool
         ensures known { result ≡ is_one_of self.now.indexes name.now }
     {
         self.indexes.contains(name)
     }
 
-    /// Adds a table of a new name behind the others. Where memory is refused the names stay as they
-    /// were.
+    /// Appends a table with a new name. An error means that an allocation failed; the names are
+    /// then unchanged.
     pub fn add_table(
         &mut self,
         alloc: Global,
@@ -83,8 +83,8 @@ impl Names {
         Ok(())
     }
 
-    /// Adds an index of a new name behind the others. Where memory is refused the names stay as
-    /// they were.
+    /// Appends an index with a new name. An error means that an allocation failed; the names are
+    /// then unchanged.
     pub fn add_index(&mut self, alloc: Global, name: &str) -> Result<(), AllocError>
         requires absent { is_one_of self.old.indexes name.now ≡ false }
         ensures last { OnOk result (self.new.indexes ≡ self.old.indexes ++ name.now ∷ []) }

@@ -1,4 +1,4 @@
-//! INSERT and COPY.
+//! Types INSERT and COPY.
 ghost use Rattle.std.specs.Prelude.{◌≡◌, length, map, option_map, IfOk};
 ghost use Rattle.mob_ast.specs.Trees.{tree_of, trees_of, row_of};
 ghost use Rattle.mob_operators.specs.Lookup.{same_type};
@@ -19,7 +19,7 @@ use mob_scope::scope::number;
 use mob_typed::{ConstText, TypedStatement};
 use std::alloc::{AllocError, Global};
 
-// A constant of a statement of this number.
+// A constant of the statement with this number.
 fn row_constant(
     alloc: Global,
     statement: u32,
@@ -33,7 +33,7 @@ fn row_constant(
     Ok(Some(next_constant(alloc, statement, consts, ty, text, place)?))
 }
 
-// The digits of a number and their place, where the operands are a number alone.
+// The digits of a number and their place, if the only operand is a number.
 #[tactic(auto, using(mob_expression::proofs::TreeFacts::tree_is))]
 fn lone_number(args: &[Expr]) -> Option<(&str, u32)>
     ensures alone { option_map (λ r. (r.0.now, r.1)) result ≡ lone_number (trees_of args.now) }
@@ -45,7 +45,7 @@ fn lone_number(args: &[Expr]) -> Option<(&str, u32)>
     }
 }
 
-// A number behind its sign.
+// A number with a sign before it.
 fn signed_value(
     alloc: Global,
     statement: u32,
@@ -69,14 +69,14 @@ fn signed_value(
     row_constant(alloc, statement, consts, ty, text.as_str(), digits_place)
 }
 
-// Whether two types are one.
+// Whether two types are the same.
 fn is_same(a: SqlType, b: SqlType) -> bool
     ensures same { result ≡ same_type a b }
 {
     a == b
 }
 
-// TRUE and FALSE stand in a bool column alone.
+// TRUE or FALSE, which only a bool column takes.
 fn bool_value(
     alloc: Global,
     statement: u32,
@@ -91,7 +91,7 @@ fn bool_value(
     row_constant(alloc, statement, consts, ty, text, place)
 }
 
-// A typed string has the column's type.
+// A typed string, whose type must be that of the column.
 fn typed_value(
     alloc: Global,
     statement: u32,
@@ -113,7 +113,7 @@ fn typed_value(
     row_constant(alloc, statement, consts, ty, text, place)
 }
 
-// A value of a row, which is read as the column's type.
+// A value of a row, read as a value of the column's type.
 #[tactic(auto, unfolding(crate::specs::Statements::node_value))]
 fn node_value(
     alloc: Global,
@@ -181,7 +181,7 @@ fn row_values(
     Ok(done)
 }
 
-// A row, which has as many values as the table has columns.
+// A row, which must have as many values as the table has columns.
 fn typed_row(
     alloc: Global,
     statement: u32,
@@ -200,7 +200,7 @@ fn typed_row(
     row_values(alloc, statement, consts, columns, row.values.as_slice())
 }
 
-// The rows in order.
+// The rows, in order.
 fn typed_rows(
     alloc: Global,
     statement: u32,
@@ -218,7 +218,7 @@ fn typed_rows(
     Ok(done)
 }
 
-// The places of the rows' brackets.
+// The places of the rows' opening brackets.
 fn places_of(alloc: Global, rows: &[Row]) -> Result<Items<u32>, AllocError>
     ensures places { IfOk result (λ v. v ≡ map (λ r. r.place) (map row_of rows.now)) }
 {
@@ -229,7 +229,7 @@ fn places_of(alloc: Global, rows: &[Row]) -> Result<Items<u32>, AllocError>
     Ok(places)
 }
 
-/// The rows of an INSERT, or what is wrong first.
+/// Types an INSERT. Returns it with its rows, or the first mistake.
 pub fn inserted(
     alloc: Global,
     statement: u32,
@@ -256,7 +256,7 @@ pub fn inserted(
     })
 }
 
-// The string behind DELIMITER is one comma.
+// Checks that the string after DELIMITER is one comma.
 fn good_delimiter(delimiter: &Option<Quoted>) -> Result<(), Fault<Mistake>>
     ensures comma { AnswersAs (λ u. u) result (good_delimiter delimiter.now) }
 {
@@ -267,7 +267,7 @@ fn good_delimiter(delimiter: &Option<Quoted>) -> Result<(), Fault<Mistake>>
     unless(other, Kind::NoSuchOperator, string.place)
 }
 
-/// A COPY, or what is wrong first.
+/// Types a COPY. Returns it, or the first mistake.
 pub fn copied(
     alloc: Global,
     names: &Names,

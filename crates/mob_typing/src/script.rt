@@ -1,4 +1,4 @@
-//! Names and types of whole scripts.
+//! Types whole scripts.
 ghost use Rattle.std.specs.Prelude.{◌≡◌, [], Ok, map, IfOk, IfErr};
 ghost use Rattle.mob_ast.specs.Trees.{statement_of, script_of};
 ghost use Rattle.mob_expression.specs.Steps.{TypesTo};
@@ -16,7 +16,7 @@ use mob_scope::fault::Mistake;
 use mob_typed::{ConstText, Typed, TypedStatement};
 use std::alloc::Global;
 
-// A statement, or what is wrong first in it.
+// Types a statement. Returns it, or its first mistake.
 #[tactic(auto, unfolding(crate::specs::Statements::typed_statement))]
 fn type_statement(
     alloc: Global,
@@ -47,7 +47,7 @@ fn type_statement(
     }
 }
 
-// The refusal of a statement of this number.
+// The refusal of the statement with this number.
 fn refusal_of(fault: Fault<Mistake>, statement: u32) -> Refusal
     ensures placed { result ≡ refusal_of fault statement }
 {
@@ -65,7 +65,7 @@ fn refusal_of(fault: Fault<Mistake>, statement: u32) -> Refusal
     }
 }
 
-// The statements in order, the first of which has number 1.
+// Types the statements in order, numbered from 1.
 fn typed_statements(
     alloc: Global,
     names: &mut Names,
@@ -93,10 +93,13 @@ fn typed_statements(
     })
 }
 
-/// The typed script, each constant with its type, text, statement and place in written order; or
-/// the first refusal of UnknownName, Duplicate, NoSuchOperator, LinearProduct, Irrational,
-/// ZeroDivisor, BadCount and Limit, statement by statement. In a statement the tables of FROM or
-/// the target table come first, then the rest by place, operands before their operator.
+/// Types a script. Returns it with its constants in written order, each with its type, text,
+/// statement and place; or the first refusal.
+///
+/// The refusals are `UnknownName`, `Duplicate`, `NoSuchOperator`, `LinearProduct`, `Irrational`,
+/// `ZeroDivisor`, `BadCount` and `Limit`, statement by statement. In a statement the tables of FROM
+/// or the target table come first, then the rest in the order of places, with operands before their
+/// operator. `NoMemory`, with statement 0 and place 0, if an allocation fails.
 pub fn type_script(alloc: Global, script: Script) -> Result<Typed, Refusal>
     ensures typed { IfOk result (λ t. typed_script (script_of script) ≡ Ok (script_seen t)) }
     ensures first_refusal { IfErr result (λ e. IsTypingRefusal e (typed_script (script_of script))) }

@@ -1,4 +1,4 @@
-//! SELECT, EXPLAIN and DELETE.
+//! Types SELECT, EXPLAIN and DELETE.
 ghost use Rattle.std.specs.Prelude.{option_map};
 ghost use Rattle.mob_ast.specs.Trees.{tree_of, select_of};
 ghost use Rattle.mob_expression.specs.Steps.{TypesTo};
@@ -19,7 +19,7 @@ use mob_scope::scope::Scope;
 use mob_typed::{ConstText, TypedSelect, TypedStatement};
 use std::alloc::Global;
 
-// Types the query of the statement of this number. Returns it, or its first refusal.
+// Types the query of the statement with this number. Returns it, or its first mistake.
 fn typed_select(
     alloc: Global,
     names: &Names,
@@ -38,8 +38,8 @@ fn typed_select(
     typed_clauses(alloc, &scope, consts, select)
 }
 
-// Types the DELETE of the statement of this number as a query of one table with its condition and
-// no item. Returns it, or its first refusal.
+// Types the DELETE of the statement with this number, as a query of one table with its condition
+// and without items. Returns it, or its first mistake.
 fn typed_delete(
     alloc: Global,
     names: &Names,
@@ -60,7 +60,7 @@ fn typed_delete(
     clauses_to_go(alloc, &scope, consts, cond)
 }
 
-/// The SELECT of the statement of this number, or what is wrong first.
+/// Types the SELECT of the statement with this number. Returns it, or its first mistake.
 pub fn selected(
     alloc: Global,
     statement: u32,
@@ -74,7 +74,7 @@ pub fn selected(
     Ok(TypedStatement::Select(select))
 }
 
-/// The EXPLAIN of the statement of this number, or what is wrong first.
+/// Types the EXPLAIN of the statement with this number. Returns it, or its first mistake.
 pub fn explained(
     alloc: Global,
     statement: u32,
@@ -88,7 +88,7 @@ pub fn explained(
     Ok(TypedStatement::Explain(select))
 }
 
-/// The DELETE of the statement of this number, or what is wrong first.
+/// Types the DELETE of the statement with this number. Returns it, or its first mistake.
 pub fn deleted(
     alloc: Global,
     statement: u32,

@@ -1,4 +1,4 @@
-//! CREATE TABLE and CREATE INDEX.
+//! Types CREATE TABLE and CREATE INDEX.
 ghost use Rattle.std.specs.Prelude.{◌≡◌, ◌∷◌, ◌++◌, [], Ok, false, IfOk, OnOk};
 ghost use Rattle.mob_operators.specs.Lookup.{same_type};
 ghost use Rattle.mob_operators.specs.Table.{is_one_of};
@@ -20,7 +20,7 @@ use mob_scope::scope::number;
 use mob_typed::TypedStatement;
 use std::alloc::{AllocError, Global};
 
-// How many columns a table may have, and how many tables a script.
+// The greatest number of columns of a table, and of tables of a script.
 const MOST: usize = 64;
 
 // Adds a column.
@@ -72,7 +72,7 @@ fn listed(alloc: Global, columns: &Columns) -> Result<Items<(Text, SqlType)>, Al
     Ok(list)
 }
 
-// Adds a table of a new name, and gives its columns as a list.
+// Adds a table with a new name. Returns its columns as a list.
 fn added(
     alloc: Global,
     names: &mut Names,
@@ -89,7 +89,7 @@ fn added(
     Ok(list)
 }
 
-/// Types a CREATE TABLE, and adds its table to the names. Returns it, or its first refusal.
+/// Types a CREATE TABLE, and adds its table to the names. Returns it, or its first mistake.
 pub fn made_table(
     alloc: Global,
     names: &mut Names,
@@ -122,7 +122,8 @@ fn is_moving_point(ty: SqlType) -> bool
     matches!(ty, SqlType::TPoint)
 }
 
-// Adds an index of a new name on a column of a table, each by its number.
+// Adds an index with a new name on a column of a table. Returns the statement with the numbers of
+// both.
 fn added_index(
     alloc: Global,
     names: &mut Names,
@@ -144,7 +145,7 @@ fn added_index(
     })
 }
 
-/// Types a CREATE INDEX, and adds its index to the names. Returns it, or its first refusal.
+/// Types a CREATE INDEX, and adds its index to the names. Returns it, or its first mistake.
 pub fn made_index(
     alloc: Global,
     names: &mut Names,

@@ -1,4 +1,4 @@
--- Cutting a list into the rows that are kept in it.
+-- Cutting a list into the rows that it holds.
 use Rattle.std.proofs.Common.{◌≡◌, ◌∙◌, refl, ap, sym, arith, ℕ, zero, suc, ◌+◌, ◌-◌, ◌<◌, ◌≤◌, List, [], ◌∷◌, ◌++◌, length, length-drop, drop, drop-drop, get_or, take, take_all, Some, None, slice_get, slice_range}
 use Rattle.std.proofs.lemmas.List.{drop-append-le, take-append-le}
 use Rattle.mob_value.specs.Cuts.{AreCuts, cut, start_at}
@@ -7,7 +7,7 @@ pub cuts_rise : (start : ℕ) (ends : List ℕ) (end : ℕ) → AreCuts start en
 cuts_rise start [] end h = omega (arith, h)
 cuts_rise start (place ∷ places) end h = let more = cuts_rise place places end h.1 in omega (arith, more, h.0)
 
--- one more row
+-- appending one row
 pub cuts_more : (start : ℕ) (ends : List ℕ) (end more : ℕ) → AreCuts start ends end → end ≤ more → AreCuts start (ends ++ more ∷ []) more
 cuts_more start [] end more h le = (omega (arith, h, le), refl)
 cuts_more start (place ∷ places) end more h le = (h.0, cuts_more place places end more h.1 le)
@@ -28,7 +28,7 @@ cut_more start (place ∷ places) end more items row h whole grown =
     ∙ ap (λ xs. take n items ∷ cut place (places ++ more ∷ []) xs) (drop-append-le n items row fits)
     ∙ ap (λ rs. take n items ∷ rs) (cut_more place places end more (drop n items) row h.1 rest grown)
 
--- where a row begins and ends
+-- the places at which a row begins and ends
 pub start_after : (start : ℕ) (ends : List ℕ) (end number : ℕ) → AreCuts start ends end → start ≤ start_at start ends number
 start_after start ends end zero h = omega arith
 start_after start [] end (suc number) h = omega arith
@@ -48,7 +48,7 @@ pub start_is : (start : ℕ) (ends : List ℕ) (number d : ℕ) → 0 < number �
 start_is start ends zero d later lt = absurd (omega (arith, later))
 start_is start ends (suc number) d later lt = let before : suc number - 1 ≡ number = omega arith in ap (λ n. get_or ends n d) before ∙ next_start start ends number d (omega (arith, lt))
 
--- the row of a number
+-- the row with a number
 row_there : {A : Type 0} (start : ℕ) (ends : List ℕ) (end : ℕ) (items : List A) (number d : ℕ) → AreCuts start ends end → number < length ends → slice_get (cut start ends items) number ≡ Some (slice_range items (start_at start ends number - start) (get_or ends number d - start))
 row_there start [] end items number d h lt = absurd (omega (arith, lt))
 row_there start (place ∷ places) end items zero d h lt =
@@ -77,7 +77,7 @@ no_row [] number le = refl
 no_row (x ∷ xs) zero le = absurd (omega (arith, le))
 no_row (x ∷ xs) (suc number) le = no_row xs number (omega (arith, le))
 
--- taking items out of a list, from the first
+-- taking items out of a list, from the front
 take_none : {A : Type 0} (n : ℕ) → take {A = A} n [] ≡ []
 take_none zero = refl
 take_none (suc n) = refl

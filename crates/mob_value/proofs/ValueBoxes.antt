@@ -1,4 +1,4 @@
--- The box that covers the boxes of all slices is that of the value.
+-- The box that covers the boxes of all slices is the box of the value.
 use Rattle.std.specs.Prelude.{◌≡◌, ◌≢◌, Bool, true, false, cond, refl, List, [], ◌∷◌, Option, Some, None, IfSome, MatchOption}
 use Rattle.std.proofs.lemmas.Bool.{and_from}
 use Rattle.std.specs.Prelude.{ℕ, ◌+◌, ◌<◌, length}
@@ -45,7 +45,7 @@ end c = c.to
 
 -- ---- a slice is in its box
 
--- a coordinate is between its limits
+-- a coordinate lies between its limits
 pub record IsBetween (x0 x1 x : Ratio) : Type 0 where
   pub from : up_to (smaller x0 x1) x ≡ true
   pub to : up_to x (greater x0 x1) ≡ true
@@ -121,7 +121,7 @@ no_two s t h k = true≢false (sym k ∙ grind (arith, h))
 has_lower : (s : SpanOf) → before s.lower s.upper ≡ false → has_instant s ≡ true → has s s.lower ≡ true
 has_lower s e h = grind (arith, e, h, before-self s.lower)
 
--- each value of the line on the span is at least c, so its limits are
+-- if each value of the line on the span is at least c, so are its end values
 low_limits : (c x0 x1 : Ratio) (s : SpanOf) (b : Bool) → before s.lower s.upper ≡ b → has_instant s ≡ true → (b ≡ false → x0 ≡ x1) → ((t : Ratio) → has s t ≡ true → up_to c (line_at x0 x1 s.lower s.upper t) ≡ true) → (up_to c x0 ≡ true) × (up_to c x1 ≡ true)
 low_limits c x0 x1 s true e i level f = (
   not_before x0 c (λ k. let m = start_below x0 x1 s.lower s.upper c e k in no_two _ _ (f m.at (inner_has s m.at m.after m.until)) m.is),
@@ -140,7 +140,7 @@ high_limits c x0 x1 s false e i level f =
     let here : up_to x0 c ≡ true = subst (λ z. up_to z c ≡ true) (line_at-short x0 x1 s.lower s.upper s.lower e) (f s.lower (has_lower s e i)) in
     (here, subst (λ z. up_to z c ≡ true) (level refl) here)
 
--- both limits of a slice are in each area with all of its positions
+-- an area with all positions of a slice contains both its end points
 limits_in : (s : Slice PlaneLine) (a : Area) → IsSound start end s → ((t : Ratio) → has s.span t ≡ true → InArea a (there s t)) → InArea a s.course.from × InArea a s.course.to
 limits_in s a sound f =
     let p = s.course.from in
@@ -174,7 +174,7 @@ none_past : (q : SpanOf) (v : List (Slice PlaneLine)) (t : Ratio) → AreAllClea
 none_past q [] t h k = refl
 none_past q (s ∷ v) t h k = rw (clear_has q s.span t h.0 k) (none_past q v t h.1 k)
 
--- what has the positions of all has those behind the first
+-- a box with the positions of all slices has those of the slices after the first
 rest_has : (s : Slice PlaneLine) (v : List (Slice PlaneLine)) (d : BoxOf) → AreAllClear (λ s. s.span) s.span v → HasPositions (s ∷ v) d → HasPositions v d
 rest_has s v d clear f t = by_test (has s.span t) refl (f t)
   where
@@ -195,7 +195,7 @@ covered_least : (b d : BoxOf) (v : List (Slice PlaneLine)) → contains d b ≡ 
 covered_least b d [] h a = h
 covered_least b d (s ∷ v) h a = covered_least (cover b (slice_box s)) d v (cover_least b (slice_box s) d h a.0) a.1
 
--- over the box of the first slice and those of all
+-- the cover of the box of the first slice and those of all slices is the box of the value
 pub is_box_of : (continues : PlaneLine → PlaneLine → Ratio → Ratio → Ratio → Bool) (slices : List (Slice PlaneLine)) (first : Slice PlaneLine) (b : BoxOf) → IsNormal start end continues slices → first ≡ get_or slices 0 first → b ≡ covered (slice_box first) slices → IsBoxOf slices b
 is_box_of continues [] first b normal e is = absurd (normal.some refl)
 is_box_of continues (s ∷ rest) first b normal e is =
@@ -209,12 +209,12 @@ is_box_of continues (s ∷ rest) first b normal e is =
     } in
     subst (λ z. IsBoxOf all z) (sym (is ∙ ap (λ (z : Slice PlaneLine). covered (slice_box z) all) e)) whole
 
--- which is the box of the value
+-- the cover is `value_box`
 pub is_value_box : (slices : List (Slice PlaneLine)) (first : Slice PlaneLine) (b : BoxOf) → slices ≢ [] → first ≡ get_or slices 0 first → b ≡ covered (slice_box first) slices → b ≡ value_box slices
 is_value_box [] first b some e is = absurd (some refl)
 is_value_box (s ∷ rest) first b some e is = is ∙ ap (λ (z : Slice PlaneLine). covered (slice_box z) (s ∷ rest)) e
 
--- one slice more
+-- one more slice
 pub next_covered : (over next first : BoxOf) (slices : List (Slice PlaneLine)) (i : ℕ) (s : Slice PlaneLine) → i < length slices → s ≡ get_or slices i s → next ≡ cover over (slice_box s) → covered over (drop i slices) ≡ covered first slices → covered next (drop (i + 1) slices) ≡ covered first slices
 next_covered over next first slices i s low here is h =
     ap (λ (z : BoxOf). covered z (drop (i + 1) slices)) is ∙ ap (λ (z : Slice PlaneLine). covered over (z ∷ drop (i + 1) slices)) here ∙ ap (covered over) (sym (drop_more slices i s low)) ∙ h
@@ -222,11 +222,11 @@ next_covered over next first slices i s low here is h =
 pub next_whole : (over next : BoxOf) (s : Slice PlaneLine) → is_whole over ≡ true → next ≡ cover over (slice_box s) → is_whole next ≡ true
 next_whole over next s h is = rw is (cover_whole over (slice_box s) h (slice_whole s))
 
--- a value has one box
+-- a moving point has at most one box
 pub one_value_box : (slices : List (Slice PlaneLine)) (b c : BoxOf) → IsBoxOf slices b → IsBoxOf slices c → b ≡ c
 one_value_box slices b c h k = one_box b c h.sound k.sound (k.least b h.has) (h.least c k.has)
 
--- the cover is the least box, whatever came to it
+-- the cover is the least box of any value in normal form
 pub value_box_least : (slices : List (Slice PlaneLine)) → IsNormal plane_course.start plane_course.end plane_course.continues slices → IsBoxOf slices (value_box slices)
 value_box_least [] normal = absurd (normal.some refl)
 value_box_least (s ∷ rest) normal = is_box_of plane_course.continues (s ∷ rest) s (value_box (s ∷ rest)) normal refl refl
@@ -236,7 +236,7 @@ one_own_box (Box a) b c h k = h ∙ sym k
 one_own_box (MovingPoint a) b c h k = one_value_box a b c h k
 one_own_box _ b c h k = absurd h
 
--- what is known of the box that a call gave holds on the box of the value
+-- what a call says of a box holds for the box of the value
 pub on_box : (value : Value) (found : Option BoxOf) (P : BoxOf → Type 0) (none : Type 0) → OnBox value (λ b. found ≡ Some b) (found ≡ None) → MatchOption found none P → OnBox value P none
 on_box (Box a) found P none h k = subst (λ o. MatchOption o none P) h k
 on_box (MovingPoint a) found P none h k = (h.0, h.1, subst (λ o. MatchOption o none P) h.2 k)

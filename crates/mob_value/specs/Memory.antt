@@ -1,10 +1,10 @@
--- Which values hold memory of their own.
+-- Which values hold memory.
 use Rattle.std.specs.Prelude.{Bool, true, false}
 use Rattle.mob_value.specs.declared.value.Value.{Value}
 use Rattle.mob_value.specs.declared.value.Value.TheVariants as value
 
--- the value is a text, a polygon, a span, a span set, a box or a value over time; every other one
--- is plain data
+-- the value is a text, a polygon, a span, a span set, a box or a value over time; the other values
+-- are plain data
 abbrev pub holds_memory : Value → Bool
 holds_memory value.Null = false
 holds_memory (value.Bool truth) = false

@@ -1,12 +1,12 @@
--- Which values a type has, as their form tells it.
+-- The values of each type, by their variants.
 use Rattle.std.specs.Prelude.{Bool, true, false, cond}
 use Rattle.mob_ast.specs.declared.types.SqlType.{SqlType}
 use Rattle.mob_ast.specs.declared.types.SqlType.TheVariants as sql
 use Rattle.mob_value.specs.declared.value.Value.{Value}
 use Rattle.mob_value.specs.declared.value.Value.TheVariants as value
 
--- Whether a value is one of a type. NULL is one of each, and a number one of int and of numeric:
--- that those of an int are whole is said by `IsValueOf` of `mob_catalog`.
+-- Whether a value is one of a type. NULL is a value of every type, and a number is one of int and
+-- of numeric. `IsValueOf` of `mob_catalog` adds that the numbers of an int are whole.
 abbrev pub is_of_type : SqlType → Value → Bool
 is_of_type type value.Null = true
 is_of_type sql.Bool (value.Bool truth) = true
@@ -26,6 +26,6 @@ is_of_type sql.TText (value.MovingText slices) = true
 is_of_type sql.TPoint (value.MovingPoint slices) = true
 is_of_type _ _ = false
 
--- a value read as one of a type: itself, and NULL where it is of another type
+-- a value read as one of a type: itself, or NULL if it has another type
 abbrev pub read_as : SqlType → Value → Value
 read_as type v = cond (is_of_type type v) v value.Null

@@ -4,10 +4,10 @@ ghost use Rattle.std.specs.Prelude.{◌≡◌, IfOk};
 use std::alloc::{AllocError, Global};
 use std::marker::Model;
 
-/// A value in memory of its own, so that what holds it has the size of a pointer. Contracts see the
-/// value itself.
+/// A value in an allocation of its own, so that its holder has the size of a pointer. Contracts see
+/// the value itself.
 ///
-/// A variant of `Value` whose parts would make each cell of a table larger stands in one.
+/// Large variants of `Value` are boxed, since they would make each cell of a table larger.
 #[derive(Drop)]
 pub struct Boxed<T> {
     held: Box<T>,
@@ -20,8 +20,8 @@ impl<T> Model for Boxed<T> {
 }
 
 impl<T> Boxed<T> {
-    /// Puts a value into memory of its own. An error where memory is refused; the value is then let
-    /// go.
+    /// Moves a value into an allocation of its own. On an error the allocation failed, and the
+    /// value is dropped.
     pub fn new(alloc: Global, value: T) -> Result<Boxed<T>, AllocError>
     where
         T: Drop,
@@ -32,7 +32,7 @@ impl<T> Boxed<T> {
         })
     }
 
-    /// The value where it stands.
+    /// Borrows the value.
     pub fn get(&self) -> &T
         ensures same { result.now ≡ self.now }
     {

@@ -1,12 +1,12 @@
-//! Copies of temporal values.
+//! Copies temporal values.
 ghost use Rattle.std.specs.Prelude.{◌≡◌, IfOk};
 
 use mob_slice::{BaseValue, Course, Line, Moving, PlaneLine, Slice, Steady};
 use std::alloc::{AllocError, Global};
 
-/// A course of which there can be a second one, the same.
+/// A course that can be copied.
 pub trait CopiedCourse: Course + Drop {
-    /// A second course, the same.
+    /// A copy. An error means that an allocation failed.
     fn copy_course(&self, alloc: Global) -> Result<Self, AllocError>
         ensures same { IfOk result (λ copy. copy ≡ self.now) };
 }
@@ -40,7 +40,7 @@ fn copy_slice<C: CopiedCourse>(alloc: Global, slice: &Slice<C>) -> Result<Slice<
     })
 }
 
-/// A second temporal value, the same.
+/// A copy of a temporal value. An error means that an allocation failed.
 pub fn copy_moving<C: CopiedCourse>(
     alloc: Global,
     moving: &Moving<C>,

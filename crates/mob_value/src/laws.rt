@@ -1,4 +1,4 @@
-//! What holds of every value. No code runs here.
+//! Laws of values: their boxes, and that they cross threads. No code runs here.
 
 ghost use Rattle.std.specs.Prelude.{◌≡◌, List};
 ghost use Rattle.mob_slice.specs.CourseOf.{plane_course};
@@ -13,18 +13,18 @@ ghost use Rattle.mob_value.specs.declared.value.Value.TheVariants.{MovingPoint a
 use crate::{Store, Table, Value};
 use mob_list::laws::crosses_threads;
 
-/// A moving point has one box.
+/// A moving point has at most one box.
 pub fn one_value_box()
     ensures one { (slices : List (Slice PlaneLine)) (b c : BoxOf) → IsBoxOf slices b → IsBoxOf slices c → b ≡ c }
 {}
 
-/// A moving point has a box: the cover of the boxes of its slices, normal as a value keeps them, is
-/// the least one.
+/// A moving point has a box: the cover of the boxes of its slices, in normal form, is the least
+/// one.
 pub fn value_boxes_are_least()
     ensures least { (slices : List (Slice PlaneLine)) → IsNormal plane_course.start plane_course.end plane_course.continues slices → IsBoxOf slices (value_box slices) }
 {}
 
-/// The box of a moving point has its position at each instant at which it is defined.
+/// The box of a moving point contains its position at each instant at which it is defined.
 pub fn boxes_have_positions()
     ensures all { (slices : List (Slice PlaneLine)) (b : BoxOf) → HasBox (PointValue slices) b → HasPositions slices b }
 {}

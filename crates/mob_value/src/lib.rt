@@ -1,4 +1,4 @@
-//! The values of SQL expressions, lent or made, how much memory they take, and tables of them.
+//! The values of SQL expressions, borrowed or owned, how much memory they take, and tables of them.
 #![tactic(auto)]
 
 mod boxed;

@@ -1,4 +1,4 @@
-//! Rows of items in one piece of memory.
+//! Rows of items in one allocation.
 ghost use Rattle.std.specs.Prelude.{◌≡◌, ◌<◌, ◌≤◌, ◌++◌, ◌∷◌, ◌==◌, [], IfOk, IfSome, IsNone, OnErr, OnOk, drop, length, option_map, slice_get, slice_index_or, take};
 ghost use Rattle.mob_value.specs.Cuts.{AreCuts, cut, start_at};
 
@@ -7,10 +7,10 @@ use std::alloc::{AllocError, Global};
 use std::collections::VecDeque;
 use std::marker::Model;
 
-/// Rows of items, which contracts see as the list of these rows.
+/// Rows of items. Contracts see the list of rows.
 ///
-/// The items of all rows are in one allocation, one row behind the other, and the places where rows
-/// end are in a second one. So a row takes the memory of its items and of one number.
+/// One allocation has the items of all rows, one row after the other, and a second one has the
+/// positions at which rows end. So a row takes the memory of its items and of one number.
 #[derive(Drop)]
 pub struct Rows<T> {
     items: Vec<T>,
@@ -28,8 +28,7 @@ impl<T> Model for Rows<T> {
     ghost invariant = { λ r. AreCuts 0 r.ends.items (length r.items.items) };
 }
 
-/// Rows that are taken out one after the other, from the first. Contracts see them as the list of
-/// the rows that are left.
+/// Rows to be taken out one by one, from the first. Contracts see the list of the remaining rows.
 #[derive(Drop)]
 pub struct RowsLeft<T> {
     items: VecDeque<T>,
@@ -46,7 +45,7 @@ impl<T> Model for RowsLeft<T> {
     ghost view = { λ r. cut r.start r.ends.items r.items.items };
 }
 
-// Where the row of a number begins.
+// The position at which the row with this number begins.
 fn start_of(ends: &[usize], number: usize) -> usize
     requires there { number < length ends.now }
     ensures start { result ≡ start_at 0 ends.now number }
@@ -57,7 +56,7 @@ fn start_of(ends: &[usize], number: usize) -> usize
     ends[number - 1]
 }
 
-// Where the row of a number begins and ends.
+// The positions at which the row with this number begins and ends.
 fn bounds_of(ends: &[usize], most: usize, number: usize) -> (usize, usize)
     requires cuts { AreCuts 0 ends.now most }
     requires there { number < length ends.now }
@@ -69,7 +68,7 @@ fn bounds_of(ends: &[usize], most: usize, number: usize) -> (usize, usize)
     (start_of(ends, number), ends[number])
 }
 
-// The row of a number.
+// The row with this number; `None` if there are fewer rows.
 fn row_at<'a, T>(items: &'a [T], ends: &[usize], number: usize) -> Option<&'a [T]>
     requires cuts { AreCuts 0 ends.now (length items.now) }
     ensures row { option_map (λ row. row.now) result ≡ slice_get (cut 0 ends.now items.now) number }
@@ -81,7 +80,7 @@ fn row_at<'a, T>(items: &'a [T], ends: &[usize], number: usize) -> Option<&'a [T
     Some(&items[start..end])
 }
 
-// Puts a row behind the others. Where memory is refused all stays as it was.
+// Appends a row. On an error nothing changes.
 fn push_row<T: Drop>(
     items: &mut Vec<T>,
     ends: &mut Vec<usize>,
@@ -100,7 +99,7 @@ fn push_row<T: Drop>(
 }
 
 impl<T> Rows<T> {
-    /// No row. It takes memory only when a row is pushed.
+    /// No rows. It takes memory only when a row is pushed.
     pub fn new(alloc: Global) -> Rows<T>
         ensures empty { result ≡ [] }
     {
@@ -110,28 +109,28 @@ impl<T> Rows<T> {
         }
     }
 
-    /// How many rows there are.
+    /// The number of rows.
     pub fn len(&self) -> usize
         ensures count { result ≡ length self.now }
     {
         self.ends.len()
     }
 
-    /// Whether there is no row.
+    /// Whether it has no rows.
     pub fn is_empty(&self) -> bool
         ensures empty { result ≡ (length self.now == 0) }
     {
         self.ends.is_empty()
     }
 
-    /// The items of the row of this number, counted from 0; `None` where there are fewer rows.
+    /// The items of the row with this number, from 0; `None` if there are fewer rows.
     pub fn get(&self, number: usize) -> Option<&[T]>
         ensures row { option_map (λ row. row.now) result ≡ slice_get self.now number }
     {
         row_at(self.items.as_slice(), self.ends.as_slice(), number)
     }
 
-    /// Puts a row behind the others. Where memory is refused the rows stay as they were.
+    /// Appends a row. An error means that an allocation failed; the rows are then unchanged.
     pub fn push(&mut self, row: Items<T>) -> Result<(), AllocError>
     where
         T: Drop,
@@ -141,7 +140,8 @@ impl<T> Rows<T> {
         push_row(&mut self.items, &mut self.ends, row)
     }
 
-    /// Makes room for these rows behind the others. The room is no part of what contracts see.
+    /// Reserves room for appending these rows. Contracts do not see the room. An error means that
+    /// an allocation failed.
     pub fn reserve_for(&mut self, more: &Rows<T>) -> Result<(), AllocError>
         ensures same { self.new ≡ self.old }
     {
@@ -149,7 +149,7 @@ impl<T> Rows<T> {
         self.items.reserve(more.items.len())
     }
 
-    /// The rows, to be taken out one after the other. It takes no memory.
+    /// The rows, to be taken out one by one. It takes no memory.
     pub fn into_left(self) -> RowsLeft<T>
         ensures same { result ≡ self }
     {
@@ -162,7 +162,7 @@ impl<T> Rows<T> {
     }
 }
 
-// Takes so many items out, from the first; all where there are fewer.
+// Takes out this many items from the front, or all if there are fewer.
 fn first_items<T: Drop>(
     alloc: Global,
     items: &mut VecDeque<T>,
@@ -182,8 +182,8 @@ fn first_items<T: Drop>(
 }
 
 impl<T> RowsLeft<T> {
-    /// Takes the first row out; `None` where no row is left. Where memory is refused the row is
-    /// lost.
+    /// Takes out the first row; `None` if no row is left. On an error an allocation failed, and the
+    /// row is lost.
     pub fn next(&mut self, alloc: Global) -> Result<Option<Items<T>>, AllocError>
     where
         T: Drop,

@@ -14,23 +14,23 @@ use std::alloc::{AllocError, Global};
 
 /// A value of SQL, or NULL.
 ///
-/// An int is a number with denominator 1, and so is each value of a moving int. A moment is its
-/// instant in seconds since midnight UTC of the epoch's day.
+/// An int is a number with denominator 1, and so is each value of a tint. A moment is in seconds
+/// since midnight UTC of the epoch day.
 #[derive(Drop)]
 pub enum Value {
     /// NULL, of any type.
     Null,
-    /// A truth value.
+    /// A bool.
     Bool(bool),
     /// An int or a numeric.
     Number(Frac),
     /// A text.
     Text(Text),
-    /// A moment.
+    /// A timestamptz, in seconds since midnight UTC of the epoch day.
     Moment(Frac),
-    /// A point of the plane.
+    /// A geometry(Point).
     Point(Point),
-    /// A polygon of the plane.
+    /// A geometry(Polygon).
     Polygon(Polygon),
     /// A tstzspan.
     Span(Boxed<Span>),
@@ -50,12 +50,12 @@ pub enum Value {
     MovingPoint(Moving<PlaneLine>),
 }
 
-// A table has a cell for each row and column, so a variant that is larger stands in a `Boxed`.
+// A table has a cell for each row and column, so larger variants are boxed.
 const _: () = prove!(size_of::<Value>() <= 40);
 
 impl Value {
-    /// A second value, the same, in memory of its own. It asks for memory only where the value
-    /// holds some: a text, a polygon, a span, a span set, a box, or a value over time.
+    /// A copy. It allocates only for values that hold memory: a text, a polygon, a span, a span
+    /// set, a box, or a value over time. An error means that an allocation failed.
     pub fn copy(&self, alloc: Global) -> Result<Value, AllocError>
         ensures same { IfOk result (λ copy. copy ≡ self.now) }
         ensures memory { OnErr result (holds_memory self.now ≡ true) }

@@ -1,4 +1,4 @@
-//! The box of a value over time.
+//! Computes the bounding boxes of values.
 ghost use Rattle.std.specs.Prelude.{◌≡◌, true, Some, None};
 ghost use Rattle.mob_stbox.specs.Boxes.{is_whole};
 ghost use Rattle.mob_value.specs.ValueBoxes.{IsBoxOf, OnBox, slice_box as box_of_slice, covered, value_box};
@@ -7,7 +7,7 @@ use crate::value::Value;
 use mob_slice::{Moving, PlaneLine, Slice};
 use mob_stbox::{Area, StBox};
 
-// The box of one slice.
+// The bounding box of one slice.
 #[tactic(auto, unfolding(mob_stbox::specs::Boxes::is_whole))]
 fn slice_box(slice: &Slice<PlaneLine>) -> StBox
     ensures value { result ≡ box_of_slice slice.now }
@@ -20,7 +20,7 @@ fn slice_box(slice: &Slice<PlaneLine>) -> StBox
     }
 }
 
-// The least box over a box and those of the slices.
+// The least box that contains a box and those of the slices.
 fn cover_all(first: StBox, slices: &[Slice<PlaneLine>]) -> StBox
     requires whole { is_whole first ≡ true }
     ensures value { result ≡ covered first slices.now }
@@ -32,8 +32,8 @@ fn cover_all(first: StBox, slices: &[Slice<PlaneLine>]) -> StBox
     over
 }
 
-/// The box of a moving point: the least closed rectangle that has all of its positions, and the
-/// least span that has each instant at which it is defined. It takes no memory.
+/// The bounding box of a moving point: the least closed rectangle that contains all its positions,
+/// and the least span that contains each instant at which it is defined. It takes no memory.
 pub fn box_of(moving: &Moving<PlaneLine>) -> StBox
     ensures least { IsBoxOf moving.now result }
     ensures value { result ≡ value_box moving.now }
@@ -45,8 +45,8 @@ pub fn box_of(moving: &Moving<PlaneLine>) -> StBox
     }
 }
 
-/// The box that a value has: a box is its own, and a moving point has the least one over it. No
-/// other value has one.
+/// The box of a value: an stbox is its own, and a moving point has its bounding box. Other values
+/// have none.
 pub fn box_of_value(value: &Value) -> Option<StBox>
     ensures own { OnBox value.now (λ b. result ≡ Some b) (result ≡ None) }
 {

@@ -1,4 +1,4 @@
-//! How much memory a value takes.
+//! Estimates how much memory a value takes.
 
 use crate::value::Value;
 use mob_frac::Frac;
@@ -8,7 +8,7 @@ use mob_slice::{Line, PlaneLine, Slice, Steady};
 use mob_span::Span;
 use std::mem::size_of;
 
-// So many things of so many bytes each.
+// The size of this many elements, in bytes.
 fn bytes(count: usize, each: usize) -> u64 {
     (count as u64).saturating_mul(each as u64)
 }
@@ -21,7 +21,7 @@ fn points(rings: &[Vec<Point>]) -> u64 {
     sum.saturating_mul(size_of::<Point>() as u64)
 }
 
-// The slices of a ttext, each with its text.
+// The size of the slices of a ttext with their texts, in bytes.
 fn texts(slices: &[Slice<Steady<Text>>]) -> u64 {
     let mut sum = 0_u64;
     for slice in slices {
@@ -44,7 +44,7 @@ fn own(value: &Value) -> u64 {
     }
 }
 
-/// About how many bytes a value takes where it is kept: its parts, and 128 for all else.
+/// The approximate size of a stored value, in bytes: its parts, and 128 for everything else.
 pub fn weight(value: &Value) -> u64 {
     own(value).saturating_add(128)
 }

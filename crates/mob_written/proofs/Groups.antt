@@ -1,4 +1,4 @@
--- The groups of slices, written from the left.
+-- The groups of slices, written from left to right.
 use Rattle.std.proofs.Common.{◌≡◌, ℕ, ◌≤◌, length, drop, List, [], ◌∷◌, ◌++◌, map, codes, Bool, true, false, cond, refl, sym, ap, ◌∙◌, append_assoc, append-nil, arith}
 use Rattle.std.specs.Prelude.{◌≢◌}
 use Rattle.std.proofs.lemmas.List.{drop_all}
@@ -15,7 +15,7 @@ use Rattle.mob_written.proofs.Small.{false_true, cons_nil}
 inside : {C B : Type 0} → Style C B → List (Slice C) → Text
 inside style group = with_commas (instants_of style group) ++ closing_text group
 
--- what stands behind the first group
+-- the text after the first group
 behind : {C B : Type 0} → Style C B → List (List (Slice C)) → Text
 behind style [] = []
 behind style (group ∷ groups) = codes ", " ++ with_commas (map (group_text style) (group ∷ groups))
@@ -53,7 +53,7 @@ next_group : (a b c o i d e f : Text) → i ++ d ≡ e ++ f → (a ++ b) ++ (c +
 next_group a b c o i d e f h = simp append_assoc (ap (λ (x : Text). a ++ (b ++ (c ++ (o ++ x)))) h)
 
 -- the first group begins with the first slice, and the text of all groups is the text written from
--- the left
+-- left to right
 record IsGrouped {C B : Type 0} (style : Style C B) (s : Slice C) (rest : List (Slice C)) : Type 0 where
   group : List (Slice C)
   groups : List (List (Slice C))
@@ -94,7 +94,7 @@ groups-from-left {C} style s rest =
     ∙ append_assoc (opening_text (s ∷ g.group)) (inside style (s ∷ g.group)) (behind style g.groups)
     ∙ ap (λ (x : Text). opening_text (s ∷ []) ++ x) g.text
 
--- slices that all go on are one group, and no others are
+-- slices that all continue the group are one group, and no others are
 record IsCounted {C B : Type 0} (course : CourseOf C B) (s : Slice C) (rest : List (Slice C)) : Type 0 where
   group : List (Slice C)
   groups : List (List (Slice C))
@@ -122,7 +122,7 @@ counted course s (r ∷ rest) = by_next (shares_group course s r) refl (counted 
       more = λ k. λ e. absurd (cons_nil (r ∷ g.group) g.groups e);
     }
 
--- slices of which each two neighbours go on are one group, where there is one
+-- slices are one group if there is one and all pairs of neighbours share a group
 pub one_group : {C B : Type 0} (course : CourseOf C B) (slices : List (Slice C)) → 1 ≤ length slices → all_neighbours (shares_group course) slices ≡ is_one_group course slices
 one_group course [] h = absurd (omega (arith, h))
 one_group course (s ∷ rest) h = refl
@@ -134,7 +134,7 @@ group-alone style (s ∷ rest) h =
     let c = counted style.course s rest in
     rw (c.is, c.one h) refl
 
--- no group or some, written in braces
+-- no groups or several, written in braces
 pub groups-braced : {C B : Type 0} (style : Style C B) (slices : List (Slice C)) → is_one_group style.course slices ≡ false → groups_text style (neighbour_groups style.course slices) ≡ in_braces (with_commas (map (group_text style) (neighbour_groups style.course slices)))
 groups-braced style [] h = refl
 groups-braced {C} style (s ∷ rest) h =
@@ -145,7 +145,7 @@ groups-braced {C} style (s ∷ rest) h =
     by_groups group [] n = absurd (n refl)
     by_groups group (next ∷ groups) n = refl
 
--- what a loop over the slices has written where it ends
+-- what the loop over the slices has written at its end
 pub groups_done : {C B : Type 0} (style : Style C B) (slices : List (Slice C)) (first last : Slice C) (rest : List (Slice C)) (i : ℕ) (old opened started now new : Text)
     → slices ≡ first ∷ rest → length rest ≤ i → opened ≡ old ++ opening_text (first ∷ []) → started ≡ opened ++ start_text style first
     → now ++ text_behind style last (drop i rest) ≡ started ++ text_behind style first rest → new ≡ now ++ end_part style last

@@ -1,4 +1,4 @@
--- The readers of temporal literals read exactly their texts, over any exact reader of values.
+-- The readers of temporal literals accept exactly their texts, given an exact reader of values.
 use Rattle.std.proofs.Common.{◌≡◌, ℕ, ℤ, [], ◌∷◌, ◌++◌, map, Bool, false, List, Option, Some, None, refl, sym, ap, subst, ◌∙◌, append_assoc, rules}
 use Rattle.std.specs.Prelude.{◌&&◌, ◌||◌, not, nat_eq}
 use Rattle.mob_language.specs.Language.{Text, Language, ◌∣◌, Means, Separated, blanks, is_blank, in_middle}
@@ -29,7 +29,8 @@ noted_exact {B} day {value} {reader} {F} v = means_exact (noted_of day) (then_ex
     (then_byte_stops at_exact moment_exact moment_blank moment_byte)
     (λ text rest w said after. subst F (sym (regrouped text said.front said.back rest said.whole)) (v.before_at said.front (said.back ++ rest) w.0 said.first)))
 
--- an entry of a literal: its reader, what it begins with, and that it has a byte
+-- an entry of a literal: its reader, the bytes with which it begins, and that it has at least one
+-- byte
 pub record IsEntry {A : Type 0} (entry : Text → A → Type 0) (reader : TextReader A) : Type 0 where
   pub exact : Exact entry reader Closes
   pub well_begun : NoHead entry begins_no_value
@@ -148,7 +149,7 @@ literal_exact {A} {entry} {reader} e = or_exact (braced_exact e)
     others_byte : HasByte (Means one_sequence (sequence entry) ∣ Means one_instant entry)
     others_byte = or_byte (means_byte one_sequence (sequence_byte entry)) (means_byte one_instant e.has_byte)
 
--- ---- a literal behind its prefixes
+-- ---- a literal after its prefixes
 
 abbrev pub Behind : Text → Type 0
 Behind rest = Any rest × (Any rest × Closes rest)

@@ -1,4 +1,4 @@
--- The reader of prefixes reads exactly the prefixes that are admitted.
+-- The reader of prefixes accepts exactly the admitted prefixes.
 use Rattle.std.proofs.Common.{◌≡◌, ℕ, List, [], ◌∷◌, ◌++◌, Bool, true, false, cond, Option, Some, None, refl, sym, ap, subst, ◌∙◌, append_assoc, append-nil, rules, inl, inr, ◌⊎◌}
 use Rattle.std.specs.Prelude.{◌&&◌, not, nat_eq}
 use Rattle.std.specs.Char.{to_ascii_lowercase}
@@ -45,7 +45,7 @@ small_no_blank reference c e = search rules
 no_blank : (p : Prefix) (text rest : Text) → IsLettered p text → Stops is_blank (text ++ rest)
 no_blank p text rest l = subst (λ (t : Text). Stops is_blank (t ++ rest)) (sym l.is) (small_no_blank p l.first l.letter)
 
--- prefixes begin with no blank
+-- prefixes do not begin with a blank
 pub prefixes_stop : (a : Prefixes) (said : List Prefix) (front rest : Text) → ArePrefixes a front said → Stops is_blank rest → Stops is_blank (front ++ rest)
 prefixes_stop a [] front rest are h = subst (λ (t : Text). Stops is_blank (t ++ rest)) (sym are) h
 prefixes_stop a (p ∷ said) front rest are h = no_blank p front rest (record { first = l.first; rest = l.rest ++ are.1; is = are.2 ∙ ap (λ (t : Text). t ++ are.1) l.is; letter = l.letter })
@@ -82,7 +82,7 @@ one_none a (c ∷ cs) h =
     let k = or_parts (is_first 105 a.step c) (is_first 115 a.srid c) h in
     rw (k.0, k.1) refl
 
--- what one step reads: no prefix begins, or one was read
+-- the result of one step: no prefix begins, or one was read
 record IsOne (a : Prefixes) (text : Text) (b : Prefixes) (rest : Text) : Type 0 where
   by : Prefix
   front : Text
@@ -123,7 +123,7 @@ one_sound a (c ∷ cs) b rest e = by_first (is_first 105 a.step c) (is_first 115
 
 -- ---- all prefixes
 
--- no third one is left
+-- no third prefix is left
 abbrev none_left : Prefixes
 none_left = record { step = false; srid = false }
 
@@ -148,7 +148,7 @@ then_one a b c text rest end e f = rw e f
 parts_again : (text front back rest : Text) → text ≡ front ++ back → text ++ rest ≡ front ++ (back ++ rest)
 parts_again text front back rest e = ap (λ (t : Text). t ++ rest) e ∙ append_assoc front back rest
 
--- prefixes are read, where what stands behind begins with no blank and no letter of one more
+-- prefixes are read if what follows begins neither with a blank nor with the letter of one more
 pub prefixes_read : (a : Prefixes) (said : List Prefix) (front rest : Text) → ArePrefixes a front said → Stops is_blank rest → Stops (begins_prefix (remaining a said)) rest → prefixes_at a (front ++ rest) ≡ Some (remaining a said, rest)
 prefixes_read a [] front rest are blank stops = subst (λ (t : Text). prefixes_at a (t ++ rest) ≡ Some (a, rest)) (sym are) (then_one a a a rest rest rest (one_none a rest stops) (one_none a rest stops))
 prefixes_read a (p ∷ []) front rest are blank stops =
@@ -164,7 +164,8 @@ prefixes_read a (p ∷ q ∷ r ∷ said) front rest are blank stops =
     let none : admits none_left r ≡ true = subst (λ (b : Prefixes). admits b r ≡ true) (both_said a p q are.3 are.5.3) are.5.5.3 in
     absurd (none_admitted r none)
 
--- what is read are prefixes, and what stands behind begins with the letter of no further one
+-- the text that was read consists of prefixes, and what follows does not begin with the letter of
+-- one more
 pub record AreRead (a : Prefixes) (text : Text) (left : Prefixes) (rest : Text) : Type 0 where
   pub said : List Prefix
   pub front : Text
@@ -215,7 +216,7 @@ prefixes_sound a text left rest e =
           stops = subst (λ (x : Prefixes). Stops (begins_prefix x) rest) gone (none_begins rest);
         }
 
--- ---- whether step interpolation is said
+-- ---- whether the literal asks for step interpolation
 
 gone : (a : Prefixes) (said : List Prefix) → a.step ≡ false → (remaining a said).step ≡ false
 gone a [] h = h

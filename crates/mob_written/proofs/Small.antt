@@ -1,4 +1,4 @@
--- Small facts on truth values, options and lists.
+-- Small facts about booleans, options and lists.
 use Rattle.std.proofs.Common.{◌≡◌, List, [], ◌∷◌, true, false, Option, Some, None}
 
 pub false_true : false ≡ true → ⊥

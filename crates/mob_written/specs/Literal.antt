@@ -1,10 +1,10 @@
 -- The texts of temporal literals.
 --
 -- A literal is one `value@moment`, a set of them in braces, a sequence of them between brackets, or
--- sequences in braces. Blanks may stand at both ends, and on both sides of each sign that stands
--- outside a value and a moment. An instant that stands alone or in a set stands for the sequence of
--- that instant alone, so each literal stands for a list of sequences. What may stand before a
--- literal says whether its sequences have step interpolation.
+-- sequences in braces. Blanks may be at both ends, and on both sides of each sign outside values
+-- and moments. A single instant, or an instant of a set, denotes the sequence of that instant
+-- alone. So each literal denotes a list of sequences. A prefix says whether these sequences have
+-- step interpolation.
 use Rattle.std.specs.Prelude.{◌≡◌, ℕ, List, [], ◌∷◌, ◌++◌, map, codes, true, ◌&&◌, not, nat_eq, Option, ℤ}
 use Rattle.mob_language.specs.Language.{Text, Language, ◌▷◌, ◌∣◌, Means, Separated, spaced, in_middle, within_blanks}
 use Rattle.mob_language.specs.Readers.{TextReader, ◌>>=◌, then_at, or_at, means_at, separated_at, spaced_at, within_blanks_at}
@@ -23,7 +23,7 @@ use Rattle.mob_written.specs.Prefix.{Prefix, ArePrefixes, remaining, says_step, 
 abbrev pub at_sign : Language (Unit {0})
 at_sign = spaced (codes "@")
 
--- the instant of a moment may not fit
+-- a value at a moment, whose instant may not fit
 abbrev pub noted_of : {B : Type 0} → ℤ → Option B × (Unit {0} × Stamp) → Noted B
 noted_of day v = record { value = v.0; instant = fitting (instant day v.1.1) }
 
@@ -34,15 +34,15 @@ noted day value = Means (noted_of day) (value ▷ (at_sign ▷ moment))
 abbrev pub sequence_of : {A : Type 0} → ℕ × (List A × ℕ) → Sequence A
 sequence_of v = record { lower_inc = nat_eq v.0 91; instants = v.1.0; upper_inc = nat_eq v.1.1 93 }
 
--- an opening bracket, instants with commas between, a closing bracket
+-- an opening bracket, instants with commas between them, and a closing bracket
 abbrev pub sequence : {A : Type 0} → (Text → A → Type 0) → Language (Sequence A)
 sequence entry = Means sequence_of (opening ▷ (Separated entry comma ▷ closing))
 
--- the sequence of one instant alone
+-- the sequence of a single instant
 abbrev pub alone : {A : Type 0} → A → Sequence A
 alone i = record { lower_inc = true; instants = i ∷ []; upper_inc = true }
 
--- sequences, or instants, with commas between
+-- sequences, or instants, with commas between them
 abbrev pub members : {A : Type 0} → (Text → A → Type 0) → Language (List (Sequence A))
 members entry = Separated (sequence entry) comma ∣ Means (map alone) (Separated entry comma)
 
@@ -58,7 +58,7 @@ one_instant i = alone i ∷ []
 abbrev pub literal : {A : Type 0} → (Text → A → Type 0) → Language (List (Sequence A))
 literal entry = braced entry ∣ (Means one_sequence (sequence entry) ∣ Means one_instant entry)
 
--- a literal behind prefixes that are admitted
+-- a literal after prefixes that are admitted
 pub record Prefixed {A : Type 0} (admitted : Prefixes) (entry : Text → A → Type 0) (text : Text) (v : Literal A) : Type 0 where
   pub front : Text
   pub back : Text
@@ -69,7 +69,7 @@ pub record Prefixed {A : Type 0} (admitted : Prefixes) (entry : Text → A → T
   pub sequences : literal entry back v.sequences
   pub step : v.says_step ≡ says_step said
 
--- a literal of a type that admits these prefixes, with blanks at both ends
+-- a literal of a type that admits these prefixes, with optional blanks at both ends
 abbrev pub temporal : {A : Type 0} → Prefixes → (Text → A → Type 0) → Language (Literal A)
 temporal admitted entry = within_blanks (Prefixed admitted entry)
 
@@ -99,7 +99,7 @@ braced_at entry = means_at in_middle (then_at open_brace_at (then_at (members_at
 unfoldable pub temporal_literal_at : {A : Type 0} → TextReader A → TextReader (List (Sequence A))
 temporal_literal_at entry = or_at (braced_at entry) (or_at (means_at one_sequence (sequence_at entry)) (means_at one_instant entry))
 
--- step interpolation is said where it was admitted, and is not left
+-- step interpolation was asked for if its prefix was admitted and is no longer allowed
 abbrev pub with_sequences : {A : Type 0} → Prefixes → Prefixes → List (Sequence A) → Literal A
 with_sequences admitted left qs = record { says_step = admitted.step && not left.step; sequences = qs }
 

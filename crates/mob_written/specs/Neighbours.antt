@@ -1,4 +1,4 @@
--- Lists of which each two neighbours pass a test.
+-- Lists in which all pairs of neighbours pass a test.
 use Rattle.std.specs.Prelude.{List, [], ◌∷◌, Bool, true, ◌&&◌}
 
 abbrev pub all_neighbours : {A : Type 0} → (A → A → Bool) → List A → Bool

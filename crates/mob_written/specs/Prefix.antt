@@ -1,10 +1,10 @@
--- What may stand before a temporal literal.
+-- The prefixes of a temporal literal.
 --
--- `Interp=Step;` says that the sequences of the literal have step interpolation, and `SRID=0;` says
--- nothing more. A type admits both, one or none of them. Each that it admits may stand there once,
--- in any order, its letters small or capital, with blanks on both sides of its semicolon. A prefix
--- that may stand there belongs to the whole literal and not to its first value, so what stands
--- behind the prefixes begins with the first letter of none that might still stand.
+-- `Interp=Step;` says that the sequences of the literal have step interpolation. `SRID=0;` changes
+-- nothing. A type admits both, one or none of them. Each admitted prefix may occur once, in any
+-- order and any letter case, with blanks on both sides of its semicolon. A prefix belongs to the
+-- whole literal and not to its first value. So what follows the prefixes does not begin with the
+-- first letter of one that is still allowed.
 use Rattle.std.specs.Prelude.{◌≡◌, ℕ, List, [], ◌∷◌, ◌++◌, codes, Bool, true, false, ◌&&◌, ◌||◌, not, cond, nat_eq, Option, Some, None}
 use Rattle.std.specs.Char.{to_ascii_lowercase}
 use Rattle.mob_language.specs.Language.{Text, Language}
@@ -24,8 +24,8 @@ prefix_word reference = srid_word
 abbrev pub prefix_of : Prefix → Language (Unit {0} × Unit {0})
 prefix_of p = heading (prefix_word p)
 
--- the prefixes that a type admits: `Interp=Step;` where its courses are not steady, and `SRID=0;`
--- where it has a reference system
+-- the prefixes that a type admits: `Interp=Step;` unless its courses are steady, and `SRID=0;` if
+-- it has a reference system
 abbrev pub admitted : Bool → Bool → Prefixes
 admitted steady has_srid = record { step = not steady; srid = has_srid }
 
@@ -33,28 +33,28 @@ abbrev pub admits : Prefixes → Prefix → Bool
 admits a interpolation = a.step
 admits a reference = a.srid
 
--- the others
+-- the allowed prefixes without this one
 abbrev pub without : Prefix → Prefixes → Prefixes
 without interpolation a = record { step = false; srid = a.srid }
 without reference a = record { step = a.step; srid = false }
 
--- what is left of those that are admitted
+-- the prefixes still allowed after these
 abbrev pub remaining : Prefixes → List Prefix → Prefixes
 remaining a [] = a
 remaining a (p ∷ said) = remaining (without p a) said
 
--- prefixes that are admitted, one behind the other, each once
+-- admitted prefixes, one after another, each at most once
 abbrev pub ArePrefixes : Prefixes → Text → List Prefix → Type 0
 ArePrefixes a text [] = text ≡ []
 ArePrefixes a text (p ∷ said) = (front : Text) × (back : Text) × (text ≡ front ++ back) × (admits a p ≡ true) × prefix_of p front (tt, tt) × ArePrefixes (without p a) back said
 
--- one of them says step interpolation
+-- one of them is `Interp=Step;`
 abbrev pub says_step : List Prefix → Bool
 says_step [] = false
 says_step (interpolation ∷ said) = true
 says_step (reference ∷ said) = says_step said
 
--- a letter, small or capital, with which a prefix begins that is admitted
+-- the first letter of an admitted prefix, in either case
 abbrev pub is_first : ℕ → Bool → ℕ → Bool
 is_first letter admitted c = nat_eq (to_ascii_lowercase c) letter && admitted
 
@@ -70,11 +70,11 @@ abbrev pub with_left : Prefixes → Option ((Unit {0} × Unit {0}) × Text) → 
 with_left left None = None
 with_left left (Some x) = Some (left, x.1)
 
--- one prefix where its first letter is there, and what is left
+-- one prefix, if its first letter is at the front, and those that are still allowed
 unfoldable pub one_prefix_at : Prefixes → TextReader Prefixes
 one_prefix_at a [] = Some (a, [])
 one_prefix_at a (c ∷ cs) = cond (is_first 105 a.step c) (with_left (without interpolation a) (prefix_at interpolation (c ∷ cs))) (cond (is_first 115 a.srid c) (with_left (without reference a) (prefix_at reference (c ∷ cs))) (Some (a, c ∷ cs)))
 
--- all of them: there are two
+-- all prefixes, of which there are at most two
 unfoldable pub prefixes_at : Prefixes → TextReader Prefixes
 prefixes_at a text = one_prefix_at a text >>= λ x. one_prefix_at x.0 x.1

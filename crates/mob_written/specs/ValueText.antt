@@ -1,4 +1,4 @@
--- What a temporal reader wants of the texts of its values.
+-- What the reader of temporal literals needs of the texts of values.
 use Rattle.std.specs.Prelude.{ℕ, List, ◌++◌, Bool, ◌||◌, nat_eq, Option}
 use Rattle.mob_language.specs.Language.{Text, is_blank}
 use Rattle.mob_language.specs.Readers.{TextReader}
@@ -7,12 +7,12 @@ use Rattle.mob_language.proofs.Heads.{NoHead, HasByte}
 use Rattle.mob_scalar.specs.Brackets.{is_open}
 use Rattle.mob_written.specs.Literal.{at_sign}
 
--- a blank, an opening bracket or a brace: no value begins with one
+-- a blank, an opening bracket or a brace, with which no value begins
 abbrev pub begins_no_value : ℕ → Bool
 begins_no_value c = is_blank c || (is_open c || nat_eq c 123)
 
--- The reader reads exactly the texts of the values, each of which has a byte, begins with none of
--- these and may stand before the sign @.
+-- The reader accepts exactly the texts of values. Each of these has at least one byte, does not
+-- begin with such a byte, and may come before the sign @.
 pub record IsValueText {B : Type 0} (value : List ℕ → Option B → Type 0) (reader : TextReader (Option B)) (follows : List ℕ → Type 0) : Type 0 where
   pub exact : Exact value reader follows
   pub before_at : (text rest : Text) (u : Unit {0}) → at_sign text u → follows (text ++ rest)

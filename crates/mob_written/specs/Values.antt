@@ -1,4 +1,4 @@
--- The values of the temporal types as they are written.
+-- The values of the temporal types, as written.
 use Rattle.std.proofs.Common.{◌≡◌, ℕ, Bool, true, false, Option, Some, refl, rules}
 use Rattle.std.specs.Prelude.{nat_eq}
 use Rattle.std.specs.Char.{is_ascii_alphabetic, to_ascii_lowercase}
@@ -23,7 +23,7 @@ use Rattle.mob_written.specs.ValueText.{IsValueText, begins_no_value}
 abbrev pub some_value : {B : Type 0} → B → Option B
 some_value v = Some v
 
--- a type that has every value of its base
+-- the type has every value of its base type
 abbrev pub any_value : {B : Type 0} → B → Bool
 any_value v = true
 
@@ -69,7 +69,7 @@ number_values = record {
   has_byte = number_value_byte;
 }
 
--- the values of a tint: a whole number
+-- the values of a tint: whole numbers
 abbrev pub is_whole_number : Ratio → Bool
 is_whole_number q = nat_eq q.den 1
 
@@ -92,7 +92,7 @@ quoted_values = record {
   has_byte = means_byte some_value text_value_byte;
 }
 
--- the values of a tgeompoint: points, each of which may carry SRID=0; of its own
+-- the values of a tgeompoint: points, each with or without SRID=0; before it
 letter_s : (c : ℕ) → to_ascii_lowercase c ≡ 115 → begins_no_value c ≡ false
 letter_s c e = search rules
 

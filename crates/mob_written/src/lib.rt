@@ -1,5 +1,5 @@
-//! The texts of temporal literals, read into their parts as they are written, and temporal values
-//! as they print. What a literal means, its normal value, is in `mob_literal`.
+//! Reads the texts of temporal literals into their parts, and prints temporal values. The value of
+//! a literal, in normal form, is made in `mob_literal`.
 #![tactic(auto)]
 
 mod literal;

@@ -1,4 +1,4 @@
-//! Temporal literals, as they are written.
+//! Reads temporal literals, as written.
 ghost use Rattle.std.specs.Prelude.{◌≡◌, ℕ, map, option_map, List, [], Option, Some, None, IfOk, Bool, true, ◌&&◌, not};
 ghost use Rattle.mob_language.specs.Readers.{all_of, means_at};
 ghost use Rattle.mob_written.specs.Literal.{alone as alone_of, one_sequence, one_instant, noted_at as noted_in, instants_at as instants_in, sequence_at as sequence_in, sequences_at as sequences_in, members_at as members_in, braced_at as braced_in, temporal_literal_at, prefixed_at as prefixed_in, temporal_at as temporal_in};
@@ -15,43 +15,44 @@ use mob_scalar::{
 use mob_slice::BaseValue;
 use std::alloc::{AllocError, Global};
 
-/// How the values of a temporal type are written.
+/// The texts of the values of a temporal type.
 pub trait WrittenValue {
     /// The base type of the values.
     type Base: BaseValue + Drop;
 
-    /// Which texts there are, and what value each stands for: None where its number does not fit.
+    /// The texts of values, each with its value; `None` if a number does not fit.
     ghost shape: { List ℕ → Option Self.Base → Type 0 };
 
-    /// The value of the text in front, and what stands behind it.
+    /// The reader of these texts: the value at the front, and the rest of the text.
     ghost reader: { List ℕ → Option (Option Self.Base × List ℕ) };
 
-    /// Whether `SRID=0;` may stand before a literal.
+    /// Whether `SRID=0;` may come before a literal.
     const HAS_SRID: bool;
 
     ghost HAS_SRID: { Bool };
 
-    /// What may stand behind a text.
+    /// What may follow a text.
     ghost follows: { List ℕ → Type 0 };
 
-    /// Whether the type has the value.
+    /// Whether the type has this value.
     ghost has_value: { Self.Base → Bool };
 
-    /// Reads the value in front.
+    /// Reads the value at the front. Returns it, if it fits, and the rest of the text. An error
+    /// means that an allocation failed.
     fn value_at(
         alloc: Global,
         bytes: &[u8],
     ) -> Result<Option<(Option<Self::Base>, &[u8])>, AllocError>
         ensures read { IfOk result (λ o. option_map (λ x. (x.0, x.1.now)) o ≡ reader bytes.now) };
 
-    /// Whether the type has the value.
+    /// Whether the type has this value.
     fn has_value(value: &Self::Base) -> bool
         ensures exact { result ≡ has_value value.now };
 
     ghost exact: { IsValueText shape reader follows };
 }
 
-/// One value at a moment, and what stands behind it.
+/// Reads a value, `@` and a moment. Returns them and the rest of the text.
 #[tactic(auto, unfolding(crate::specs::Literal::noted_at, crate::specs::Literal::at_sign_at))]
 fn noted_at<'a, T: WrittenValue>(
     alloc: Global,
@@ -78,7 +79,7 @@ fn noted_at<'a, T: WrittenValue>(
 
 type Instants<B> = Vec<Noted<B>>;
 
-/// Instants with commas between, and what stands behind them.
+/// Reads instants with commas between them. Returns them and the rest of the text.
 #[tactic(auto, unfolding(crate::specs::Literal::instants_at))]
 fn instants_at<'a, T: WrittenValue>(
     alloc: Global,
@@ -90,7 +91,7 @@ fn instants_at<'a, T: WrittenValue>(
     separated_at(alloc, |rest| noted_at::<T>(alloc, epoch, rest), bytes)
 }
 
-/// A sequence, and what stands behind it.
+/// Reads a sequence. Returns it and the rest of the text.
 #[tactic(auto, unfolding(crate::specs::Literal::sequence_at))]
 fn sequence_at<'a, T: WrittenValue>(
     alloc: Global,
@@ -118,7 +119,7 @@ fn sequence_at<'a, T: WrittenValue>(
 
 type Sequences<B> = Vec<Sequence<Noted<B>>>;
 
-/// Sequences with commas between, and what stands behind them.
+/// Reads sequences with commas between them. Returns them and the rest of the text.
 #[tactic(auto, unfolding(crate::specs::Literal::sequences_at))]
 fn sequences_at<'a, T: WrittenValue>(
     alloc: Global,
@@ -130,7 +131,7 @@ fn sequences_at<'a, T: WrittenValue>(
     separated_at(alloc, |rest| sequence_at::<T>(alloc, epoch, rest), bytes)
 }
 
-/// The sequence of one instant alone.
+/// The sequence of a single instant.
 fn alone<A: Drop>(alloc: Global, instant: A) -> Result<Sequence<A>, AllocError>
     ensures made { IfOk result (λ q. q ≡ alone_of instant) }
 {
@@ -143,7 +144,7 @@ fn alone<A: Drop>(alloc: Global, instant: A) -> Result<Sequence<A>, AllocError>
     })
 }
 
-/// Each instant as the sequence of it alone.
+/// The sequences of single instants.
 fn each_alone<A: Drop>(alloc: Global, instants: Vec<A>) -> Result<Vec<Sequence<A>>, AllocError>
     ensures made { IfOk result (λ v. v.items ≡ map alone_of instants.items) }
 {
@@ -154,7 +155,7 @@ fn each_alone<A: Drop>(alloc: Global, instants: Vec<A>) -> Result<Vec<Sequence<A
     Ok(sequences)
 }
 
-/// What stands in braces: sequences, or instants.
+/// Reads the sequences or instants inside braces.
 #[tactic(auto, unfolding(crate::specs::Literal::members_at))]
 fn members_at<'a, T: WrittenValue>(
     alloc: Global,
@@ -192,7 +193,7 @@ fn braced_at<'a, T: WrittenValue>(
     }
 }
 
-/// One sequence, as a list of sequences.
+/// Reads one sequence, as a list of sequences.
 fn one_sequence_at<'a, T: WrittenValue>(
     alloc: Global,
     epoch: &Epoch,
@@ -208,7 +209,7 @@ fn one_sequence_at<'a, T: WrittenValue>(
     Ok(Some((sequences, rest)))
 }
 
-/// One instant, as a list of sequences.
+/// Reads one instant, as a list of sequences.
 fn one_instant_at<'a, T: WrittenValue>(
     alloc: Global,
     epoch: &Epoch,
@@ -241,15 +242,15 @@ fn sequences_of<'a, T: WrittenValue>(
     one_instant_at::<T>(alloc, epoch, bytes)
 }
 
-/// Whether a prefix was said: it was admitted, and is not left.
+/// Whether a prefix was read: it was admitted and is no longer allowed.
 fn is_said(admitted: bool, left: bool) -> bool
     ensures value { result ≡ (admitted && not left) }
 {
     admitted && !left
 }
 
-/// A literal behind its prefixes, and what stands behind it. `Interp=Step;` may be one where the
-/// courses are not steady.
+/// Reads a literal with its prefixes. Returns it and the rest of the text. `Interp=Step;` is
+/// allowed unless the courses are steady.
 #[tactic(auto, unfolding(crate::specs::Literal::prefixed_at))]
 fn prefixed_at<'a, T: WrittenValue>(
     alloc: Global,
@@ -275,8 +276,8 @@ fn prefixed_at<'a, T: WrittenValue>(
     Ok(Some((literal, rest)))
 }
 
-/// The literal that all of the bytes are, as it is written, of a type whose courses are steady, or
-/// are not.
+/// Reads all of the bytes as a literal, as written. `None` if they are not the text of one. An
+/// error means that an allocation failed.
 #[tactic(auto, unfolding(crate::specs::Literal::temporal_at))]
 pub fn literal_of<T: WrittenValue>(
     alloc: Global,

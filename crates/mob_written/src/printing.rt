@@ -1,4 +1,4 @@
-//! Temporal values, printed.
+//! Prints temporal values.
 ghost use Rattle.std.specs.Prelude.{◌≡◌, ◌++◌, ◌&&◌, List, ℕ, [], ◌∷◌, map, not, OnOk, OnErr, string_bytes};
 ghost use Rattle.std.specs.List.{list_all};
 ghost use Rattle.mob_scalar.specs.Brackets.{with_commas};
@@ -13,12 +13,11 @@ use mob_scalar::{Epoch, write_moment};
 use mob_slice::{BaseValue, Course, Moving, Slice};
 use std::alloc::{AllocError, Global};
 
-/// A value that has a printed text.
+/// A value with a printed text.
 pub trait Printed {
-    /// The text.
     ghost text: { Self → List ℕ };
 
-    /// Appends the text. Where memory is refused `into` stays as it was.
+    /// Appends the text. An error means that an allocation failed; `into` is then unchanged.
     fn write(&self, into: &mut String) -> Result<(), AllocError>
         ensures written { OnOk result (string_bytes into.new ≡ string_bytes into.old ++ text self.now) }
         ensures unchanged { OnErr result (string_bytes into.new ≡ string_bytes into.old) };
@@ -39,15 +38,15 @@ where
     write_moment(instant, epoch, into)
 }
 
-/// Whether a slice is longer than an instant.
+/// Whether a slice is longer than one instant.
 fn is_long<C>(slice: &Slice<C>) -> bool
     ensures value { result ≡ long slice.now }
 {
     slice.span.is_long()
 }
 
-/// Whether the next course begins with the limit of the one before it. Of steady courses that is
-/// not asked.
+/// Whether the next course begins with the value at which this one ends. Always true for steady
+/// courses.
 fn takes_up<C: Course>(course: &C, next: &C) -> bool
 where
     C::Base: BaseValue,
@@ -56,7 +55,7 @@ where
     C::STEADY || course.end().same(next.start())
 }
 
-/// Whether two neighbours stand in one group.
+/// Whether two neighbours belong to the same group.
 #[tactic(auto, unfolding(mob_ratio::specs::Order::same))]
 fn shares_group<C: Course>(slice: &Slice<C>, next: &Slice<C>) -> bool
 where
@@ -135,7 +134,7 @@ where
     write_opening(next, into)
 }
 
-/// The groups, with a comma between each two.
+/// Writes the groups, with commas between them.
 fn write_groups<C: Course>(
     slices: &[Slice<C>],
     epoch: &Epoch,
@@ -159,7 +158,7 @@ where
     write_end(last, epoch, into)
 }
 
-/// The instants at which the slices start, with a comma between each two.
+/// Writes the instants at which the slices start, with commas between them.
 fn write_starts<C: Course>(
     slices: &[Slice<C>],
     epoch: &Epoch,
@@ -180,7 +179,7 @@ where
     Ok(())
 }
 
-/// Whether each slice is one instant.
+/// Whether each slice is a single instant.
 fn is_set<C>(slices: &[Slice<C>]) -> bool
     ensures value { result ≡ list_all (λ s. not (long s)) slices.now }
 {
@@ -199,7 +198,7 @@ where
     }
 }
 
-/// A set of instants, or one instant alone.
+/// Writes a set of instants, or a single instant without braces.
 fn write_set<C: Course>(
     slices: &[Slice<C>],
     epoch: &Epoch,
@@ -219,7 +218,7 @@ where
     }
 }
 
-/// One group alone, or groups in braces.
+/// Writes one group alone, or several in braces.
 fn write_sequences<C: Course>(
     slices: &[Slice<C>],
     epoch: &Epoch,
@@ -253,7 +252,8 @@ where
     }
 }
 
-/// Appends the printed text of a temporal value. Where memory is refused `into` stays as it was.
+/// Appends the printed text of a temporal value. An error means that an allocation failed; `into`
+/// is then unchanged.
 pub fn write_moving<C: Course>(
     value: &Moving<C>,
     epoch: &Epoch,

@@ -1,4 +1,4 @@
-//! How the values of the temporal types are written and printed.
+//! How the values of the temporal types are read and printed.
 ghost use Rattle.std.specs.Prelude.{Option, false};
 ghost use Rattle.mob_numeral.specs.NumberText.{number_text};
 ghost use Rattle.mob_scalar.specs.Truth.{truth_text};
@@ -16,7 +16,7 @@ use mob_scalar::{
 };
 use std::alloc::{AllocError, Global};
 
-/// The values of a tbool: `t`, `f`, `true` or `false`, its letters small or capital.
+/// The values of a tbool: `t`, `f`, `true` or `false`, in any letter case.
 pub struct Truths;
 
 impl WrittenValue for Truths {
@@ -51,7 +51,7 @@ impl WrittenValue for Truths {
     ghost exact = { truth_values };
 }
 
-/// The values of a tint: numbers that stand for whole ones.
+/// The values of a tint: numbers whose value is whole.
 pub struct WholeNumbers;
 
 impl WrittenValue for WholeNumbers {
@@ -157,7 +157,7 @@ impl WrittenValue for Texts {
     ghost exact = { quoted_values };
 }
 
-/// The values of a tgeompoint: points, each of which may carry `SRID=0;` of its own.
+/// The values of a tgeompoint: points, each with or without `SRID=0;` before it.
 pub struct Points;
 
 impl WrittenValue for Points {

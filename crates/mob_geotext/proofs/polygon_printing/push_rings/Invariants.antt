@@ -4,6 +4,6 @@ use Rattle.mob_geotext.specs.PolygonText.{ring_text}
 use Rattle.mob_geotext.proofs.JoinedWritten.{more_joined}
 use Rattle.mob_geotext.proofs.polygon_printing.push_rings.Given as goal
 
--- what is written, and what is still to be written
+-- the text written so far, and the text still to be written
 abbrev pub invariant-loop-next : goal.invariant-loop-next
 invariant-loop-next l = string_bytes l.into ++ more_joined ring_text (rings_of (drop l.next-index l.rest)) ≡ string_bytes l.initial.into ++ more_joined ring_text (rings_of l.rest)

@@ -5,7 +5,7 @@ use Rattle.mob_literal.specs.Slices.{made}
 use Rattle.mob_scalar.proofs.Traversed.{with_list}
 use Rattle.mob_literal.proofs.slicing.slices_of.Given as goal
 
--- the slices that are made, and those that are still made
+-- the slices made so far, and those still to be made
 abbrev pub invariant-loop-next : goal.invariant-loop-next
 invariant-loop-next g l = record {
   goes : (goal.iterator-loop-next g).can_next l.next-iterator;

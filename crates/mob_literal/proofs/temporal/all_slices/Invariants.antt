@@ -5,7 +5,7 @@ use Rattle.mob_literal.specs.Flat.{made_all}
 use Rattle.mob_scalar.proofs.Traversed.{with_list}
 use Rattle.mob_literal.proofs.temporal.all_slices.Given as goal
 
--- those that are made, and those that are still made
+-- the slices made so far, and those still to be made
 abbrev pub invariant-loop-sequence : goal.invariant-loop-sequence
 invariant-loop-sequence g l = record {
   goes : (goal.iterator-loop-sequence g).can_next l.sequence-iterator;

@@ -2,7 +2,7 @@ use Rattle.std.proofs.Common.{◌≡◌, ◌+◌, ◌≤◌, drop}
 use Rattle.mob_literal.specs.Sound.{instant_count}
 use Rattle.mob_literal.proofs.temporal.is_long.Given as goal
 
--- those that are counted, and those that are still counted
+-- the instants counted so far, and those still to be counted
 abbrev pub invariant-loop-sequence : goal.invariant-loop-sequence
 invariant-loop-sequence g l = record {
   few : l.count ≤ 100000;

@@ -4,7 +4,7 @@ use Rattle.mob_scalar.specs.Traverse.{traverse}
 use Rattle.mob_scalar.proofs.Traversed.{with_list}
 use Rattle.mob_scalar.proofs.each.fitting_each.Given as goal
 
--- those that are made, and those that are still made
+-- the values made so far, and those still to be made
 abbrev pub invariant-loop-item : goal.invariant-loop-item
 invariant-loop-item g l = record {
   goes : (goal.iterator-loop-item g).can_next l.item-iterator;

@@ -3,7 +3,7 @@ use Rattle.mob_language.proofs.Lists.{with_front}
 use Rattle.mob_scalar.specs.Quoted.{unescaped_at}
 use Rattle.mob_scalar.proofs.quoted.unescaped_at.Given as goal
 
--- what was read, and what is still read
+-- the bytes read so far, and those still to be read
 abbrev pub invariant-loop-rest : goal.invariant-loop-rest
 invariant-loop-rest l = with_front l.value.items (unescaped_at l.pending l.rest) ≡ unescaped_at false l.fn.bytes
 

@@ -3,7 +3,7 @@ use Rattle.std.specs.Vec.Iter.{into_iter_items, into_iter_len}
 use Rattle.mob_written.specs.Literal.{alone}
 use Rattle.mob_written.proofs.literal.each_alone.Given as goal
 
--- those that are made, and those that are still made
+-- the sequences made so far, and those still to be made
 abbrev pub invariant-loop-instant : goal.invariant-loop-instant
 invariant-loop-instant g l = record {
   goes : (goal.iterator-loop-instant g).can_next l.instant-iterator;

@@ -4,7 +4,7 @@ use Rattle.mob_slice.specs.CourseOf.{course_of}
 use Rattle.mob_written.specs.Style.{style_of}
 use Rattle.mob_written.proofs.printing.write_groups.Given as goal
 
--- what is written, and what is still to be written
+-- the text written so far, and the text still to be written
 abbrev pub invariant-loop-next : goal.invariant-loop-next
 invariant-loop-next g l =
     let style = style_of (course_of g.C.Course g.C.Base.BaseValue.is_same) g.C.Base.Printed.text l.epoch in
