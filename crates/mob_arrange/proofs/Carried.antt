@@ -54,7 +54,7 @@ module _ {Y : Type 0} (lt : Y → Y → Bool) (order : IsStrictWeakOrder lt) whe
       by true false e q = absurd (true≢false (sym e ∙ order.chain y z w h q))
       by false true e q = absurd (true≢false (sym q ∙ order.chain z y w k e))
 
-  -- and behind the same
+  -- and after the same
   level_behind : (y z w : Y) → lt y z ≡ false → lt z y ≡ false → lt w y ≡ lt w z
   level_behind y z w h k = by (lt w y) (lt w z) refl refl
     where

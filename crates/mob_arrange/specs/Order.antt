@@ -9,8 +9,8 @@ use Rattle.mob_value.specs.declared.value.Value.{Value}
 use Rattle.mob_value.specs.declared.value.Value.TheVariants.{Null, Bool as Truth, Number, Text, Moment, Point, Polygon, Span, SpanSet, Box, MovingBool, MovingInt, MovingFrac, MovingText, MovingPoint}
 use Rattle.mob_arrange.specs.Keyed.{Keyed}
 
--- The place of a value among values of other types, with NULL behind every other value. A key has
--- one type, so that only NULL stands beside its values.
+-- The place of a value among values of other types, with NULL after every other value. A key has
+-- one type, so that only NULL is beside its values.
 abbrev pub type_rank : Value → ℕ
 type_rank (Truth a) = 0
 type_rank (Number a) = 1
@@ -36,7 +36,7 @@ compare_values (Text a) (Text b) = compare_bytes a b
 compare_values (Moment a) (Moment b) = compare_ratio a b
 compare_values a b = nat_cmp (type_rank a) (type_rank b)
 
--- a key that falls, as under DESC, stands the other way round, with NULL first
+-- a key that falls, as under DESC, is the other way round, with NULL first
 abbrev pub compare_key : Bool → Value → Value → Ordering
 compare_key falls a b = cond falls (compare_values b a) (compare_values a b)
 

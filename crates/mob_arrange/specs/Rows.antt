@@ -4,7 +4,7 @@ use Rattle.std.specs.List.{Contains}
 use Rattle.mob_arrange.specs.Keyed.{Keyed}
 use Rattle.mob_arrange.specs.Order.{IsOrderedByKeys}
 
--- kept are those of xs, in order, that are equal to none before them, where those of `before` stand
+-- kept are those of xs, in order, that are equal to none before them, where those of `before` are
 -- before all
 abbrev pub AreFirst : {X : Type 0} → List X → List X → List X → Type 0
 AreFirst before [] kept = kept ≡ []

@@ -1,4 +1,4 @@
-// The text of an answer from its rows.
+//! The text of an answer from its rows.
 ghost use Rattle.std.specs.Prelude.{◌≡◌, IfOk, length, map, drop, true, false};
 ghost use Rattle.mob_literal.specs.Fields.{field_text};
 ghost use Rattle.mob_arrange.specs.Keyed.{row_of_values};

@@ -1,4 +1,4 @@
-// Of equal rows the first.
+//! Of equal rows the first.
 ghost use Rattle.std.specs.Prelude.{◌≡◌, ◌<◌, [], IfOk, drop, get_or, length, map, string_bytes};
 ghost use Rattle.mob_literal.specs.Fields.{field_text};
 ghost use Rattle.mob_arrange.specs.Rows.{AreFirst};
@@ -38,8 +38,8 @@ fn fields_of(alloc: Global, printer: &Fields<'_>, row: &Row<'_>) -> Result<Vec<S
     Ok(texts)
 }
 
-/// The fields of rows, of equal ones the first, in the order of the rows. The fields of a row stand
-/// behind so many keys.
+/// The fields of rows, of equal ones the first, in the order of the rows. The fields of a row are
+/// after so many keys.
 pub fn distinct(
     alloc: Global,
     keys: usize,

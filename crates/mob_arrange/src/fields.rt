@@ -22,7 +22,7 @@ fn write_found(found: Found<'_>, epoch: &Epoch, into: &mut String) -> Result<(),
     }
 }
 
-/// Prints the fields of rows, which stand behind so many keys.
+/// Prints the fields of rows, which are after so many keys.
 #[derive(Clone, Copy)]
 pub struct Fields<'a> {
     /// How many keys there are.

@@ -62,7 +62,7 @@ fn whole_number(value: &Value) -> i64
     }
 }
 
-/// The values behind the first one.
+/// The values after the first one.
 pub fn others<'a, 'b>(values: &'a [RowValue<'b>]) -> &'a [RowValue<'b>]
     ensures others { map row_value result.now ≡ other_keys (map row_value values.now) }
 {
@@ -83,7 +83,7 @@ fn first_number(values: &[RowValue<'_>]) -> i64
     }
 }
 
-// One list behind another.
+// One list after another.
 fn joined<T: Drop>(mut front: Vec<T>, mut back: Vec<T>) -> Result<Vec<T>, AllocError>
     ensures joined { IfOk result (λ all. all.items ≡ front.items ++ back.items) }
 {
@@ -92,7 +92,7 @@ fn joined<T: Drop>(mut front: Vec<T>, mut back: Vec<T>) -> Result<Vec<T>, AllocE
 }
 
 impl<'a> Listed<'a> {
-    /// The values of these keys, and behind them those of these fields.
+    /// The values of these keys, and after them those of these fields.
     pub fn new(
         keys: Items<RowValue<'a>>,
         fields: Items<RowValue<'a>>,
@@ -109,7 +109,7 @@ impl<'a> Listed<'a> {
         })
     }
 
-    /// The values of the keys, and behind them those of the fields.
+    /// The values of the keys, and after them those of the fields.
     pub fn values(&self) -> &[RowValue<'a>]
         ensures values { map row_value result.now ≡ self.now }
     {

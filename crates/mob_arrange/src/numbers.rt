@@ -64,7 +64,7 @@ impl Numbers {
         }
     }
 
-    // Puts a number behind the others, if there is room.
+    // Puts a number after the others, if there is room.
     fn push_number(&mut self, number: &Frac) -> bool
         ensures pushed { result ≡ true → self.new ≡ self.old ++ Number number.now ∷ [] }
     {
@@ -76,7 +76,7 @@ impl Numbers {
         true
     }
 
-    // Puts a value behind the others, if it is a number and there is room.
+    // Puts a value after the others, if it is a number and there is room.
     fn push(&mut self, value: &Value) -> bool
         ensures pushed { result ≡ true → self.new ≡ self.old ++ value.now ∷ [] }
     {
@@ -86,7 +86,7 @@ impl Numbers {
         }
     }
 
-    /// Puts values behind the others. It answers false where one is no number or there is no room;
+    /// Puts values after the others. It answers false where one is no number or there is no room;
     /// then some may be put.
     pub fn push_all(&mut self, values: &[RowValue<'_>]) -> bool
         ensures pushed { result ≡ true → self.new ≡ self.old ++ map row_value values.now }

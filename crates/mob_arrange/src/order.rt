@@ -1,4 +1,4 @@
-// The order of rows by their keys.
+//! The order of rows by their keys.
 ghost use Rattle.std.specs.Prelude.{◌≡◌, ◌<◌, ◌+◌, ◌^◌, OnOk, ℤ, drop, length, map};
 ghost use Rattle.std.specs.Ordering.{int_cmp};
 ghost use Rattle.mob_slice.specs.Ranks.{compare_ratio};
@@ -128,7 +128,7 @@ fn compare_seconds(falls: bool, a: &Listed<'_>, b: &Listed<'_>) -> Ordering
     }
 }
 
-// The order of the keys behind the first ones.
+// The order of the keys after the first ones.
 fn compare_others(falls: &[bool], a: &Listed<'_>, b: &Listed<'_>) -> Ordering
     ensures order { result ≡ compare_keys falls.now (other_keys a.now) (other_keys b.now) }
 {
@@ -234,8 +234,8 @@ fn compare_by(falls: &[bool], a: &Row<'_>, b: &Row<'_>) -> Ordering
 }
 
 /// Puts the rows in the order of their keys: a key falls where its entry in `falls` is true, NULL
-/// stands behind every other value where a key rises and before it where it falls, and rows whose
-/// keys tie stay in their order.
+/// is after every other value where a key rises and before it where it falls, and rows whose keys
+/// tie stay in their order.
 pub fn order(falls: &[bool], rows: &mut Vec<Row<'_>>) -> Result<(), AllocError>
     ensures ordered { OnOk result ((day : ℤ) → IsOrderedByKeys falls.now (map (row_of_values day (length falls.now)) rows.old.items) (map (row_of_values day (length falls.now)) rows.new.items)) }
 {

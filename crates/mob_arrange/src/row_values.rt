@@ -5,7 +5,7 @@ ghost use Rattle.mob_arrange.specs.RowValues.{row_value};
 use mob_value::{Boxed, Value};
 use std::alloc::{AllocError, Global};
 
-/// A value of a row: one that lies in the store, or one that was made, behind a pointer, so that a
+/// A value of a row: one that lies in the store, or one that was made, after a pointer, so that a
 /// row of stored values is small.
 #[derive(Drop)]
 pub enum RowValue<'a> {

@@ -21,7 +21,7 @@ pub enum RowForm<'a> {
     Listed(Listed<'a>),
 }
 
-/// A row of an answer: the values of its keys, and behind them those of its fields. Contracts see
+/// A row of an answer: the values of its keys, and after them those of its fields. Contracts see
 /// the list of these values.
 ///
 /// A row of at most four numbers has them in itself and takes no other memory, so that it is put in

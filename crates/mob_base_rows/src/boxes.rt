@@ -1,4 +1,4 @@
-// Boxes that have space and time, by whole numbers.
+//! Boxes that have space and time, by whole numbers.
 ghost use Rattle.std.specs.Prelude.{◌≡◌, true, IfSome};
 ghost use Rattle.mob_stbox.specs.Boxes.{is_whole};
 

@@ -1,4 +1,4 @@
-// Roots of linear functions on spans, and the cells that they make.
+//! Roots of linear functions on spans, and the cells that they make.
 
 ghost use Rattle.std.specs.Prelude.{◌≡◌, ◌<◌, ◌∷◌, [], length, true, IfOk};
 ghost use Rattle.mob_ratio.specs.Order.{before};

@@ -1,4 +1,4 @@
-// Steady courses, lists and texts.
+//! Steady courses, lists and texts.
 
 use crate::lines::span;
 use mob_frac::Frac;

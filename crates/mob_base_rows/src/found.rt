@@ -1,4 +1,4 @@
-// What a search finds.
+//! What a search finds.
 ghost use Rattle.std.specs.Prelude.{◌≡◌, ◌<◌};
 
 use mob_rtree::RTree;

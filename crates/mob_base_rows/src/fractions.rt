@@ -1,4 +1,4 @@
-// Fractions. The expected values are computed by hand and by Python's fractions.
+//! Fractions. The expected values are computed by hand and by Python's fractions.
 
 use mob_frac::{Frac, Overflow, Wide, over_product, same_ratio};
 use std::cmp::Ordering;

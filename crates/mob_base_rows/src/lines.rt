@@ -1,4 +1,4 @@
-// Lines on spans between whole numbers.
+//! Lines on spans between whole numbers.
 
 use mob_frac::Frac;
 use mob_plane::Point;

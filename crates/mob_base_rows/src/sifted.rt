@@ -1,4 +1,4 @@
-// Entries of many ids that are taken out in one pass, and the same one by one.
+//! Entries of many ids that are taken out in one pass, and the same one by one.
 ghost use Rattle.std.specs.Prelude.{true, IfSome};
 ghost use Rattle.std.specs.List.Sorted.{IsNonDecreasing};
 

@@ -1,4 +1,4 @@
-// Spans between whole numbers, and sets of them.
+//! Spans between whole numbers, and sets of them.
 
 use crate::lines::span;
 use mob_frac::Frac;
@@ -106,7 +106,7 @@ fn spans_are_in_order(rt: HostRuntime) {
 type Joined = (Ends, Ends, Ends, Ends, Ends, (bool, bool, bool));
 
 static SETS: [Joined; 2] = [
-    // they meet at 3, and the later span stands first
+    // they meet at 3, and the later span is first
     (
         (5, 6, true, true),
         (3, 4, true, false),

@@ -1,4 +1,4 @@
-// A tree of three boxes, of which two are equal and touch the one that is asked for.
+//! A tree of three boxes, of which two are equal and touch the one that is asked for.
 ghost use Rattle.std.specs.Prelude.{◌≡◌, true, IfSome};
 ghost use Rattle.mob_stbox.specs.Boxes.{is_whole};
 

@@ -1,4 +1,4 @@
-// The ten trips nearest to `POINT(500 500)`, and the approach of each trip.
+//! The ten trips nearest to `POINT(500 500)`, and the approach of each trip.
 ghost use Rattle.std.specs.Prelude.{◌≡◌, ◌<◌, ◌≤◌, length};
 ghost use Rattle.mob_knn.specs.Nearest.{AreOfTrips};
 

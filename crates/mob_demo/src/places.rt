@@ -1,4 +1,4 @@
-// Where the ships of the demo are, minute by minute.
+//! Where the ships of the demo are, minute by minute.
 ghost use Rattle.std.specs.Prelude.{◌≡◌, ◌≤◌};
 ghost use Rattle.mob_demo.specs.Demo.{ship_x, ship_y, to_and_fro};
 

@@ -1,4 +1,4 @@
-// The script of the demo.
+//! The script of the demo.
 ghost use Rattle.std.specs.Prelude.{◌≡◌, IfOk, string_bytes};
 ghost use Rattle.mob_demo.specs.Demo.{demo_script_text};
 

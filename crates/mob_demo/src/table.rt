@@ -1,4 +1,4 @@
-// The table file of the demo.
+//! The table file of the demo.
 ghost use Rattle.std.specs.Prelude.{◌≡◌, ◌<◌, ◌≤◌, ◌++◌, decimal, IfOk, OnOk, string_bytes};
 ghost use Rattle.mob_scalar.specs.MomentText.{padded};
 ghost use Rattle.mob_demo.specs.Demo.{demo_file_text, line_text, minute_text, position_text, positions_text, trip_text};

@@ -41,7 +41,7 @@ table_line file kind rec field = file ++ record_text kind rec field
 abbrev pub row_number : ℕ → ℕ
 row_number row = if row == no_row then 0 else row + 1
 
--- this number behind a blank
+-- this number after a blank
 abbrev pub further_row : ℕ → List ℕ
 further_row row = 32 ∷ decimal (row_number row)
 

@@ -1,4 +1,4 @@
-// How a run ends.
+//! How a run ends.
 ghost use Rattle.std.specs.Prelude.{◌≡◌};
 
 use mob_ast::{Kind, Refusal};
@@ -20,7 +20,7 @@ pub enum Ending {
     },
     /// Status 4: the answers could not be written.
     WriteFault,
-    /// Status 5: there was no memory.
+    /// Status 5: an allocation failed.
     NoMemory,
     /// Status 6: a table file is refused.
     TableRefused {

@@ -44,7 +44,7 @@ fn row_number(row: u32) -> u64
     u64::from(row) + 1
 }
 
-// This number behind a blank.
+// This number after a blank.
 fn put_further_row<E: Sink>(notes: &mut E, row: u32) -> Result<(), Failed>
     ensures whole { OnOk result (Appends (E.held notes.old) (E.held notes.new) (further_row row)) }
     ensures part { OnErr result (PutsPart (further_row row) (E.held notes.old) (E.held notes.new)) }
@@ -55,7 +55,7 @@ fn put_further_row<E: Sink>(notes: &mut E, row: u32) -> Result<(), Failed>
     put_pieces(notes, &pieces)
 }
 
-// The numbers of these rows, each behind a blank.
+// The numbers of these rows, each after a blank.
 fn put_further_rows<E: Sink>(notes: &mut E, rows: &[u32]) -> Result<(), Failed>
     ensures whole { OnOk result (Appends (E.held notes.old) (E.held notes.new) (concat (map further_row rows.now))) }
     ensures part { OnErr result (PutsPart (concat (map further_row rows.now)) (E.held notes.old) (E.held notes.new)) }

@@ -1,4 +1,4 @@
-// Divided work has one outcome for every number of workers, as many as there are to be.
+//! Divided work has one outcome for every number of workers, as many as there are to be.
 ghost use Rattle.std.specs.Prelude.{◌≤◌};
 
 use crate::gates::{Passing, TwoFlags};
@@ -115,7 +115,7 @@ fn each_worker_passes_once(rt: HostRuntime) {
     assert_eq!(rt; gate.sum(), 1);
 }
 
-// Work begins behind the gate: no piece of so many workers finds that none has passed it.
+// Work begins after the gate: no piece of so many workers finds that none has passed it.
 fn begins_behind_the_gate<R: Threads + Sync>(rt: &R, alloc: Global, workers: usize) -> bool
     requires some { 1 ≤ workers }
     requires few { workers ≤ 64 }

@@ -1,4 +1,4 @@
-// Gates that note which pieces passed, and which passed side by side.
+//! Gates that note which pieces passed, and which passed side by side.
 
 use mob_outside::Gate;
 use std::sync::atomic::{AtomicBool, AtomicU64, Ordering};

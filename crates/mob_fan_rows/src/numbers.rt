@@ -1,4 +1,4 @@
-// Work on a list of numbers.
+//! Work on a list of numbers.
 ghost use Rattle.std.specs.Prelude.{◌≡◌, IfOk};
 ghost use Rattle.mob_fan.specs.Outcomes.{outcome_seen};
 ghost use Rattle.mob_fan_rows.specs.Numbers.{passed};

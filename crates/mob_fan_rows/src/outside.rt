@@ -1,4 +1,4 @@
-// The ends by themselves: in memory, and over a reader and a writer.
+//! The ends by themselves: in memory, and over a reader and a writer.
 
 use mob_outside::{Failed, Files, MemFiles, MemSink, Sink, Source, StdSink, StdSource};
 use std::alloc::{AllocError, Global};

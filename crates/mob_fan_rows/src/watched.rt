@@ -1,5 +1,5 @@
-// Work that looks whether a worker has passed the gate, work of which two pieces look for each
-// other, and work that notes what is asked of it.
+//! Work that looks whether a worker has passed the gate, work of which two pieces look for each
+//! other, and work that notes what is asked of it.
 
 use crate::gates::{Passing, TwoFlags};
 use mob_fan::{Outcome, Work};

@@ -1,4 +1,4 @@
-// What the gap of two boxes may be.
+//! What the gap of two boxes may be.
 use mob_frac::Frac;
 
 /// How near what is in two boxes can come.

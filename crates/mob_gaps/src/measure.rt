@@ -59,7 +59,7 @@ fn are_apart(b: &StBox, q: &StBox) -> bool
     }
 }
 
-/// The gap of two boxes. It takes no memory.
+/// The gap of two boxes. It allocates nothing.
 ///
 /// It is `Apart` exactly where both boxes have times that share no instant. Else it is the least
 /// squared distance of their areas, or 0 where a part of its formulas does not fit. These are F2,

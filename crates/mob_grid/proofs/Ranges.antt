@@ -1,4 +1,4 @@
--- Each instant of a point lies in one tile, which stands in the range of each box that has it.
+-- Each instant of a point lies in one tile, which is in the range of each box that has it.
 use Rattle.std.proofs.Common.{◌≡◌, ◌↔◌, inl, inr, Bool, true, false, ℤ, pos, ◌*ℤ◌, ◌≤ℤ◌, ◌<ℤ◌, arith, refl, sym, subst, ◌&&◌, int_lt, negsuc, nat_abs, ◌<◌, ◌^◌}
 use Rattle.std.proofs.lemmas.Int.{ints}
 use Rattle.std.proofs.lemmas.Bool.{and_parts, and_from}

@@ -44,7 +44,7 @@ compare_tiles a b = ordering_then (int_cmp a.i b.i) (compare_later a b)
 
 -- ---- ranges
 
--- a stands in the range, by each of its numbers
+-- a is in the range, by each of its numbers
 pub record InRange (r : TileRange) (a : Tile) : Type 0 where
   pub from_i : r.low.i ≤ℤ a.i
   pub to_i : a.i ≤ℤ r.high.i
@@ -99,7 +99,7 @@ least_shared r s = record { i = greater_number r.low.i s.low.i; j = greater_numb
 abbrev pub is_least_shared : Tile → TileRange → TileRange → Bool
 is_least_shared a r s = is_eq (compare_tiles a (least_shared r s))
 
--- a stands in both ranges, and no tile that does comes before it
+-- a is in both ranges, and no tile that does comes before it
 pub record IsLeastShared (r s : TileRange) (a : Tile) : Type 0 where
   pub first : InRange r a
   pub second : InRange s a

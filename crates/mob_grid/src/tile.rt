@@ -26,7 +26,7 @@ pub struct TileRange {
 }
 
 impl Tile {
-    /// How the two stand: by i, then by j, then by k.
+    /// How the two are: by i, then by j, then by k.
     pub fn compare(&self, other: &Tile) -> Ordering
         ensures order { result ≡ compare_tiles self.now other.now }
     {

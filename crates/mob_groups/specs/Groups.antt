@@ -7,11 +7,11 @@ abbrev pub first_keys : {K : Type 0} → (K → K → Bool) → List K → List 
 first_keys same [] = []
 first_keys same (k ∷ ks) = k ∷ filter (λ j. not (same k j)) (first_keys same ks)
 
--- what stands under a key, in order
+-- what is under a key, in order
 abbrev pub members : {K X : Type 0} → (K → K → Bool) → K → List (K × X) → List X
 members same k entries = map (λ e. e.1) (filter (λ e. same k e.0) entries)
 
--- The groups in the order of their first entry: for each key that comes, what stands under it.
+-- The groups in the order of their first entry: for each key that comes, what is under it.
 abbrev pub groups_of : {K X : Type 0} → (K → K → Bool) → List (K × X) → List (List X)
 groups_of same entries = map (λ k. members same k entries) (first_keys same (map (λ e. e.0) entries))
 

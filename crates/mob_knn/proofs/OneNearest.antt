@@ -44,7 +44,7 @@ not_back : (a b : ℕ × Ratio) → nearer a b ≡ true → nearer b a ≡ true 
 not_back a b h k = not_itself a (nearer_trans a b a h k)
 
 -- a list that rises and has all of another one that is not longer, of which each that it has more
--- is behind all, is that one
+-- is after all, is that one
 same_list : (xs ys : List (ℕ × Ratio)) → IsRising xs → IsRising ys → ((x : ℕ × Ratio) → Contains xs x → Contains ys x) → ((y : ℕ × Ratio) → Contains ys y → Contains xs y) → xs ≡ ys
 same_list [] [] h k f g = refl
 same_list [] (y ∷ ys) h k f g = absurd (none_in y (g y (first_in y ys)))

@@ -107,7 +107,7 @@ module _ (bs : List Branch) (root : Option ℕ) (entries : List EntryOf) (has : 
   IsHeld key (Entry row) = (gap_reaches (gap_of (box_at row) q) key ≡ true) × ((m : Ratio) → has row m → up_to key m ≡ true)
   IsHeld key (Answer row) = has row key
 
-  -- it is behind an answer that was told
+  -- it is after an answer that was told
   abbrev pub IsLater : ℕ × Ratio → Ratio → What → Type 0
   IsLater o key (Node n) = before o.1 key ≡ true
   IsLater o key (Entry row) = before o.1 key ≡ true
@@ -171,7 +171,7 @@ module _ (bs : List Branch) (root : Option ℕ) (entries : List EntryOf) (has : 
     | inr i ↦ absurd (none_in x i)
   ]
 
-  -- what comes after an answer is behind it
+  -- what comes after an answer is after it
   next_later : (row : ℕ) (key wkey : Ratio) (what : What) → (before key wkey ≡ true) ⊎ ((wkey ≡ key) × ((2 < rank_of what) ⊎ ((rank_of what ≡ 2) × (row ≤ waiting_number what)))) → ((r : ℕ) → what ≡ Answer r → row ≡ r → ⊥) → IsLater (row, key) wkey what
   next_later row key wkey (Node n) (inl h) other = h
   next_later row key wkey (Node n) (inr (e, inl lt)) other = absurd (omega (arith, lt))
@@ -250,7 +250,7 @@ module _ (bs : List Branch) (root : Option ℕ) (entries : List EntryOf) (has : 
     apart_of : List Kid → List EntryOf
     apart_of kids = flat_map (λ (kd : Kid). apart_at kd (gap_of kd.0 q)) kids
 
-    -- its box is the one that stands there
+    -- its box is the one that is there
     at_box : (b : BoxOf) (row : ℕ) → Contains entries (b, row) → box_at row ≡ b
     at_box b row c = in_box q entries known.once (b, row) c
 

@@ -72,7 +72,7 @@ AreBoxes i [] entries = entries ≡ []
 AreBoxes i (None ∷ trips) entries = AreBoxes (i + 1) trips entries
 AreBoxes i (Some trip ∷ trips) entries = (b : BoxOf) × (rest : List EntryOf) × IsBoxOf trip b × (entries ≡ (b, i) ∷ rest) × AreBoxes (i + 1) trips rest
 
--- the entry of one trip stands behind the others, if the trip is there
+-- the entry of one trip is after the others, if the trip is there
 abbrev pub IsBoxPut : Option Trip → ℕ → List EntryOf → List EntryOf → Type 0
 IsBoxPut None row old new = new ≡ old
 IsBoxPut (Some trip) row old new = (b : BoxOf) × IsBoxOf trip b × (new ≡ old ++ (b, row) ∷ [])

@@ -1,4 +1,4 @@
-// What is asked: a moving point or a point.
+//! What is asked: a moving point or a point.
 ghost use Rattle.std.specs.Prelude.{◌≡◌, true, is_some};
 ghost use Rattle.mob_slice.specs.Sides.{operand_of};
 ghost use Rattle.mob_knn.specs.Nearest.{IsAskedBox};

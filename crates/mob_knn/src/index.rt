@@ -1,4 +1,4 @@
-// The index of trips.
+//! The index of trips.
 ghost use Rattle.std.specs.Prelude.{◌≤◌, IfOk, OnOk, length};
 ghost use Rattle.mob_knn.specs.Nearest.{AreBoxes, AreOfTrips, IsBoxPut};
 

@@ -1,4 +1,4 @@
-// The search.
+//! The search.
 ghost use Rattle.std.specs.Prelude.{◌≡◌, ℕ, ◌<◌, ◌+◌, ◌≤◌, ◌++◌, ◌∷◌, [], IfOk, IfErr, OnOk, Option};
 ghost use Rattle.std.specs.List.Sorted.{IsPermutation};
 ghost use Rattle.mob_ratio.specs.Ratio.{Ratio};

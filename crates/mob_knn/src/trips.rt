@@ -1,4 +1,4 @@
-// The approach of one row.
+//! The approach of one row.
 ghost use Rattle.std.specs.Prelude.{IfOk, IfErr, Some, MatchOption};
 ghost use Rattle.std.specs.List.{flat_map};
 ghost use Rattle.mob_slice.specs.Entries.{IsFirst};

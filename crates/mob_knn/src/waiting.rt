@@ -1,4 +1,4 @@
-// What waits in the heap of a search, and the order in which it is taken.
+//! What waits in the heap of a search, and the order in which it is taken.
 ghost use Rattle.std.specs.Prelude.{◌≡◌, ◌∷◌, ◌++◌, OnOk, IfErr};
 ghost use Rattle.std.proofs.Common.{rules};
 ghost use Rattle.std.specs.BinaryHeap.{heap_items, KeepsHeap};

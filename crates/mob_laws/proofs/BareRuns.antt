@@ -17,7 +17,7 @@ use Rattle.mob_laws.specs.IndexScripts.{Answered, answer_in, unplaced_select, un
 use Rattle.mob_laws.proofs.Unplaced.{kept_alike}
 use Rattle.mob_laws.proofs.UnplacedAnswers.{answers_alike, names_same}
 
--- ---- where a run stands, its indexes aside
+-- ---- where a run is, its indexes aside
 
 abbrev bare_catalogue : Catalogue → Catalogue
 bare_catalogue c = record c { indexed = []; index_names = [] }

@@ -116,7 +116,7 @@ record IsAlike (n : ℕ) (names : NameLists) (ss : List StatementParts) (cs : Li
   statements : without_indexes out.statements ≡ without_indexes others.statements
   literals : out.consts ≡ others.consts
 
--- what a statement and the others behind it are
+-- what a statement and the others after it are
 record Parts (n : ℕ) (names : NameLists) (s : StatementParts) (ss : List StatementParts) (cs : List ConstText) (out : ScriptOut) : Type 0 where
   first : Made × List ConstText
   rest : ScriptOut

@@ -7,7 +7,7 @@ use Rattle.mob_typed.specs.Selects.{TypedSelectParts}
 use Rattle.mob_typed.specs.Statements.{ScriptOut, new_index, new_rows, new_table, nothing, query}
 use Rattle.mob_laws.specs.IndexScripts.{DifferInIndexStatements}
 
--- SELECT id FROM t, where `id` stands at this place
+-- SELECT id FROM t, where `id` is at this place
 abbrev selects : ℕ → TypedSelectParts
 selects place = record {
   distinct = false;

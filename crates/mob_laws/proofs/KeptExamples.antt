@@ -24,7 +24,7 @@ two table = 0 ∷ 1 ∷ []
 abbrev IsPair : List ℕ → Type 0
 IsPair tuple = IsTuple second_joined met two (7 ∷ 8 ∷ []) tuple
 
--- the row 0 of the first table stands with no row of the second
+-- the row 0 of the first table is with no row of the second
 alone : IsPair (0 ∷ no_row ∷ [])
 alone = record { count = refl; entries = entries }
   where

@@ -1,4 +1,4 @@
--- Tuples that are kept are of rows that are there.
+-- Tuples that are kept are of live rows.
 use Rattle.std.proofs.Common.{◌≡◌, ◌+◌, arith, inl, inr, refl, subst, suc, ℕ, ℤ, Bool, true, false, List, [], ◌∷◌, Some, length, slice_get}
 use Rattle.std.specs.Prelude.{Option, is_some}
 use Rattle.mob_typed.specs.Selects.{TypedSelectParts, on_of}

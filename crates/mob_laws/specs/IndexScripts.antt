@@ -105,8 +105,8 @@ abbrev pub answer_in : StatementOut → List ℕ → List (List ℕ)
 answer_in (query q) text = text ∷ []
 answer_in _ text = []
 
--- The statements run one after another from where a run stands, and these are the texts of the
--- answers of their SELECTs, in order.
+-- The statements run one after another from where a run is, and these are the texts of the answers
+-- of their SELECTs, in order.
 abbrev pub Answered : ℤ → RunState → List StatementOut → List (List ℕ) → Type 0
 Answered day s [] answers = answers ≡ []
 Answered day s (x ∷ xs) answers = (t : RunState) × (text : List ℕ) × (rest : List (List ℕ)) × RunsStatement day s x t text × Answered day t xs rest × (answers ≡ answer_in x text ++ rest)

@@ -37,8 +37,8 @@ TuplesThatMeetAreKept = (q : TypedSelectParts) (c : Catalogue) (day : ℤ) (kept
 abbrev pub TuplesThatMeetAreOneList : Type 0
 TuplesThatMeetAreOneList = (q : TypedSelectParts) (c : Catalogue) (day : ℤ) (kept others : List (List ℕ)) → AreTuplesThatMeet q c day kept → AreTuplesThatMeet q c day others → kept ≡ others
 
--- Each of them is of rows that are there. So what is known of the expressions of a query on such
--- tuples, as that they read each value as it is stored, is known of them on each kept tuple.
+-- Each of them is of live rows. So what is known of the expressions of a query on such tuples, as
+-- that they read each value as it is stored, is known of them on each kept tuple.
 abbrev pub KeptTuplesAreLive : Type 0
 KeptTuplesAreLive = (q : TypedSelectParts) (c : Catalogue) (day : ℤ) (kept : List (List ℕ)) → IsKept q c day (Ok kept) → AllByRecursion (IsLiveTuple c q.joins q.from) kept
 

@@ -98,7 +98,7 @@ module _ (first rest : List (List ℕ)) (name : List ℕ) (a b d : Option (List 
   pub opened_last : AsksForSome (name ∷ []) b d → IsAskedLast (first ++ name ∷ rest) (length first) (length first) a d name ⊎ IsAskedLast (first ++ name ∷ rest) (length first) (length first + 1) a d name
   opened_last some = none_or_one some.0 some.1 some.2
 
--- the names of the checks up to one of them, and those behind
+-- the names of the checks up to one of them, and those after
 pub names_around : (first : List CheckParts) (c : CheckParts) (others : List CheckParts) → names_in (first ++ c ∷ others) ≡ names_in first ++ (names_of c ++ names_in others)
 names_around first c others = flat_map-append names_of first (c ∷ others)
 

@@ -22,7 +22,7 @@ written_order : checks_of script
 unfolding script constant
 written_order = refl
 
--- the script stands in written order
+-- the script is in written order
 written : IsWritten script
 unfolding script constant
 written = record {

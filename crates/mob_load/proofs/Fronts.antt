@@ -29,7 +29,7 @@ opened_front name None left bytes opens reads = tt
 opened_front name (Some m) None bytes opens reads = cc
 opened_front name (Some m) (Some whole) bytes opens reads = (whole, sym opens.0, reads)
 
--- what an opened file has left lies behind what was taken of it
+-- what an opened file has left lies after what was taken of it
 pub file_left : (name : List ℕ) (files : Option Contents) (left now : Option (List ℕ)) → Opens name files left → ReadsPart file_limit left now → IfSome files (λ m. IsLeftOf name m now)
 file_left name None left now opens part = tt
 file_left name (Some m) None now opens part = cc
@@ -45,8 +45,8 @@ short_front n xs short = elim (cases_lt (length xs) (n + 1)) [
   | inr more ↦ let cut = length-take-le (n + 1) xs more in absurd (omega arith)
 ]
 
--- what the front of a file says, the file says: one that is too long is refused whatever stands
--- behind the limit
+-- what the front of a file says, the file says: one that is too long is refused whatever is after
+-- the limit
 pub table_front : (columns : List Column) (day : ℤ) (room : ℕ) (whole : List ℕ) (rows : List (List Value)) → IsTable columns day room (take (file_limit + 1) whole) rows → IsTable columns day room whole rows
 table_front columns day room whole rows table = subst (λ (bytes : List ℕ). IsTable columns day room bytes rows) (short_front file_limit whole table.short) table
 

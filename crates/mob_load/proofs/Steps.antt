@@ -68,7 +68,7 @@ module _ (day : ℤ) (files : Contents) where
   goes_behind cs rest m r on (Ok k) passes = on k passes
   goes_behind cs rest m r on (Err h) passes = absurd (cc)
 
-  -- checks behind some that all pass
+  -- checks after some that all pass
   pub loads_behind : (first rest : List CheckParts) (l m : Loaded) (r : Result Loaded Halt) → Loads day files first l (Ok m) → Loads day files rest m r → Loads day files (first ++ rest) l r
   loads_behind [] rest l m r is loads = let same : m ≡ l = cc in subst (λ (x : Loaded). Loads day files rest x r) same loads
   loads_behind (c ∷ cs) rest l m r passes loads = (passes.0, passes.1, goes_behind cs rest m r (λ k passed. loads_behind cs rest k m r passed loads) passes.0 passes.2)

@@ -21,7 +21,7 @@ check_seen (Table cs) = table cs.now
 check_seen (Room t n p) = room t n p
 check_seen (File t name) = file t name.now
 
--- what is looked at beside the literals, and where it stands: the number of its statement, and its
+-- what is looked at beside the literals, and where it is: the number of its statement, and its
 -- place there
 pub record Checkpoint : Type 0 where
   pub statement : ℕ
@@ -52,11 +52,11 @@ abbrev pub checkpoints_from : ℕ → List StatementOut → List Checkpoint
 checkpoints_from n [] = []
 checkpoints_from n (s ∷ ss) = checkpoints_of n s ++ checkpoints_from (n + 1) ss
 
--- whether a literal stands before this place of this statement
+-- whether a literal is before this place of this statement
 abbrev pub stands_before : ConstText → ℕ → ℕ → Bool
 stands_before c n p = nat_lt c.statement n || (c.statement == n && nat_lt c.place p)
 
--- the literals that stand before a checkpoint, the checkpoint, and what comes next
+-- the literals before a checkpoint, the checkpoint, and what comes next
 abbrev pub checks_up_to : (List ConstText → List CheckParts) → Checkpoint → List ConstText → List CheckParts
 checks_up_to next m [] = m.check ∷ next []
 checks_up_to next m (c ∷ cs) = if stands_before c m.statement m.place then literal c ∷ checks_up_to next m cs else m.check ∷ next (c ∷ cs)
@@ -67,7 +67,6 @@ in_order [] cs = map literal cs
 in_order (m ∷ ms) cs = checks_up_to (in_order ms) m cs
 
 -- What is looked at before a script runs, in written order: statement by statement the new tables,
--- the files, the brackets of rows and the literals, each literal behind the bracket that stands
--- before it.
+-- the files, the brackets of rows and the literals, each literal after the bracket before it.
 abbrev pub checks_of : ScriptOut → List CheckParts
 checks_of out = in_order (checkpoints_from 1 out.statements) out.consts

@@ -19,8 +19,8 @@ checkpoints_in checks = flat_map checkpoint_in checks
 abbrev pub LooksAtCheckpoints : Type 0
 LooksAtCheckpoints = (out : ScriptOut) → checkpoints_in (checks_of out) ≡ map (λ m. m.check) (checkpoints_from 1 out.statements)
 
--- The checks before a checkpoint: the checkpoints before it, and exactly the literals that stand
--- before it in the script.
+-- The checks before a checkpoint: the checkpoints before it, and exactly the literals before it in
+-- the script.
 pub record IsCutAt (checks : List CheckParts) (before : List Checkpoint) (m : Checkpoint) (literals : List ConstText) : Type 0 where
   pub first : List CheckParts
   pub last : List CheckParts

@@ -1,4 +1,4 @@
-// The checks that are made before a script runs.
+//! The checks that are made before a script runs.
 
 use mob_ast::SqlType;
 use mob_list::text::Text;

@@ -1,4 +1,4 @@
-// One check: a literal, a new table, a row of an INSERT, or a file.
+//! One check: a literal, a new table, a row of an INSERT, or a file.
 ghost use Rattle.std.specs.Prelude.{◌≡◌, ◌≢◌, ◌+◌, ◌^◌, ◌<◌, ◌≤◌, IfErr, IfOk, IfSome, OnOk, length, map, option_map, slice_get, slice_index, slice_set, Some};
 ghost use Rattle.mob_outside.specs.Told.{AsksFor, KeepsFiles, MayAskFor, file_of};
 ghost use Rattle.mob_catalog.specs.Faults.{OnRefused};

@@ -1,4 +1,4 @@
-// A table file, read to its end or to one byte past the limit.
+//! A table file, read to its end or to one byte past the limit.
 ghost use Rattle.std.specs.Prelude.{◌≡◌, ◌⊎◌, ◌≤◌, IfOk, IfErr, IfSome, Err};
 ghost use Rattle.mob_outside.specs.Faults.{Rose};
 ghost use Rattle.mob_outside.specs.Told.{AsksFor, KeepsFiles, MayAskFor};

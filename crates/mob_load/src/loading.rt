@@ -1,4 +1,4 @@
-// How far loading has come.
+//! How far loading has come.
 
 use mob_ast::SqlType;
 use mob_list::items::Items;

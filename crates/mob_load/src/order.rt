@@ -1,4 +1,4 @@
-// What is looked at before a script runs, in written order.
+//! What is looked at before a script runs, in written order.
 ghost use Rattle.std.specs.Prelude.{◌≡◌, ◌++◌, ◌∷◌, [], List, IfOk, drop, map};
 ghost use Rattle.mob_typed.specs.declared.typed.ConstText.{ConstText};
 ghost use Rattle.mob_typed.specs.Statements.{script_seen, statement_seen};
@@ -8,15 +8,14 @@ use crate::check::Check;
 use mob_typed::{ConstText, Typed, TypedStatement};
 use std::alloc::{AllocError, Global};
 
-// Whether a literal stands before this place of this statement.
+// Whether a literal is before this place of this statement.
 fn stands_before(literal: &ConstText, statement: u32, place: u32) -> bool
     ensures before { result ≡ stands_before literal.now statement place }
 {
     literal.statement < statement || (literal.statement == statement && literal.place < place)
 }
 
-// Puts the literals from number `put` on that stand before this place. Answers the number of the
-// next one.
+// Puts the literals from number `put` on before this place. Answers the number of the next one.
 fn push_literals<'a>(
     done: &mut Vec<Check<'a>>,
     literals: &'a [ConstText],
@@ -38,8 +37,8 @@ fn push_literals<'a>(
     Ok(at)
 }
 
-// Puts the literals from number `put` on that stand before this place, and then the check of this
-// place. Answers the number of the next literal.
+// Puts the literals from number `put` on before this place, and then the check of this place.
+// Answers the number of the next literal.
 fn push_checkpoint<'a>(
     done: &mut Vec<Check<'a>>,
     literals: &'a [ConstText],
@@ -56,7 +55,7 @@ fn push_checkpoint<'a>(
     Ok(at)
 }
 
-// Puts the brackets of an INSERT, each behind the literals that stand before it.
+// Puts the brackets of an INSERT, each after the literals before it.
 fn push_brackets<'a>(
     done: &mut Vec<Check<'a>>,
     literals: &'a [ConstText],
@@ -80,7 +79,7 @@ fn push_brackets<'a>(
     Ok(at)
 }
 
-// Puts the checkpoints of a statement, each behind the literals that stand before it.
+// Puts the checkpoints of a statement, each after the literals before it.
 fn push_statement<'a>(
     done: &mut Vec<Check<'a>>,
     literals: &'a [ConstText],

@@ -8,9 +8,9 @@ pub fn checkpoints_are_looked_at()
     ensures once { LooksAtCheckpoints }
 {}
 
-/// Where the literals of a script and the brackets of its rows stand in written order, each of
-/// these checkpoints is looked at behind the checkpoints before it and behind exactly the literals
-/// that stand before it.
+/// Where the literals of a script and the brackets of its rows are in written order, each of these
+/// checkpoints is looked at after the checkpoints before it and after exactly the literals before
+/// it.
 pub fn script_is_looked_at_in_order()
     ensures cut { LooksInOrder }
 {}

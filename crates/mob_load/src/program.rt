@@ -1,4 +1,4 @@
-// What was loaded, and why it was not.
+//! What was loaded, and why it was not.
 ghost use Rattle.std.specs.Prelude.{◌≡◌};
 
 use mob_ast::{Kind, Refusal};
@@ -37,7 +37,7 @@ pub enum LoadEnd {
         /// The name of the file.
         file: Text,
     },
-    /// There was no memory.
+    /// An allocation failed.
     NoMemory,
 }
 

@@ -66,7 +66,7 @@ fn program_of(loading: Loading<'_>) -> Program
 }
 
 /// The values of a script's literals and the rows of its files; or its first refusal, statement by
-/// statement: of a literal without a value, of a row behind the millionth of its table, or of a
+/// statement: of a literal without a value, of a row after the millionth of its table, or of a
 /// file. Each file is read when its statement is reached, to its end or to one byte past
 /// 16,777,216.
 pub fn load<F: Files>(

@@ -1,4 +1,4 @@
-// The text of the answer.
+//! The text of the answer.
 ghost use Rattle.std.specs.Prelude.{◌≡◌, ◌≤◌, ◌<◌, IfOk, IfErr, length, map};
 ghost use Rattle.mob_numeral.specs.NumberText.{number_text};
 ghost use Rattle.mob_slice.specs.Sides.{operand_of};

@@ -1,4 +1,4 @@
-// What a run does before its note.
+//! What a run does before its note.
 ghost use Rattle.std.specs.Prelude.{map, string_bytes};
 ghost use Rattle.mob_outside.specs.EndsSeen.{stream_seen};
 ghost use Rattle.mob_trips.specs.Endings.{IsTripsEnding};

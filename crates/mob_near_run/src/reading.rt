@@ -1,4 +1,4 @@
-// What the arguments of a command line say.
+//! What the arguments of a command line say.
 ghost use Rattle.std.specs.Prelude.{◌≡◌, ◌≢◌, ◌==◌, Ok, None, IfOk, IfSome, IsNone, map, string_bytes};
 ghost use Rattle.std.specs.List.{list_any};
 ghost use Rattle.mob_ast.specs.declared.types.SqlType.TheVariants.{TPoint, Point as PointType};

@@ -1,4 +1,4 @@
-// What the arguments of a command line say.
+//! What the arguments of a command line say.
 use mob_plane::Point;
 use mob_scalar::Epoch;
 use mob_slice::{Moving, PlaneLine};

@@ -1,4 +1,4 @@
-// The values that arguments give to the options.
+//! The values that arguments give to the options.
 ghost use Rattle.std.specs.Prelude.{◌≡◌, IfOk, IfSome, IsNone, codes, map, option_map, string_bytes};
 ghost use Rattle.mob_words.specs.Arguments.{Takes, option_value};
 ghost use Rattle.mob_near_run.specs.CommandLine.{near_command};

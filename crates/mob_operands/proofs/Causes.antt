@@ -114,7 +114,7 @@ near_unfit s e d v w is by one n k (inl h) =
     record { value = v; is_value = is; box = h.0; is_box = h.1; distance = x.0; is_distance = subst (λ z. TreeEvaluatesTo s d (Ok z)) x.1 by; unfit = x.2 }
 near_unfit s e d v w is by one n k (inr h) = absurd (h.0 one.0 one.1)
 
--- a distance behind a value that is not NULL
+-- a distance after a value that is not NULL
 abbrev ByDistance : Scene → TypedTree → Value → Probe → Type 0
 ByDistance s d v = AsksBy s d (λ w. ByBox v (AsksForWider w))
 

@@ -190,7 +190,7 @@ module _ (o : Op) (by : Calculation) (due : (ty : SqlType) → is_plain_number t
   number_answers sql.Numeric sql.Numeric sql.Numeric e = by_numbers o by sql.Numeric (due sql.Numeric refl) sql.Numeric sql.Numeric (λ x y v g. numeric_made o _ _ _ v g)
   number_answers _ _ _ e = absurd (true≢false (sym e))
 
--- ---- a text behind a text
+-- ---- a text after a text
 
 pub join_right : (a : Value) → concatenation a Null ≡ Null
 join_right Null = refl

@@ -1,5 +1,5 @@
-// Boxes, read from their texts, asked by the calls of the library, and printed again; and those of
-// points that move. The epoch is 2000-01-01.
+//! Boxes, read from their texts, asked by the calls of the library, and printed again; and those of
+//! points that move. The epoch is 2000-01-01.
 
 use mob_ast::SqlType;
 use mob_frac::Frac;

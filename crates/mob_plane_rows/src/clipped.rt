@@ -1,4 +1,4 @@
-// A moving point and a box: what is left of it inside, and what outside. The epoch is 2000-01-01.
+//! A moving point and a box: what is left of it inside, and what outside. The epoch is 2000-01-01.
 
 use crate::printed::is_left;
 use mob_ast::SqlType;

@@ -1,5 +1,5 @@
-// Two points, of which one moves: whether they are ever within a distance, and the square of their
-// nearest approach.
+//! Two points, of which one moves: whether they are ever within a distance, and the square of their
+//! nearest approach.
 
 use crate::printed::{is_answer, is_decision};
 use mob_ast::SqlType;

@@ -1,4 +1,4 @@
-// The places that cut columns of tiles by the rows that reach them.
+//! The places that cut columns of tiles by the rows that reach them.
 
 use mob_pairs::{Reach, even_places};
 use mob_tile::{Tile, TileRange};
@@ -29,7 +29,7 @@ static PLACES: [Row; 15] = [
     // a row counts for each column that it reaches
     (&[0, 3], 3, 0, 4, 2, &[3]),
     (&[0, 1, 2], 1, 0, 4, 3, &[2, 3]),
-    // columns before the first count as it, and those behind the last as that
+    // columns before the first count as it, and those after the last as that
     (&[-9, 1], 10, 0, 3, 2, &[2]),
     (&[-9, 0, 1, 900, 1000], 0, 0, 3, 2, &[2]),
 ];

@@ -1,5 +1,5 @@
-// Polygons, read from their texts, copied and printed; what is left of a moving point inside one
-// and outside, and whether it ever is inside. The epoch is 2000-01-01.
+//! Polygons, read from their texts, copied and printed; what is left of a moving point inside one
+//! and outside, and whether it ever is inside. The epoch is 2000-01-01.
 
 use crate::printed::{is_left, is_settled};
 use mob_ast::SqlType;

@@ -1,4 +1,4 @@
-// The pairs of trips that come within a distance, by the work of `tiled` on all its tiles at once.
+//! The pairs of trips that come within a distance, by the work of `tiled` on all its tiles at once.
 
 use mob_ast::SqlType;
 use mob_fan::{Outcome, Work};

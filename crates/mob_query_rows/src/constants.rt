@@ -1,4 +1,4 @@
-// How constants without a value are refused.
+//! How constants without a value are refused.
 
 use mob_ast::{Kind, Refusal, SqlType};
 use mob_catalog::constant_refusal;

@@ -1,5 +1,5 @@
-// Expressions that no script has: operators on operands of other types, NULL, and numbers of no
-// constant, table or column.
+//! Expressions that no script has: operators on operands of other types, NULL, and numbers of no
+//! constant, table or column.
 
 use mob_ast::{Cmp, SqlType};
 use mob_catalog::Catalog;

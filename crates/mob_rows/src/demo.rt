@@ -1,5 +1,5 @@
-// Runs of the demo, over a script and files of which the first call fails: none of their calls is
-// made.
+//! Runs of the demo, over a script and files of which the first call fails: none of their calls is
+//! made.
 
 use crate::ends::{Failing, Report, Watch, gave};
 use crate::scripts::run_script;

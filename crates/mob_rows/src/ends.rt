@@ -1,4 +1,4 @@
-// The ends of a run in memory, of which calls fail, and what a run gave.
+//! The ends of a run in memory, of which calls fail, and what a run gave.
 
 ghost use Rattle.std.specs.Prelude.{◌<◌};
 

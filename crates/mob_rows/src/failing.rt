@@ -1,6 +1,6 @@
-// Runs in which the k-th call of an end fails, for each k until no call is the k-th. What whole
-// scripts and tables answer stands in `checks/rows` and `checks/trips`. How often an end has failed
-// it tells contracts alone (clauses `fails`, `counts` and `failed` of the ends in memory).
+//! Runs in which the k-th call of an end fails, for each k until no call is the k-th. What whole
+//! scripts and tables answer is in `checks/rows` and `checks/trips`. How often an end has failed it
+//! tells contracts alone (clauses `fails`, `counts` and `failed` of the ends in memory).
 
 use crate::ends::{Failing, NONE_FAILS, Report, Watch, gave};
 use crate::scripts::run_script;
@@ -506,7 +506,7 @@ fn ends_so(rt: &(impl Threads + Sync), alloc: Global, row: &Row, call: u64) -> b
     }
 }
 
-// Each call that can fail ends the run so, and the two numbers behind these are no calls.
+// Each call that can fail ends the run so, and the two numbers after these are no calls.
 fn are_right(rt: &(impl Threads + Sync), alloc: Global, row: &Row) -> bool {
     let mut call: u64 = 1;
     for moved in row.5 {
@@ -542,7 +542,7 @@ fn ends_by(rt: &(impl Threads + Sync), alloc: Global, call: u64, status: u8, not
 }
 
 // The first four calls read the file of the first COPY. The fifth would open that of the second,
-// behind the literal.
+// after the literal.
 #[test]
 fn a_file_that_is_copied_twice_is_read_when_it_is_reached(rt: HostRuntime) {
     let refused = "statement 4, byte 107: refusal 14 (BadLiteral)\n";

@@ -1,4 +1,4 @@
-// One run of mobsql over ends in memory.
+//! One run of mobsql over ends in memory.
 
 use crate::ends::{Failing, Report, Watch, files, listed, sink, source};
 use mob_outside::{MemFiles, MemSource};

@@ -1,4 +1,4 @@
-// One run of a program over a table of trips, over streams in memory.
+//! One run of a program over a table of trips, over streams in memory.
 
 use crate::ends::{Failing, Report, Watch, listed, sink, source};
 use mob_near_run::run_near;

@@ -1,4 +1,4 @@
-// What the words of the command line say. Which words are not taken stands in `checks/rows`.
+//! What the words of the command line say. Which words are not taken is in `checks/rows`.
 
 use crate::ends::listed;
 use mob_words::settings;

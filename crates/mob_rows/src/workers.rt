@@ -1,4 +1,4 @@
-// Runs by many workers, at an open gate and at one where two workers look for each other.
+//! Runs by many workers, at an open gate and at one where two workers look for each other.
 
 use crate::demo::{TWO_SHIPS, demo};
 use crate::ends::{NONE_FAILS, Report, Watch, gave};

@@ -130,8 +130,8 @@ impl RTree {
         Ok(())
     }
 
-    /// Takes one entry of this box and id out, and tells whether it was there. It takes no memory,
-    /// and none of what `reserve_one` made.
+    /// Takes one entry of this box and id out, and tells whether it was there. It allocates
+    /// nothing, and none of what `reserve_one` made.
     pub fn remove(&mut self, b: &StBox, id: u32) -> bool
         ensures found { result ≡ true → IsAdded self.new.entries (b.now, id) self.old.entries }
         ensures missing { result ≡ false → All (λ e. e ≢ (b.now, id)) self.old.entries }
@@ -157,8 +157,8 @@ impl RTree {
     }
 
     /// Takes every entry out whose id is one of these, which do not fall. It goes over all nodes,
-    /// whatever the ids, and computes each box once, so it is for many ids at a time. It takes no
-    /// memory, and none of what `reserve_one` made.
+    /// whatever the ids, and computes each box once, so it is for many ids at a time. It allocates
+    /// nothing, and none of what `reserve_one` made.
     pub fn remove_ids(&mut self, ids: &[u32])
         requires rising { IsNonDecreasing ids.now }
         ensures left { AreSame self.new.entries (without_ids ids.now self.old.entries) }

@@ -49,7 +49,7 @@ root_gathers root ps tree g =
     let e = level_is ps root.node ∙ root_height root ps tree in
     ap (λ h. sum_by g (gathered (map branch_of ps) h root.node)) e ∙ gathered_sum g ps root.height root.node ∙ walk_entries (λ _. true) (λ a b w o h. refl) g root ps tree
 
--- what stands in a node is of its kind
+-- what is in a node is of its kind
 kind_at : (ps : List TreeNode) (n i : ℕ) (p : TreeNode) (k : Kid) → All IsSoundNode ps → n < length ps → p ≡ get_or ps n p → i < length p.kids.items → k ≡ get_or p.kids.items i k → is_kind p.height k.1 ≡ true
 kind_at ps n i p k sound inside is within at =
     let s = sound_at ps n p inside is sound in
@@ -60,7 +60,7 @@ entry_low : (h : ℕ) (id : ℕ) → is_kind h (Entry id) ≡ true → h ≡ 0
 entry_low zero id e = refl
 entry_low (suc h) id e = absurd (true≢false (sym e))
 
--- where a child may stand at two heights of which one is 0, so is the other
+-- where a child may be at two heights of which one is 0, so is the other
 kind_low : (h : ℕ) (c : Child) → is_kind 0 c ≡ true → is_kind h c ≡ true → h ≡ 0
 kind_low h (Entry id) low e = entry_low h id e
 kind_low h (Node m) low e = absurd (true≢false (sym low))

@@ -73,7 +73,7 @@ one_fit h k a =
     let e = ap {B = ℕ} (λ b. cond (not b) 1 0) a in
     omega (arith, sum_by-cons w k [], e)
 
--- the root split, and stands below a new one
+-- the root split, and is below a new one
 pub tree_some : (root : Ref) (old : List TreeNode) (tree : IsTree root old) (kid : Kid) (g : Grown) (new : List TreeNode) → IsGrown old root.node kid g new → (m : Kid) → g.more ≡ Some m
     → (r : TreeNode) → r.kids.items ≡ (g.area, Node root.node) ∷ m ∷ [] → r.height ≡ root.height + 1 → r.area ≡ cover g.area m.0
     → (number : ℕ) (after : List TreeNode) → IsPut new r number after → IsTree (record { area = r.area; node = number; height = root.height + 1 }) after

@@ -110,7 +110,7 @@ sifted_at ids old n p part inside is height sound kids =
       sifted = λ q at. subst (λ q. IsSiftedNode ids old q part) (same_read old n p q inside is at) (record { height = height; sound = sound; kids = kids });
     }
 
--- what was read of the node is what stands there
+-- what was read of the node is what is there
 pub read_left : (ids : List ℕ) (old ps : List TreeNode) (n : ℕ) (p q : TreeNode) (left : List Kid) → n < length old → ps ≡ old → p ≡ get_or old n p → q ≡ get_or old n q → left ≡ filter_map (left_kid ids ps q.height) q.kids.items → left ≡ filter_map (left_kid ids old p.height) p.kids.items
 read_left ids old ps n p q left inside same p-is q-is made =
     made ∙ ap (λ ps. filter_map (left_kid ids ps q.height) q.kids.items) same ∙ ap (λ (p : TreeNode). filter_map (left_kid ids old p.height) p.kids.items) (same_read old n q p inside q-is p-is)

@@ -21,7 +21,7 @@ pub record IsForest (h : ℕ) (kids : List Kid) (ps : List TreeNode) : Type 0 wh
   pub live : AreLive ps
   pub fit : count_by (λ k. not (is_fit h k)) kids ≡ 0
 
--- of the children of a level, those that came stand in nodes, which are in above, or wait
+-- of the children of a level, those that came are in nodes, which are in above, or wait
 pub record IsPacking (h : ℕ) (old : List TreeNode) (came : List Kid) (ps : List TreeNode) (above waiting : List Kid) : Type 0 where
   pub once : (f : Ref → ℕ) → nodes_sum f 0 ps + (refs_sum f old + kids_sum f h came) ≡ nodes_sum f 0 old + (refs_sum f ps + (kids_sum f (suc h) above + kids_sum f h waiting))
   pub entries : (g : EntryOf → ℕ) → entries_sum g ps + leaf_sum g waiting h ≡ entries_sum g old + leaf_sum g came h

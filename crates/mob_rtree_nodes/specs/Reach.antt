@@ -44,7 +44,7 @@ abbrev pub entries_below : List Branch → Kid → List EntryOf
 entries_below bs (b, Entry id) = (b, id) ∷ []
 entries_below bs (b, Node n) = entries_under bs n
 
--- a node stands at this depth: the root at 0, and a child of a node one deeper than that
+-- a node is at this depth: the root at 0, and a child of a node one deeper than that
 pub data StandsAtDepth : List Branch → Option ℕ → ℕ → ℕ → Type 0 where
   is_root : {bs : List Branch} {root : Option ℕ} {n : ℕ} → root ≡ Some n → StandsAtDepth bs root 0 n
   is_child : {bs : List Branch} {root : Option ℕ} {depth n m i : ℕ} {b : BoxOf} → StandsAtDepth bs root depth n → i < length (children bs n) → (b, Node m) ≡ get_or (children bs n) i (b, Node m) → StandsAtDepth bs root (suc depth) m
@@ -57,7 +57,7 @@ IsReachedNode bs root n = (depth : ℕ) × StandsAtDepth bs root depth n
 abbrev pub IsLeaf : List Branch → ℕ → Type 0
 IsLeaf bs n = All (λ k. is_kind 0 k.1 ≡ true) (children bs n)
 
--- all leaves stand at one depth
+-- all leaves are at one depth
 abbrev pub HaveOneDepth : List Branch → Option ℕ → Type 0
 HaveOneDepth bs root = (depth other n m : ℕ) → StandsAtDepth bs root depth n → StandsAtDepth bs root other m → IsLeaf bs n → IsLeaf bs m → depth ≡ other
 

@@ -36,7 +36,7 @@ pub record IsSiftedAt (ids : List ℕ) (old : List TreeNode) (n : ℕ) (new : Li
   pub nodes : new ≡ set old n part
   pub sifted : (p : TreeNode) → p ≡ get_or old n p → IsSiftedNode ids old p part
 
--- each node has that is lower than h, or stands at height h before number n; the others are as they
+-- each node has that is lower than h, or is at height h before number n; the others are as they
 -- were
 pub record IsSiftedUpTo (ids : List ℕ) (old : List TreeNode) (h n : ℕ) (ps : List TreeNode) : Type 0 where
   pub size : length ps ≡ length old

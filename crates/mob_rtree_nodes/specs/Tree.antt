@@ -30,7 +30,7 @@ is_kind zero (Node n) = false
 is_kind (suc h) (Entry id) = false
 is_kind (suc h) (Node n) = true
 
--- a child may stand in a node of height h
+-- a child may be in a node of height h
 abbrev pub is_fit : ℕ → Kid → Bool
 is_fit h k = is_whole k.0 && is_kind h k.1
 
@@ -86,7 +86,7 @@ pub record IsReused (old new : List TreeNode) : Type 0 where
   pub same : (length new ≡ length old) ⊎ AreLive new
   pub live : AreLive old → AreLive new
 
--- the node r stands at the number m, where a dropped one was or behind all
+-- the node r is at the number m, where a dropped one was or after all
 abbrev pub IsPut : List TreeNode → TreeNode → ℕ → List TreeNode → Type 0
 IsPut old r m new = ((m < length old) × (kids_at old m ≡ []) × (new ≡ set old m r)) ⊎ ((m ≡ length old) × (new ≡ old ++ r ∷ []))
 

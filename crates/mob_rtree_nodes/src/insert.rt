@@ -121,7 +121,7 @@ pub fn add(part: &mut TreeNode, kid: (StBox, Child)) -> Option<TreeNode>
     None
 }
 
-/// Puts a node where one was dropped, or behind all where there is none, and answers its number.
+/// Puts a node where one was dropped, or after all where there is none, and answers its number.
 pub fn put_node(nodes: &mut Vec<TreeNode>, free: &mut Vec<u32>, part: TreeNode) -> u32
     requires free { IsFree free.old.items nodes.old.items }
     requires live { 0 < length part.kids.items }

@@ -1,4 +1,4 @@
-//! The nodes of a tree and what stands in them.
+//! The nodes of a tree and what is in them.
 ghost use Rattle.std.specs.Prelude.{◌≡◌};
 ghost use Rattle.mob_rtree_nodes.specs.Tree.{target};
 ghost use Rattle.mob_rtree_nodes.specs.declared.node.Child.TheVariants.{Node};
@@ -16,7 +16,7 @@ pub enum Child {
 impl Default for Child {
     ghost is_default = { λ c. c ≡ Node 0 };
 
-    /// The node 0. It stands where an array wants something to begin with.
+    /// The node 0. It is where an array wants something to begin with.
     fn default() -> Child {
         Child::Node(0)
     }

@@ -51,7 +51,7 @@ fn kid_after(
     node_after(nodes, kid)
 }
 
-/// Puts a child that is left behind the others.
+/// Puts a child that is left after the others.
 fn push_left(left: &mut ArrayVec<(StBox, Child), 16>, kid: Option<(StBox, Child)>)
     requires room { array_vec_len left.old < 16 }
     ensures items { left.new.items ≡ left.old.items ++ cons_option kid [] }

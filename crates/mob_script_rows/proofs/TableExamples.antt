@@ -16,8 +16,8 @@ use Rattle.mob_typing.specs.Statements.{node_value, typed_statement, typed_scrip
 use Rattle.mob_typed.specs.Statements.{new_table, new_rows, query}
 use Rattle.mob_script_rows.proofs.Examples.{word, type_word, leaf, number, string, literal, column, refused, refused_in}
 
--- the column of this name and type, whose type stands two bytes behind the beginning of a name of
--- one letter
+-- the column of this name and type, whose type is two bytes after the beginning of a name of one
+-- letter
 abbrev new_column : List ℕ → ℕ → List ℕ → Word × TypeWord
 new_column name p ty = (word name p, type_word ty (p + 2))
 
@@ -42,7 +42,7 @@ unfolding typed_statement typed_expression typed_operands typed_before_operands 
 a_star_without_tables = refl
 
 -- c00 int, c01 int, ..: so many columns from the one of number k on, in a table whose first column
--- stands at byte 16
+-- is at byte 16
 abbrev numbered : ℕ → List ℕ
 numbered k = codes "c" ++ (48 + k / 10) ∷ (48 + k % 10) ∷ []
 
@@ -68,7 +68,7 @@ a_column_too_many = refl
 abbrev ints_and_texts : StatementParts
 ints_and_texts = create_table (word (codes "t") 13) (new_column (codes "a") 16 (codes "int") ∷ new_column (codes "b") 23 (codes "text") ∷ [])
 
--- the same; INSERT INTO t VALUES with one row, whose bracket stands at byte 53
+-- the same; INSERT INTO t VALUES with one row, whose bracket is at byte 53
 abbrev with_row : List Tree → List StatementParts
 with_row values = ints_and_texts ∷ insert (word (codes "t") 44) (record { place = 53; values = values } ∷ []) ∷ []
 

@@ -1,4 +1,4 @@
-// The look-up in the table of operators.
+//! The look-up in the table of operators.
 
 use mob_ast::{Cmp, SqlType};
 use mob_operators::{

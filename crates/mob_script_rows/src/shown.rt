@@ -1,4 +1,4 @@
-//! Trees as text, for tests: each node with its place behind `@`, and behind it its arguments in
+//! Trees as text, for tests: each node with its place after `@`, and after it its arguments in
 //! brackets.
 
 use mob_ast::{
@@ -17,7 +17,7 @@ fn put(
     into.push_str(format!(in alloc; "{}{}@{}", mark, text, place)?.as_str())
 }
 
-// A word behind a mark.
+// A word after a mark.
 fn put_word(alloc: Global, mark: &str, word: &Word, into: &mut String) -> Result<(), AllocError> {
     put(alloc, mark, word.text.as_str(), word.place, into)
 }
@@ -36,7 +36,7 @@ fn show_type(
     Ok(())
 }
 
-// A column behind its table; one alone, with its place where that is not the place of the node.
+// A column after its table; one alone, with its place where that is not the place of the node.
 fn show_column(
     alloc: Global,
     table: &Option<Word>,
@@ -128,7 +128,7 @@ fn show_alias(alloc: Global, alias: &Option<Word>, into: &mut String) -> Result<
     into.push(';')
 }
 
-// A condition behind its word.
+// A condition after its word.
 fn show_cond(
     alloc: Global,
     word: &str,

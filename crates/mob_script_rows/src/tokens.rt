@@ -1,4 +1,4 @@
-// Texts with their tokens and their faults, found by hand.
+//! Texts with their tokens and their faults, found by hand.
 
 use mob_chars::laws::{faults_are_stuck, tokens_are_in_order, tokens_are_laid};
 use mob_chars::lexer::tokens;

@@ -55,7 +55,7 @@ starts_joined : (more : List (Slice PlaneLine)) (r : Slice PlaneLine) (xs : List
 starts_joined [] r xs ys = refl
 starts_joined (q ∷ more) r xs ys = ap (λ z. start_of q ∷ z) (starts_joined more r xs ys)
 
--- the breaks after s, up to the end of l and behind it
+-- the breaks after s, up to the end of l and after it
 later_joined : (s : Slice PlaneLine) (more : List (Slice PlaneLine)) (r : Slice PlaneLine) (xs : List (Slice PlaneLine)) → GoesOn (last_slice s more) r → later_breaks s (more ++ r ∷ xs) ≡ map start_of more ++ end_of (last_slice s more) ∷ later_breaks r xs
 later_joined s more r xs g =
     ap (λ z. map start_of (more ++ r ∷ xs) ++ end_of z ∷ []) (last_joined s more r xs)

@@ -82,7 +82,7 @@ join_apart s r ss sr clear m = record {
 -- ---- all of them
 -- P holds of each break of what is walked
 module _ (P : Break → Type 0) where
-  -- normal slices in place of s and the rest, behind o
+  -- normal slices in place of s and the rest, after o
   record IsTidied (o : List (Slice PlaneLine)) (s : Slice PlaneLine) (rest : List (Slice PlaneLine)) : Type 0 where
     made : List (Slice PlaneLine)
     some : made ≢ []

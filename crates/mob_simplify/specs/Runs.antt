@@ -38,7 +38,7 @@ pub record KeptBreak : Type 0 where
   pub at : Break
   pub later : List Break
 
--- each break of a list passes after p; `between` are those that stand between p and the list
+-- each break of a list passes after p; `between` are those between p and the list
 abbrev pub AllPass : Ratio → Break → List Break → List Break → Type 0
 AllPass d p between [] = Unit {0}
 AllPass d p between (n ∷ ns) = (passes d p between n ≡ true) × AllPass d p (between ++ n ∷ []) ns
@@ -57,7 +57,7 @@ AreKeptBreaks d p [] = p.later ≡ []
 AreKeptBreaks d p (m ∷ kept) = IsNextKept d p m × AreKeptBreaks d m kept
 
 -- A run: its first slice, those that go on from it, and the kept breaks after the first break. (A
--- slice of one instant stands alone, as a run of its own, of which both breaks are kept.)
+-- slice of one instant is alone, as a run of its own, of which both breaks are kept.)
 pub record RunOf : Type 0 where
   pub first : Slice PlaneLine
   pub more : List (Slice PlaneLine)

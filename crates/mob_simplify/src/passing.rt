@@ -196,7 +196,7 @@ fn is_near(p: &Break, n: &Break, reach: &Reach, b: &Break, limit: &Limit) -> Res
 
 /// Whether the break `n` passes after the kept break `p`: at each break between, the straight
 /// course from `p` to `n` is within the limit of the place there. `Passed` names the formula of the
-/// first test that has a part that does not fit; behind the first test that fails there is none.
+/// first test that has a part that does not fit; after the first test that fails there is none.
 pub fn passes(p: &Break, between: &[Break], n: &Break, limit: &Limit) -> Result<bool, Passed>
     requires square { IsSquared limit.now }
     requires between { AllByRecursion (λ b. (before p.now.instant b.instant ≡ true) × (before b.instant n.now.instant ≡ true)) between.now }

@@ -49,7 +49,7 @@ fn stays(
     passes(&start_of(first), between, &end_of(next), limit)
 }
 
-// Puts the break at which `next` starts behind those between, and tells whether `next` stays.
+// Puts the break at which `next` starts after those between, and tells whether `next` stays.
 fn next_stays(
     first: &Slice<PlaneLine>,
     between: &mut Vec<Break>,

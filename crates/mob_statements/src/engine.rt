@@ -1,4 +1,4 @@
-// Statements that run one after another, each with the text of its answer.
+//! Statements that run one after another, each with the text of its answer.
 ghost use Rattle.std.specs.Prelude.{◌≤◌, IfOk, IfErr, OnOk};
 ghost use Rattle.mob_outside.specs.EndsSeen.{stream_seen};
 ghost use Rattle.mob_eval.specs.QueryFaults.{OnTuple};

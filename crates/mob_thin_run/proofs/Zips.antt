@@ -66,8 +66,8 @@ first_at d rows i row n f lt is e h k = record {
   passes = k;
 }
 
--- the fault of a value behind values that fit is that of the row: a part that passes, or memory
--- that is refused
+-- the fault of a value after values that fit is that of the row: a part that passes, or memory that
+-- is refused
 pub fault_at : (d : Ratio) (xs : List Value) (i : ℕ) (x : Value) (e : OpFault) → i < length xs → x ≡ get_or xs i x → RowTestsFit d (take i xs) → OnTests d x (λ tests. OnFormula (λ f. IsFirst tests (Some f)) e) → OnFormula (RowTestPasses d xs) e
 fault_at d xs i x (Passed f) lt is h k = passes_at d xs i x f lt is h k
 fault_at d xs i x NoMemory lt is h k = tt

@@ -1,4 +1,4 @@
-// What the arguments of a command line say.
+//! What the arguments of a command line say.
 ghost use Rattle.std.specs.Prelude.{◌≡◌, IfOk, IfSome, IsNone, codes, map, option_map, string_bytes};
 ghost use Rattle.mob_ratio.specs.Ratio.{Ratio};
 ghost use Rattle.mob_words.specs.Arguments.{IsDistance, IsRequired, Takes, option_value};

@@ -1,4 +1,4 @@
-// The rows with each trip simplified, as text.
+//! The rows with each trip simplified, as text.
 ghost use Rattle.std.specs.Prelude.{◌≡◌, ◌≤◌, ◌∷◌, [], codes, IfOk, IfErr, IsUtf8, length, map, true};
 ghost use Rattle.std.specs.List.{AllZip, AllByRecursion};
 ghost use Rattle.csv.specs.Records.{AllText};

@@ -1,4 +1,4 @@
-// What the arguments of a command line say.
+//! What the arguments of a command line say.
 use mob_frac::Frac;
 use mob_scalar::Epoch;
 

@@ -122,7 +122,7 @@ abbrev Leads : Ratio → List Ratio → Type 0
 Leads x [] = Unit {0}
 Leads x (y ∷ ys) = (before y x ≡ false) × Leads x ys
 
--- none is before one that stands in front of it
+-- none is before one in front of it
 abbrev pub Rises : List Ratio → Type 0
 Rises [] = Unit {0}
 Rises (x ∷ xs) = Leads x xs × Rises xs

@@ -92,8 +92,8 @@ module _ (s : Slice PlaneLine) where
   ]) (cuts_fit rs cells h k.1)
 
 -- ---- the loop over cells
--- what the rest of the cells gives, behind what is there, is all; each piece is in its tile; and
--- all cells fit where the rest does
+-- what the rest of the cells gives, after what is there, is all; each
+-- piece is in its tile; and all cells fit where the rest does
 pub record IsPiecing (g : GridOf) (s : Slice PlaneLine) (cells rest : List SpanOf) (out : List Piece) : Type 0 where
   pub made : IsMade plane_value_of (λ (c : PlaneLine). c.from) (λ c. c.to) (λ t. Some (slice_value plane_value_of s t)) cells rest (slices_of out)
   pub tiles : AllByRecursion (IsInItsTile g) out

@@ -1,4 +1,4 @@
--- Pieces that stand in the order of their tiles, tile by tile.
+-- Pieces in the order of their tiles, tile by tile.
 use Rattle.std.specs.Prelude.{◌≡◌, ◌≢◌, Bool, cond, List, [], ◌∷◌, ◌++◌}
 use Rattle.std.specs.List.Sorted.{IsPermutation, IsSortedBy, IsStableBy}
 use Rattle.std.specs.Ordering.{is_lt, is_eq}

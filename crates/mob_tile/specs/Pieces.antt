@@ -25,7 +25,7 @@ abbrev pub split_all : List Ratio → List SpanOf → List SpanOf
 split_all [] cells = cells
 split_all (r ∷ cuts) cells = split_all cuts (split_at r cells)
 
--- each instant is at least q, and at most those behind it
+-- each instant is at least q, and at most those after it
 abbrev pub IsRisingFrom : Ratio → List Ratio → Type 0
 IsRisingFrom q [] = Unit {0}
 IsRisingFrom q (r ∷ cuts) = (up_to q r ≡ true) × IsRisingFrom r cuts

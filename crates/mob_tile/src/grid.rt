@@ -71,7 +71,7 @@ impl Grid {
         &self.width
     }
 
-    /// The tile that has `p` at `t`, where it stands in a range.
+    /// The tile that has `p` at `t`, where it is in a range.
     pub(crate) fn tile_at(&self, range: &TileRange, p: &Point, t: &Frac) -> Tile
         requires within { InRange range.now (tile_of self.now t.now p.now) }
         ensures value { result ≡ tile_of self.now t.now p.now }
@@ -137,7 +137,7 @@ impl Grid {
     /// `Passed` and `Limit` come exactly where they must, in this order: F2, where a quotient of
     /// the range of the box of `a` does not fit; the limit, where that range has more than 10,000
     /// tiles; the first part of F2, F3 or F1 that does not fit, slice by slice. Among these a
-    /// failed allocation comes only behind the limit.
+    /// failed allocation comes only after the limit.
     pub fn split(
         &self,
         alloc: Global,

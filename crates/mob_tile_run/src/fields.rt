@@ -1,4 +1,4 @@
-// The fields of records.
+//! The fields of records.
 ghost use Rattle.std.specs.Prelude.{◌≡◌, ◌++◌, codes, string_bytes, IfOk, OnOk};
 ghost use Rattle.std.specs.Fmt.{signed_decimal};
 ghost use Rattle.mob_literal.specs.Fields.{field_text};

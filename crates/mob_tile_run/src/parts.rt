@@ -1,4 +1,4 @@
-// The parts of trips in the tiles of a grid.
+//! The parts of trips in the tiles of a grid.
 ghost use Rattle.std.specs.Prelude.{◌≡◌, ◌≤◌, ◌++◌, length, map, IfOk, IfErr, OnOk, MatchResult};
 ghost use Rattle.mob_records.specs.AnswerText.{answer_text};
 ghost use Rattle.mob_tile_run.specs.TileTexts.{part_fields, part_names};

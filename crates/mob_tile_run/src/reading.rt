@@ -1,4 +1,4 @@
-// The settings of a run, read from the values of its options.
+//! The settings of a run, read from the values of its options.
 ghost use Rattle.std.specs.Prelude.{Option, IfOk, IfSome, IsNone, map, option_map, string_bytes};
 ghost use Rattle.mob_ratio.specs.Ratio.{Ratio};
 ghost use Rattle.mob_grid.specs.Tiles.{GridOf};

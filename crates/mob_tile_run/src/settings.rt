@@ -1,4 +1,4 @@
-// The settings of a run.
+//! The settings of a run.
 use mob_frac::Frac;
 use mob_scalar::Epoch;
 use mob_tile::Grid;

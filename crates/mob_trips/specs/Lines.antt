@@ -21,7 +21,7 @@ trips_status (Overflow rows formula) = 8
 abbrev pub rows_word : List ℕ
 rows_word = codes "rows "
 
--- what is behind them: a formula that is passed, or a limit
+-- what is after them: a formula that is passed, or a limit
 abbrev pub formula_text : Formula → List ℕ
 formula_text formula = codes ": formula " ++ (formula_name formula ++ codes " passes 62 bits\n")
 

@@ -1,4 +1,4 @@
-// The one line that a run which did not end well leaves in its notes.
+//! The one line that a run which did not end well leaves in its notes.
 ghost use Rattle.mob_outside.specs.Streams.{Puts};
 ghost use Rattle.mob_trips.specs.Lines.{formula_text, limit_line, passes_line, table_refusal_line, trips_note};
 
@@ -16,7 +16,7 @@ fn put_refusal<E: Sink>(notes: &mut E, kind: Kind, rec: u32, field: u32) -> Resu
     put_record(notes, kind, rec, field)
 }
 
-// The formula, behind the rows.
+// The formula, after the rows.
 fn put_passes<E: Sink>(notes: &mut E, formula: Formula) -> Result<(), Failed>
     ensures puts { Puts (formula_text formula) (E.held notes.old) (E.held notes.new) (E.faults notes.old) (E.faults notes.new) }
 {

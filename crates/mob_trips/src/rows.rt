@@ -1,4 +1,4 @@
-// The ids and the trips of the rows of a table.
+//! The ids and the trips of the rows of a table.
 ghost use Rattle.std.specs.Prelude.{◌≡◌, IfOk, map};
 ghost use Rattle.mob_literal.specs.Fields.{field_text};
 ghost use Rattle.mob_trips.specs.Rows.{id_at, id_of, moving_point, trip_of};

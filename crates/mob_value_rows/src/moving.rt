@@ -1,6 +1,6 @@
-// Calls on values over time that no script reaches: the slice at an instant, products by steps and
-// by one number, and the pieces of an iteration. The epoch is 2000-01-01, so that the instant 2 is
-// its second 2. What scripts say of such values stands in `checks/rows`.
+//! Calls on values over time that no script reaches: the slice at an instant, products by steps and
+//! by one number, and the pieces of an iteration. The epoch is 2000-01-01, so that the instant 2 is
+//! its second 2. What scripts say of such values is in `checks/rows`.
 
 use crate::together::is_printed;
 use mob_arith::{times_const, times_step};

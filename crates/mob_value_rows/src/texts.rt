@@ -1,6 +1,6 @@
-// Texts of values, fields, moments, days and values of a ttext: how they are read and printed. The
-// epoch is 2000-01-01. Texts that a SELECT prints are in `checks/rows`; here is what no script
-// tells apart, as the fault of a text that is refused.
+//! Texts of values, fields, moments, days and values of a ttext: how they are read and printed. The
+//! epoch is 2000-01-01. Texts that a SELECT prints are in `checks/rows`; here is what no script
+//! tells apart, as the fault of a text that is refused.
 
 use mob_ast::SqlType;
 use mob_frac::{Frac, Overflow};
@@ -23,7 +23,7 @@ enum Reading {
     Moment,
     // as the day of an epoch, printed as its number
     Day,
-    // a value of a ttext at the beginning, and behind a bar the rest
+    // a value of a ttext at the beginning, and after a bar the rest
     TextAt,
 }
 
@@ -446,7 +446,7 @@ fn push(alloc: Global, reading: Reading, text: &str, into: &mut String) -> Resul
     }
 }
 
-// Whether this and no more is put behind what is there.
+// Whether this and no more is put after what is there.
 fn is_said(alloc: Global, row: &Row) -> bool {
     let (reading, text, wanted) = *row;
     let mut into = String::new(alloc);

@@ -1,4 +1,4 @@
-// Temporal values together, by calls that no script reaches alone.
+//! Temporal values together, by calls that no script reaches alone.
 
 use mob_ast::SqlType;
 use mob_frac::Frac;

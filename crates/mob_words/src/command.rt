@@ -1,4 +1,4 @@
-// Commands whose options each take one value, and the arguments that they take.
+//! Commands whose options each take one value, and the arguments that they take.
 ghost use Rattle.std.specs.Prelude.{◌≡◌, IfOk, IfSome, IsNone, map, string_bytes, true};
 ghost use Rattle.clap.specs.Words.{Text, app_of, first_value, found_of, is_simple_and_free, new_app, with_rule};
 ghost use Rattle.mob_words.specs.Arguments.{Takes, command_of, option, option_value, without_flags};

@@ -1,4 +1,4 @@
-// What a command line can say.
+//! What a command line can say.
 
 use mob_scalar::Epoch;
 

@@ -1,4 +1,4 @@
-// What the values of options say.
+//! What the values of options say.
 ghost use Rattle.std.specs.Prelude.{ℕ, ℤ, IfSome, IsNone, option_map};
 ghost use Rattle.mob_ratio.specs.Ratio.{Ratio};
 ghost use Rattle.mob_words.specs.Arguments.{IsCount, IsDistance, IsEpoch, IsRequired, IsWorkers};

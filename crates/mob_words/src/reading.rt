@@ -1,4 +1,4 @@
-// What the arguments of mobsql say.
+//! What the arguments of mobsql say.
 ghost use Rattle.std.specs.Prelude.{ℕ, Option, IfOk, IfSome, IsNone, map, option_map, string_bytes};
 ghost use Rattle.mob_words.specs.CommandLine.{IsDemo, WordsSay};
 ghost use Rattle.mob_words.specs.declared.options.Settings.{Settings as SettingsSeen};

@@ -1,4 +1,4 @@
-// The values that arguments give to the options of mobsql.
+//! The values that arguments give to the options of mobsql.
 ghost use Rattle.std.specs.Prelude.{◌≡◌, IfOk, IfSome, IsNone, codes, map, option_map, string_bytes};
 ghost use Rattle.mob_words.specs.Arguments.{Takes, option_value};
 ghost use Rattle.mob_words.specs.CommandLine.{command};

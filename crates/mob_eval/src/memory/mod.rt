@@ -163,7 +163,7 @@ fn remember<K: Remembering, T: Drop>(
     Ok(())
 }
 
-// The cell of what stands at a place of the script, on a tuple, if it has a slot.
+// The cell of what is at a place of the script, on a tuple, if it has a slot.
 fn cell_in<'a, K: Remembering, T: Drop>(
     alloc: Global,
     slots: &'a [Slot<K, T>],
