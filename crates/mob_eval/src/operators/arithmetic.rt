@@ -48,7 +48,7 @@ fn plain(by: Calculation, left: &Value, right: &Value) -> Result<Value, OpFault>
     }
 }
 
-// The operation on two operands of which one has slices.
+// The operation on two operands, one of which has slices.
 fn lifted(
     alloc: Global,
     by: Calculation,
@@ -66,7 +66,7 @@ fn lifted(
     }
 }
 
-// `+`, `-` or `*` at each instant, on two values of which one is a tint.
+// `+`, `-` or `*` at each instant, on two values, one of which is a tint.
 fn moving(alloc: Global, by: Calculation, left: &Value, right: &Value) -> Result<Value, OpFault>
     ensures outcome { IsOutcome (OnPair (number_pair left.now right.now) (IsMovingInt (result_by by))) (IsFirst (entries_on (entries_at_ends steady_value steady_parts steady_value steady_parts (parts_by by)) (number_pair left.now right.now))) result }
 {
@@ -98,7 +98,7 @@ pub fn calculate(
     }
 }
 
-// `/` between two values. NULL where the divisor is 0.
+// `/` between two values; NULL if the divisor is 0.
 fn plain_division(left: &Value, right: &Value) -> Result<Value, OpFault>
     ensures outcome { IsOutcome (λ v. v ≡ quotient left.now right.now) (IsFirst (plain_entries (parts_on divided_parts left.now right.now))) result }
 {
@@ -119,7 +119,7 @@ fn plain_division(left: &Value, right: &Value) -> Result<Value, OpFault>
     }
 }
 
-/// `/` between two values, with a result of this type. NULL where the divisor is 0.
+/// `/` between two values, with a result of this type; NULL if the divisor is 0.
 pub fn division(alloc: Global, ty: SqlType, left: &Value, right: &Value) -> Result<Value, OpFault>
     ensures outcome { IsOutcome (IsDivided ty left.now right.now) (IsFirst (divided_entries ty left.now right.now)) result }
 {

@@ -87,7 +87,7 @@ pub fn of_one<'a>(
     }
 }
 
-// Whether what a restriction asks for is wanted, as by atTime, or the rest, as by minusTime.
+// Whether a restriction keeps what it asks for, as atTime does, or the rest, as minusTime does.
 fn wanted(op: Op) -> bool
     ensures want { result ≡ wanted op }
 {
