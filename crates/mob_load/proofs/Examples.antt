@@ -1,4 +1,4 @@
--- Rows: what is looked at, in written order.
+-- Example checks, in written order.
 use Rattle.std.proofs.Common.{◌≡◌, refl, arith, inl, inr, ℕ, [], ◌∷◌, Some}
 use Rattle.std.specs.Prelude.{codes}
 use Rattle.mob_ast.specs.declared.types.SqlType.TheVariants.{Int}

@@ -1,4 +1,4 @@
-//! What is looked at before a script runs, in written order.
+//! The checks of a script, in written order.
 ghost use Rattle.std.specs.Prelude.{◌≡◌, ◌++◌, ◌∷◌, [], List, IfOk, drop, map};
 ghost use Rattle.mob_typed.specs.declared.typed.ConstText.{ConstText};
 ghost use Rattle.mob_typed.specs.Statements.{script_seen, statement_seen};
@@ -15,7 +15,7 @@ fn stands_before(literal: &ConstText, statement: u32, place: u32) -> bool
     literal.statement < statement || (literal.statement == statement && literal.place < place)
 }
 
-// Puts the literals from number `put` on before this place. Answers the number of the next one.
+// Appends the literals from number `put` on before this place. Returns the number of the next one.
 fn push_literals<'a>(
     done: &mut Vec<Check<'a>>,
     literals: &'a [ConstText],
@@ -37,8 +37,8 @@ fn push_literals<'a>(
     Ok(at)
 }
 
-// Puts the literals from number `put` on before this place, and then the check of this place.
-// Answers the number of the next literal.
+// Appends the literals from number `put` on before this place, then the check of this place.
+// Returns the number of the next literal.
 fn push_checkpoint<'a>(
     done: &mut Vec<Check<'a>>,
     literals: &'a [ConstText],
@@ -55,7 +55,7 @@ fn push_checkpoint<'a>(
     Ok(at)
 }
 
-// Puts the brackets of an INSERT, each after the literals before it.
+// Appends the brackets of an INSERT, each after the literals before it.
 fn push_brackets<'a>(
     done: &mut Vec<Check<'a>>,
     literals: &'a [ConstText],
@@ -79,7 +79,7 @@ fn push_brackets<'a>(
     Ok(at)
 }
 
-// Puts the checkpoints of a statement, each after the literals before it.
+// Appends the checkpoints of a statement, each after the literals before it.
 fn push_statement<'a>(
     done: &mut Vec<Check<'a>>,
     literals: &'a [ConstText],
@@ -113,7 +113,7 @@ fn push_statement<'a>(
     }
 }
 
-// Puts the literals that are left.
+// Appends the remaining literals.
 fn push_rest<'a>(
     done: &mut Vec<Check<'a>>,
     literals: &'a [ConstText],
@@ -129,7 +129,8 @@ fn push_rest<'a>(
     Ok(())
 }
 
-/// What is looked at before this script runs, in written order.
+/// The checks of this script before it runs, in written order. The only error is a failed
+/// allocation.
 pub fn checks_of(alloc: Global, typed: &Typed) -> Result<Vec<Check<'_>>, AllocError>
     ensures in_order { IfOk result (λ checks. map check_seen checks.items ≡ checks_of (script_seen typed.now)) }
 {
