@@ -27,7 +27,7 @@ fn trip_approach(
     approach_squared(alloc, Operand::Moving(trip), again(asked))
 }
 
-// The trip of a row, if it is there.
+// The trip of a row, if it has one.
 fn trip_at(trips: &[Option<Moving<PlaneLine>>], row: u32) -> Option<&Moving<PlaneLine>>
     ensures there { MatchOption result ((trip : Trip) → IsTrip trips.now row trip → ⊥) (λ trip. IsTrip trips.now row trip.now) }
 {
