@@ -5,7 +5,7 @@ ghost use Rattle.mob_ordinary.specs.Ordinary.{truth_of, known, conjunction, disj
 use mob_slice::{OpFault, Passed};
 use mob_value::Value;
 
-/// The truth value of a value. None where it is NULL or no truth value.
+/// The truth value of a value; `None` if it is NULL or not a truth value.
 pub fn truth_of(value: &Value) -> Option<bool>
     ensures value { result ≡ truth_of value.now }
 {
@@ -25,7 +25,7 @@ pub fn known(truth: Option<bool>) -> Value
     }
 }
 
-/// An answer that may have passed a formula, as a truth value or NULL.
+/// The answer of a test, as a truth value or NULL, or its overflow.
 pub fn answered(answer: Result<Option<bool>, Passed>) -> Result<Value, OpFault>
     ensures value { MatchResult answer (λ truth. result ≡ Ok (known truth)) (λ e. result ≡ Err (OpFault.Passed e.formula)) }
 {
@@ -35,7 +35,7 @@ pub fn answered(answer: Result<Option<bool>, Passed>) -> Result<Value, OpFault>
     }
 }
 
-/// AND: false where one operand is false, true where both are true.
+/// AND: false if one operand is false, true if both are true.
 pub fn conjunction(left: Option<bool>, right: Option<bool>) -> Option<bool>
     ensures value { result ≡ conjunction left right }
 {
@@ -47,7 +47,7 @@ pub fn conjunction(left: Option<bool>, right: Option<bool>) -> Option<bool>
     }
 }
 
-/// OR: true where one operand is true, false where both are false.
+/// OR: true if one operand is true, false if both are false.
 pub fn disjunction(left: Option<bool>, right: Option<bool>) -> Option<bool>
     ensures value { result ≡ disjunction left right }
 {
@@ -71,7 +71,7 @@ fn if_true(truth: bool) -> Option<bool>
     if truth { Some(true) } else { None }
 }
 
-/// The other truth value.
+/// The opposite truth value.
 pub fn negation(truth: Option<bool>) -> Option<bool>
     ensures value { result ≡ option_map not truth }
 {
