@@ -8,7 +8,7 @@ use Rattle.mob_scalar.proofs.CommasWritten.{commas_done}
 use Rattle.mob_demo.specs.Demo.{minute_text, position_text, positions_text}
 use Rattle.mob_demo.proofs.Ranges.{range_begins, range_over}
 
--- five texts, one after the other
+-- five texts, one after another
 five_written : (old a b c d now p q r s t : Text) → a ≡ old ++ p → b ≡ a ++ q → c ≡ b ++ r → d ≡ c ++ s → now ≡ d ++ t → now ≡ old ++ (p ++ (q ++ (r ++ (s ++ t))))
 five_written old a b c d now p q r s t first second third fourth fifth = fifth ∙ rw (fourth, third, second, first) (simp append_assoc)
 

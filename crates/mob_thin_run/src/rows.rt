@@ -30,7 +30,7 @@ pub enum RowFault {
         /// The formula.
         formula: Formula,
     },
-    /// Out of memory.
+    /// An allocation failed.
     NoMemory,
 }
 
@@ -45,7 +45,7 @@ impl From<AllocError> for RowFault {
     }
 }
 
-// The value with a trip simplified.
+// The value, simplified if it is a trip.
 fn thinned(alloc: Global, value: &Value, d: &Frac) -> Result<Value, OpFault>
     requires not_negative { up_to nil d.now ≡ true }
     ensures thin { IfOk result (λ thin. IsThinValue d.now value.now thin) }
@@ -118,7 +118,7 @@ fn thin_fields(
     }
 }
 
-// The fault of a row with so many rows before it.
+// The fault of the row of this number.
 fn thin_row_fault(row: u32, fault: OpFault) -> RowFault
     ensures same { result ≡ thin_row_fault row fault }
 {
@@ -128,7 +128,7 @@ fn thin_row_fault(row: u32, fault: OpFault) -> RowFault
     }
 }
 
-// The fields of all rows with each trip simplified, a row at a time.
+// The fields of all rows with each trip simplified, row by row.
 fn thin_records(
     alloc: Global,
     rows: &Rows<Value>,
@@ -166,8 +166,8 @@ fn names(alloc: Global) -> Result<Vec<Text>, AllocError>
     Ok(names)
 }
 
-/// The text of the table with each trip simplified, within `d`, or the first row with a part of a
-/// test that does not fit.
+/// The text of the table with each trip simplified, within `d`; or the first row with a part of a
+/// test that does not fit. `NoMemory` comes if an allocation fails.
 pub fn thin_text(
     alloc: Global,
     rows: &Rows<Value>,

@@ -11,7 +11,7 @@ use mob_slice::{Moving, PlaneLine};
 use mob_value::{Rows, Value};
 use std::alloc::{AllocError, Global};
 
-// The moving point that a value is; NULL is none.
+// The moving point of a value; NULL has none.
 fn moving_point(value: Value) -> Option<Moving<PlaneLine>>
     ensures value { result ≡ moving_point value }
 {
@@ -54,7 +54,7 @@ pub fn split_rows(
     Ok((ids, trips))
 }
 
-/// The id of the row of this number, as a field.
+/// The id of the row of this number, as a field. The only error is a failed allocation.
 pub fn id_text(alloc: Global, ids: &[Value], row: u32, epoch: &Epoch) -> Result<Text, AllocError>
     ensures text { IfOk result (λ t. t ≡ field_text epoch.now (id_at ids.now row)) }
 {
