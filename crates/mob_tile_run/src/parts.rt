@@ -16,7 +16,7 @@ use mob_tuples::Tuple;
 use mob_value::Value;
 use std::alloc::{AllocError, Global};
 
-// The fault of a row for that of its trip.
+// The fault of a row, from that of its trip.
 fn row_fault(row: u32, fault: SplitFault) -> PairFault
     ensures same { result ≡ row_fault row fault }
 {
@@ -30,7 +30,7 @@ fn row_fault(row: u32, fault: SplitFault) -> PairFault
     }
 }
 
-// The parts of the trip of a row, which may have none.
+// The parts of the trip of a row, if it has one.
 fn split_row(
     alloc: Global,
     grid: &Grid,
@@ -103,7 +103,7 @@ fn text_of(alloc: Global, records: &[Items<Text>]) -> Result<Vec<u8>, AllocError
 }
 
 /// The text of the parts of all trips, row by row and then by tile, or the fault of the first row
-/// that has no split.
+/// without a split.
 pub fn parts_text(
     alloc: Global,
     grid: &Grid,
