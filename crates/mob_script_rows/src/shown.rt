@@ -1,5 +1,4 @@
-//! Trees as text, for tests: each node with its place after `@`, and after it its arguments in
-//! brackets.
+//! Trees as text, for tests: each node with its place after `@`, then its arguments in brackets.
 
 use mob_ast::{
     Expr, FromTable, Item, Key, Node, Quoted, Row, SelectTree, Statement, TypeWord, Word,
@@ -36,7 +35,7 @@ fn show_type(
     Ok(())
 }
 
-// A column after its table; one alone, with its place where that is not the place of the node.
+// A column after its table; on its own, with its place if that is not the place of the node.
 fn show_column(
     alloc: Global,
     table: &Option<Word>,
@@ -54,7 +53,7 @@ fn show_column(
     put_word(alloc, "", column, into)
 }
 
-// A text in place of a string.
+// A text, printed like a string.
 fn show_text(alloc: Global, text: &str, into: &mut String) -> Result<(), AllocError> {
     into.push_str(format!(in alloc; "'{}", text)?.as_str())
 }
@@ -262,7 +261,7 @@ fn show_copy(
     into.push(';')
 }
 
-/// A statement as text; an empty one is a point.
+/// A statement as text; an empty one is a full stop.
 pub fn show_statement(
     alloc: Global,
     statement: &Statement,

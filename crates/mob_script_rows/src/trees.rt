@@ -8,7 +8,7 @@ use mob_parse::laws::one_refusal;
 use mob_parse::script::parse;
 use std::alloc::{AllocError, Global};
 
-// The statements of a script, one after the other.
+// The statements of a script, in order.
 fn shown(alloc: Global, script: &str) -> Result<String, AllocError> {
     let mut into = String::new(alloc);
     if script.len() > 1000 {
