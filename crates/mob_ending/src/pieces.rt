@@ -68,7 +68,7 @@ fn put_further_rows<E: Sink>(notes: &mut E, rows: &[u32]) -> Result<(), Failed>
 }
 
 /// Writes the numbers of rows, from 1, with spaces between them: 0 if a left-joined table has no
-/// row, a hyphen if there are no tables.
+/// row, a hyphen if there are no tables. `Failed` comes only if the sink failed.
 pub fn put_rows<E: Sink>(notes: &mut E, rows: &[u32]) -> Result<(), Failed>
     ensures whole { OnOk result (Appends (E.held notes.old) (E.held notes.new) (rows_text rows.now)) }
     ensures part { OnErr result (PutsPart (rows_text rows.now) (E.held notes.old) (E.held notes.new)) }

@@ -1,4 +1,4 @@
-//! Divided work has one outcome for every number of workers, including more workers than pieces.
+//! Divided work has one outcome for every number of workers, and as many run as are asked for.
 ghost use Rattle.std.specs.Prelude.{◌≤◌};
 
 use crate::gates::{Passing, TwoFlags};

@@ -4,7 +4,7 @@ ghost use Rattle.std.specs.Prelude.{◌≡◌, [], ◌∷◌, IfOk};
 use mob_span::{Span, SpanSet};
 use std::alloc::{AllocError, Global};
 
-/// The set of the instants of one span.
+/// The set of the instants of one span. The only error is a failed allocation.
 pub fn one_span(alloc: Global, span: &Span) -> Result<SpanSet, AllocError>
     ensures same { IfOk result (λ set. set ≡ span.now ∷ []) }
 {

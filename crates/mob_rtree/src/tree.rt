@@ -180,7 +180,8 @@ impl RTree {
     }
 
     /// Appends the ids of the entries whose box meets the given one, in ascending order, each as
-    /// often as the entry occurs. The only error is a failed allocation.
+    /// often as the entry occurs. The only error is a failed allocation. An error leaves `into`
+    /// unchanged.
     pub fn search<L: Ledger>(
         &self,
         q: &StBox,

@@ -183,7 +183,7 @@ pub fn take_ids(
     Some(part.area)
 }
 
-/// Makes the nodes of these entries, and returns the root.
+/// Makes the nodes of these entries, and returns the root. The only error is a failed allocation.
 pub fn raise_entries(
     alloc: Global,
     nodes: &mut Vec<TreeNode>,

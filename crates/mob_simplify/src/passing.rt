@@ -20,7 +20,7 @@ use mob_frac::{Frac, Overflow};
 use mob_plane::Point;
 use mob_slice::{Formula, Passed};
 
-/// A distance and its square. If the square overflows, the first test that needs it fails.
+/// A distance and its square. A square that overflows is reported by the first test that needs it.
 #[derive(Clone, Copy, Drop)]
 pub struct Limit {
     /// The distance.
@@ -40,8 +40,8 @@ pub fn with_square(d: &Frac) -> Limit
     }
 }
 
-/// The duration of a straight course, and its extent in x and y. If one overflows, the first test
-/// that needs it fails.
+/// The duration of a straight course, and its extent in x and y. One that overflows is reported by
+/// the first test that needs it.
 #[derive(Clone, Copy, Drop)]
 pub struct Reach {
     /// The duration.

@@ -35,7 +35,7 @@ fn split_row(row: Items<Value>) -> (Value, Option<Moving<PlaneLine>>)
     (id, moving_point(trip))
 }
 
-/// The ids and the trips of the rows.
+/// The ids and the trips of the rows. The only error is a failed allocation.
 pub fn split_rows(
     alloc: Global,
     rows: Rows<Value>,

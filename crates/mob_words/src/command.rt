@@ -61,7 +61,8 @@ fn matched<'a>(
 
 /// The values that the arguments give to the options of the command of this name, which has these
 /// options and no others. Each takes one value, at most once. The first argument is the program's
-/// name. `None` exactly if the command does not take the arguments, as `clap` specifies it.
+/// name. `None` exactly if the command does not take the arguments, as `clap` specifies it. The
+/// only error is a failed allocation.
 pub fn given<'a>(
     alloc: Global,
     name: &'a str,

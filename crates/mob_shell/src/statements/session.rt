@@ -150,7 +150,7 @@ impl Session {
     }
 
     /// Runs one statement with `workers` workers, which pass the gate, and returns the text of its
-    /// answer.
+    /// answer. The fault is that of its query, or a failed allocation.
     pub fn execute<R: Threads + Sync, G: Gate>(
         &mut self,
         rt: &R,
