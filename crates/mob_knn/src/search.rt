@@ -128,10 +128,10 @@ fn search<L: Ledger>(
     Ok(found)
 }
 
-/// The `k` rows whose trips come nearest to `asked`, from 0, each with the square of its nearest
-/// approach, ordered by approach and then by row. Rows without an approach are left out, so there
-/// may be fewer than `k`. The entries of the tree are the boxes of the trips with their rows, as
-/// `index_of` makes them.
+/// The `k` rows whose trips come nearest to `asked`, by their numbers from 0, each with the square
+/// of its nearest approach, ordered by approach and then by row. Rows without an approach are left
+/// out, so there may be fewer than `k`. The entries of the tree are the boxes of the trips with
+/// their rows, as `index_of` makes them.
 ///
 /// A step is one call of `approach_squared`. There is at most one for each row whose gap is at most
 /// the last answer's approach, or, if there are fewer than `k` answers, for each row that is not

@@ -1,4 +1,4 @@
-//! Three-valued logic, and the test of NULL.
+//! Three-valued logic, as in PostgreSQL, and the test of NULL.
 ghost use Rattle.std.specs.Prelude.{◌≡◌, not, cond, true, false, None, Some, Ok, Err, MatchResult, option_map};
 ghost use Rattle.mob_ordinary.specs.Ordinary.{truth_of, known, conjunction, disjunction, is_null, is_true_value};
 
