@@ -14,7 +14,7 @@ use Rattle.mob_tagg.specs.Rows.{earlier}
 use Rattle.mob_tail.specs.declared.group_cells.Group.{Group}
 use Rattle.mob_tail.specs.Groups.{is_bare, column_on, group_fields, same_texts, same_group, under_fields, has_groups}
 
--- each two keys differ
+-- any two keys differ
 abbrev pub AreApart : {K : Type 0} → (K → K → Bool) → List K → Type 0
 AreApart same [] = Unit {0}
 AreApart same (k ∷ ks) = (list_any (same k) ks ≡ false) × AreApart same ks
