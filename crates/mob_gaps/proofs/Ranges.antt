@@ -21,7 +21,7 @@ smaller_cases : (a b : Ratio) (t : Bool) → before b a ≡ t → ((cond t b a �
 smaller_cases a b true e = inr (refl, before-lt b a e)
 smaller_cases a b false e = inl (refl, up_to-le a b e)
 
--- if the two ranges share no number, one of them is below the other
+-- one of the two ranges is below the other, and g is the distance between them
 pub record AreSplit (a b c d g : Ratio) : Type 0 where
   pub way : ((d <ℚ a) × (g ≡ a -ℚ d)) ⊎ ((b <ℚ c) × (g ≡ c -ℚ b))
 

@@ -43,8 +43,7 @@ nearer_trans a b c h k = elim (nearer_cases a b h) [
 not_back : (a b : ℕ × Ratio) → nearer a b ≡ true → nearer b a ≡ true → ⊥
 not_back a b h k = not_itself a (nearer_trans a b a h k)
 
--- a sorted list equals another that it contains and that is not longer, if each of its other
--- entries comes after all of that one
+-- two sorted lists with the same entries are equal
 same_list : (xs ys : List (ℕ × Ratio)) → IsRising xs → IsRising ys → ((x : ℕ × Ratio) → Contains xs x → Contains ys x) → ((y : ℕ × Ratio) → Contains ys y → Contains xs y) → xs ≡ ys
 same_list [] [] h k f g = refl
 same_list [] (y ∷ ys) h k f g = absurd (none_in y (g y (first_in y ys)))

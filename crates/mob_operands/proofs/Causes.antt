@@ -92,7 +92,7 @@ unless : (v : Value) (row : Value → Probe → Type 0) → UnlessNull v row Eve
 unless Null row h = absurd (cc h)
 unless v row h = h
 
--- a value with a box asks for what meets that box
+-- a value with a box asks for what meets it, so never for all rows
 meeting_never : (v : Value) → HasOne v → ByBox v AsksForMeeting Everything → ⊥
 meeting_never v one (inl h) = absurd (let e = h.2 in cc e)
 meeting_never v one (inr h) = h.0 one.0 one.1
@@ -101,7 +101,7 @@ never_of : (o : Option BoxOf) → Everything ≡ asked_of o → ⊥
 never_of None h = absurd (cc h)
 never_of (Some b) h = absurd (cc h)
 
--- the expanded box of a value with a box does not fit
+-- an expanded box that asks for all rows has a side that does not fit
 wider_unfit : (w : Value) (b : BoxOf) → w ≢ Null → is_of_type sql.Numeric w ≡ true → AsksForWider w b Everything → (d : Ratio) × (w ≡ Number d) × (AllFit (parts_of_expansion b d) → ⊥)
 wider_unfit Null b n k h = absurd (n refl)
 wider_unfit (Number d) b n k (inl h) = (d, refl, h.0)

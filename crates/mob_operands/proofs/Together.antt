@@ -37,7 +37,7 @@ there (Some x) h = (x, refl)
 pub common : {X Y : Type 0} (f : OverTime X) (g : OverTime Y) (t : Ratio) → is_some (f t) ≡ true → is_some (g t) ≡ true → HaveCommon f g
 common f g t h k = let x = there (f t) h in let y = there (g t) k in (t, x.0, y.0, x.1, y.1, tt)
 
--- a tint is defined as a tfrac exactly where it is defined as a tint
+-- a tint is defined as a tfrac where it is defined as a tint
 pub level_there : (m : StepSlices Ratio) (t : Ratio) → is_some (step_function m t) ≡ true → is_some (line_function (map level_line m) t) ≡ true
 level_there m t h = ap is_some (level_at m (map level_line m) refl t) ∙ h
 

@@ -364,7 +364,7 @@ module _ (ids : List ℕ) (root : Ref) (old : List TreeNode) (tree : IsTree root
   once_after : (F : Ref → ℕ) → ref_after F root.node + refs_sum F new ≡ nodes_sum F 0 new
   once_after F = omega (arith, tree.once (λ r. ref_after F r.node), refs_after F, nodes_after F)
 
-  -- an entry is left, and the root keeps a box of its own
+  -- an entry is left, and the result is the box of the root
   pub tree_left : (c : TreeNode) → c ≡ get_or new root.node c → 0 < length c.kids.items → IsTreeLeft root ids old (Some c.area) new
   tree_left c is live = (
     record {
