@@ -61,7 +61,7 @@ bytes_read day t name bytes l m h =
     let found : file_of name ((name, bytes) ∷ []) ≡ Some bytes = rw own refl in
     ((name, bytes) ∷ [], subst (λ (o : Option (List ℕ)). LoadsFile day t name l o (Ok m)) (sym found) h)
 
--- what is read of files that are revealed
+-- what is read of visible files
 module _ (day : ℤ) (files : Contents) where
   goes_read : (c : CheckParts) (cs : List CheckParts) (l m : Loaded) → ((k : Loaded) → Loads day files cs k (Ok m) → ReadsChecks day cs k m)
       → (s : Result Loaded Halt) → LoadsCheck day files c l s → ContinuesBy (Loads day files cs) s (Ok m) → ReadsChecks day (c ∷ cs) l m

@@ -41,7 +41,7 @@ whole_loads : (day : ℤ) (t : ℕ) (name whole : List ℕ) (l : Loaded) (x : Re
 whole_loads day t name whole l (Ok m) h = (h.0, table_front (loaded_columns l t) day (greatest_rows - loaded_row_count l t) whole h.0 h.1, h.2)
 whole_loads day t name whole l (Err e) h = (h.0, fails_front (loaded_columns l t) day (greatest_rows - loaded_row_count l t) whole h.0 h.1, h.2)
 
--- what is revealed of the file that a check asks for
+-- what is visible of the file that a check asks for
 pub of_told : (name : List ℕ) (names : List (List ℕ)) (told : Option Contents) (P : Contents → Type 0) → IfSome told P → OnFiles (name ∷ names) told P
 of_told name names None P h files (inl is) = cc
 of_told name names (Some m) P h files (inl is) = let same : m ≡ files = cc is in subst P same h

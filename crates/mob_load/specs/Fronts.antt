@@ -12,8 +12,8 @@ IsFront name files bytes = (whole : List ℕ) × (file_of name files ≡ Some wh
 abbrev pub IsLeftOf : List ℕ → Contents → Option (List ℕ) → Type 0
 IsLeftOf name files left = (whole : List ℕ) × (file_of name files ≡ Some whole) × ReadsPart file_limit (Some whole) left
 
--- The files of a script that copies the files of these names: those that are revealed; or any, if
--- it copies none.
+-- The files of a script that copies the files of these names: those that are visible; or any, if it
+-- copies none.
 abbrev pub AreFilesFor : List (List ℕ) → Option Contents → Contents → Type 0
 AreFilesFor names told files = (told ≡ Some files) ⊎ (names ≡ [])
 
@@ -21,7 +21,7 @@ AreFilesFor names told files = (told ≡ Some files) ⊎ (names ≡ [])
 abbrev pub OnFiles : List (List ℕ) → Option Contents → (Contents → Type 0) → Type 0
 OnFiles names told P = (files : Contents) → AreFilesFor names told files → P files
 
--- the names asked for, if they are revealed, grow by these at their end
+-- the names asked for, if they are visible, grow by these at their end
 abbrev pub AsksForAll : List (List ℕ) → Option (List (List ℕ)) → Option (List (List ℕ)) → Type 0
 AsksForAll names None new = ⊤
 AsksForAll names (Some old) new = new ≡ Some (old ++ names)

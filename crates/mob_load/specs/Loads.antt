@@ -228,7 +228,7 @@ LoadsScript day files out (Err h) = Loads day files (checks_of out) nothing_load
 abbrev pub ReadsScript : ℤ → ScriptOut → Program → Type 0
 ReadsScript day out p = (l : Loaded) × ReadsChecks day (checks_of out) nothing_loaded l × (p ≡ record { values = l.values; files = l.files })
 
--- what a script loads from files that are revealed is something that it reads
+-- what a script loads from visible files is something that it reads
 abbrev pub LoadedIsRead : Type 0
 LoadedIsRead = (day : ℤ) (files : Contents) (out : ScriptOut) (p : Program) → LoadsScript day files out (Ok p) → ReadsScript day out p
 

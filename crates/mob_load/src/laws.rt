@@ -7,8 +7,8 @@ pub fn literals_are_looked_at()
     ensures once { LooksAtLiterals }
 {}
 
-/// What a script loads from files that are revealed is something that it reads. So what holds of
-/// everything that it may read, whatever its files, holds of that.
+/// What a script loads from visible files is something that it reads. So what holds of everything
+/// that it may read, whatever its files, holds of that.
 pub fn loaded_is_read()
     ensures read { LoadedIsRead }
 {}

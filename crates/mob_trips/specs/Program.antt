@@ -39,7 +39,7 @@ abbrev pub IsUntaken : {Settings : Type 0} → ProgramOf Settings → List (List
 IsUntaken {Settings} p words = (settings : Settings) → p.says words settings → ⊥
 
 -- The arguments give settings, and this holds of them and of the bytes of the table, if these are
--- revealed.
+-- visible.
 pub record OnTable {Settings : Type 0} (p : ProgramOf Settings) (s : TripsSeen) (P : Settings → List ℕ → Type 0) : Type 0 where
   pub settings : Settings
   pub says : p.says s.words settings

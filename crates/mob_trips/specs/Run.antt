@@ -31,7 +31,7 @@ module _ {Settings : Type 0} (p : ProgramOf Settings) where
     pub cause : IsTripsCause p ending s
     pub ends : EndsTrips usage ending status Noted
 
-  -- the arguments have settings, the table is revealed, and this holds of them
+  -- the arguments have settings, the table is visible, and this holds of them
   abbrev pub OnTold : TripsSeen → (Settings → List ℕ → Type 0) → Type 0
   OnTold s P = (settings : Settings) × p.says s.words settings × (bytes : List ℕ) × (s.table.told_before ≡ Some bytes) × P settings bytes
 
@@ -53,7 +53,7 @@ module _ {Settings : Type 0} (p : ProgramOf Settings) where
     -- under every status but 0 and 4 nothing is written, and under 2 nothing is read
     pub silent : (status ≡ 0 → ⊥) → (status ≡ 4 → ⊥) → Keeps s.out.told_before s.out.told_now
     pub untouched : status ≡ 2 → Keeps s.table.told_before s.table.told_now
-    -- The other way round, if no count rose and the table is revealed; out of memory is always
+    -- The other way round, if no count rose and the table is visible; out of memory is always
     -- possible.
     pub must_refuse : IsTripsFaultless s → OnTold s (λ settings bytes. (w : FileFault) × IsTripTableRefused (p.day settings) bytes w) → (status ≡ 6) ⊎ (status ≡ 5)
     pub answered : IsTripsFaultless s → OnTold s (OnRows p p.fits) → (status ≡ 0) ⊎ (status ≡ 5)
@@ -65,7 +65,7 @@ module _ {Settings : Type 0} (p : ProgramOf Settings) where
     pub note : IsTripsNote line status s Noted
 
   -- The other way round if the program is exact on the arguments, no count rose and the table is
-  -- revealed; out of memory is always possible.
+  -- visible; out of memory is always possible.
   pub record IsExactRun (status : ℕ) (s : TripsSeen) : Type 0 where
     pub must_limit : IsTripsFaultless s → OnTold s (OnRows p (λ settings rows. (names : List ℕ) × p.limits settings rows names)) → (status ≡ 6) ⊎ (status ≡ 5)
     pub must_stop : IsTripsFaultless s → OnTold s (OnRows p (λ settings rows. (names : List ℕ) × (formula : Formula) × p.stops settings rows names formula)) → (status ≡ 8) ⊎ (status ≡ 5)
