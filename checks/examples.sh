@@ -8,7 +8,7 @@
 # - The tables that come from logs must be what examples/log_to_table makes of them, and corners.csv
 #   what examples/table_to_log makes of corners.answer.
 #
-# `sh checks/examples.sh PROGRAM` uses that program; without an argument it builds one.
+# `sh checks/examples.sh PROGRAM` uses that program; without an argument the one that ./try builds.
 . "$(dirname "$0")/common"
 
 # The content of a file, or nothing if there is none.
@@ -16,23 +16,23 @@ text_of() {
     cat "$1" 2> /dev/null || true
 }
 
-failed=0
+# Compares standard input with a file: must_be FILE.
+must_be() {
+    tried=$((tried + 1))
+    cmp - "$1" || fails "$1 is made differently"
+}
+
 for script in examples/*/*.sql; do
     name=${script%.sql}
     text_of "$name.answer" > "$work/wanted.answer"
     text_of "$name.note" > "$work/wanted.note"
     wanted_status=$(text_of "$name.status")
     for words in "" "--workers 3"; do
+        tried=$((tried + 1))
         status=0
         (cd "$(dirname "$script")" && "$program" $words < "$(basename "$script")") \
             > "$work/answer" 2> "$work/note" || status=$?
-        if cmp "$work/answer" "$work/wanted.answer" && cmp "$work/note" "$work/wanted.note" &&
-            [ "$status" = "${wanted_status:-0}" ]; then
-            echo "example $name $words: as expected"
-        else
-            echo "example $name $words: FAILED with status $status"
-            failed=1
-        fi
+        compare "$name $words" "${wanted_status:-0}" "$work/wanted.answer" "$work/wanted.note"
     done
 done
 for picture in examples/*/*.svg; do
@@ -40,16 +40,13 @@ for picture in examples/*/*.svg; do
     kind=bars
     [ "$(basename "$picture")" != map.svg ] || kind=map
     title=$(sed -n 's:<title>\(.*\)</title>:\1:p' "$picture")
-    examples/picture "$kind" "$title" < "${picture%.svg}.answer" > "$work/picture"
-    cmp "$work/picture" "$picture" || { echo "picture $picture: FAILED"; failed=1; }
+    examples/picture "$kind" "$title" < "${picture%.svg}.answer" > "$work/made"
+    must_be "$picture" < "$work/made"
 done
-must_be() {
-    cmp - "$1" || { echo "table $1: FAILED"; failed=1; }
-}
 examples/log_to_table track 3600 < examples/harbour/log.csv > "$work/made"
 must_be examples/harbour/tracks.csv < "$work/made"
 examples/log_to_table celsius 86400 < examples/sensors/readings.csv > "$work/made"
 must_be examples/sensors/heat.csv < "$work/made"
 examples/table_to_log x y < examples/harbour/corners.answer > "$work/made"
 must_be examples/harbour/corners.csv < "$work/made"
-exit $failed
+report

@@ -1,6 +1,6 @@
 #!/bin/sh
 # Runs each prefix of a script. Each is accepted or refused, and a refused one writes nothing.
-# `sh checks/prefixes.sh PROGRAM` uses that program; without an argument it builds one.
+# `sh checks/prefixes.sh PROGRAM` uses that program; without an argument the one that ./try builds.
 . "$(dirname "$0")/common"
 
 cat > "$work/script.sql" <<'END'
@@ -13,18 +13,17 @@ SELECT x.id, y.k FROM t x LEFT JOIN t y ON x.id < y.id;
 END
 
 length=$(wc -c < "$work/script.sql")
-count=0
-while [ "$count" -le "$length" ]; do
+while [ "$tried" -lt "$length" ]; do
     status=0
-    head -c "$count" "$work/script.sql" | "$program" > "$work/answer" 2> "$work/note" || status=$?
+    head -c "$tried" "$work/script.sql" | "$program" > "$work/answer" 2> "$work/note" || status=$?
     lines=$(wc -l < "$work/note")
     case "$status $lines" in
         "0 0") ;;
-        "7 1") [ ! -s "$work/answer" ] || { echo "prefixes: FAILED: the first $count bytes are refused, and something is written"; exit 1; } ;;
-        *) echo "prefixes: FAILED: the first $count bytes end with status $status and $lines lines of notes"; exit 1 ;;
+        "7 1") [ ! -s "$work/answer" ] || fails "$tried bytes are refused, and have an answer" ;;
+        *) fails "$tried bytes end with status $status and $lines lines of notes" ;;
     esac
-    count=$((count + 1))
+    tried=$((tried + 1))
 done
-printf 'id\n2\n1\n4\n3\n(4 rows)\nid\n3\n1\n4\n(3 rows)\nid,k\n2,4\n3,\\N\n(2 rows)\n' > "$work/wanted"
-cmp "$work/answer" "$work/wanted" || { echo "prefixes: FAILED: the whole script"; exit 1; }
-echo "prefixes: $count tried, as expected"
+wanted='id\n2\n1\n4\n3\n(4 rows)\nid\n3\n1\n4\n(3 rows)\nid,k\n2,4\n3,\\N\n(2 rows)\n'
+wants "the whole script" 0 "$wanted" "" "\"\$program\" < '$work/script.sql'"
+report

@@ -31,7 +31,7 @@ def straightened(points):
 
 
 def joined(trip):
-    """The trip, with sequences joined where one begins at the place and instant at which the one before it ends."""
+    """The trip, with two sequences joined where one ends at the place and instant of the next."""
     whole = []
     for lower, upper, points in trip:
         if whole and whole[-1][2][-1] == points[0] and whole[-1][1] != lower:
@@ -98,7 +98,8 @@ def random_points(rng, second, place, count):
     for _ in range(count - 1):
         _, x, y = points[-1]
         second += rng.randint(1, 4)
-        points.append((Fraction(second), x + Fraction(rng.randint(-4, 4), 2), y + Fraction(rng.randint(-4, 4), 2)))
+        x, y = x + Fraction(rng.randint(-4, 4), 2), y + Fraction(rng.randint(-4, 4), 2)
+        points.append((Fraction(second), x, y))
     return points
 
 
@@ -136,27 +137,39 @@ def different(distance, text, thin, wanted):
 
 
 def run(command, text, status):
-    done = subprocess.run(command, input=text, text=True, capture_output=True, cwd=WORK, check=False)
+    done = subprocess.run(
+        command, input=text, text=True, capture_output=True, cwd=WORK, check=False)
     if done.returncode != status:
         raise SystemExit(f"{command} ended with status {done.returncode}: {done.stderr}")
     return done.stdout
 
 
 def read_again(distance, thin, count):
-    """What mobsql reads, and the rows that are there at other times or further away east or north than the distance."""
+    """Compares what mobsql reads with the thinned table.
+
+    It also asks for the rows that exist at other times, or are further away than the distance to
+    the east or to the north.
+    """
     script = f"""CREATE TABLE whole (id int, trip tgeompoint);
 CREATE TABLE thin (id int, trip tgeompoint);
 COPY whole FROM 'trips.csv' WITH (FORMAT csv, HEADER);
 COPY thin FROM 'thin.csv' WITH (FORMAT csv, HEADER);
 SELECT id, trip FROM thin;
-SELECT a.id FROM whole a, thin b WHERE a.id = b.id AND NOT (asText(getTime(a.trip)) = asText(getTime(b.trip))
-    AND (getX(a.trip) - getX(b.trip)) %<= {distance} AND (getX(b.trip) - getX(a.trip)) %<= {distance}
-    AND (getY(a.trip) - getY(b.trip)) %<= {distance} AND (getY(b.trip) - getY(a.trip)) %<= {distance});
+SELECT a.id FROM whole a, thin b
+WHERE a.id = b.id AND NOT (asText(getTime(a.trip)) = asText(getTime(b.trip))
+    AND (getX(a.trip) - getX(b.trip)) %<= {distance}
+    AND (getX(b.trip) - getX(a.trip)) %<= {distance}
+    AND (getY(a.trip) - getY(b.trip)) %<= {distance}
+    AND (getY(b.trip) - getY(a.trip)) %<= {distance});
 """
     wanted = f"{thin}({count} rows)\nid\n(0 rows)\n"
     answer = run([MOBSQL], script, 0)
     if answer != wanted:
         raise SystemExit(f"with {distance} mobsql reads\n{answer}\nand not\n{wanted}")
+
+
+def points_in(rows):
+    return sum(len(points) for _, trip in rows for _, _, points in trip or [])
 
 
 def main():
@@ -167,7 +180,8 @@ def main():
         square = Fraction(distance) ** 2
         rows = [(n + 1, random_trip(rng) if rng.random() < 0.9 else None) for n in range(12)]
         text = table_text(rows)
-        kept = [(n, trip and [(a, b, thinned(p, square)) for a, b, p in joined(trip)]) for n, trip in rows]
+        kept = [(n, trip and [(a, b, thinned(p, square)) for a, b, p in joined(trip)])
+                for n, trip in rows]
         wanted = table_text(kept)
         thin = run([MOBTHIN, "--within", distance], text, 0)
         if thin != wanted:
@@ -178,7 +192,7 @@ def main():
             with open(f"{WORK}/{name}", "w", encoding="utf-8") as file:
                 file.write(content)
         read_again(distance, thin, len(rows))
-        left_out += sum(len(p) for _, trip in rows for _, _, p in trip or []) - sum(len(p) for _, trip in kept for _, _, p in trip or [])
+        left_out += points_in(rows) - points_in(kept)
     print(f"thin: {TABLES} tables tried, {left_out} points left out")
 
 

@@ -5,7 +5,7 @@
 use Rattle.std.proofs.Common.{◌≡◌, ◌∙◌, ◌==◌, ◌&&◌, arith, inl, inr, refl, sym, ap, subst, get_or, zero, suc, ℕ, true, Option, Some, None, List, [], ◌∷◌, ◌++◌, slice_get, take}
 use Rattle.mob_tuples.specs.Tuples.{StandsIn, no_row}
 use Rattle.mob_tuples.specs.Visits.{Conditions, Meeting, on_at}
-use Rattle.mob_join.specs.KeptTuples.{AreThoseThatMeet, IsEntryOf, IsTuple}
+use Rattle.mob_join.specs.KeptTuples.{AreThoseThatMeet, IsEntryOf, IsTupleOfFrom}
 use Rattle.mob_join.proofs.Members.{in_by_standing, stands_by_in}
 
 abbrev second_joined : Conditions
@@ -22,7 +22,7 @@ abbrev two : ℕ → List ℕ
 two table = 0 ∷ 1 ∷ []
 
 abbrev IsPair : List ℕ → Type 0
-IsPair tuple = IsTuple second_joined met two (7 ∷ 8 ∷ []) tuple
+IsPair tuple = IsTupleOfFrom second_joined met two (7 ∷ 8 ∷ []) tuple
 
 -- the row 0 of the first table has no row of the second
 alone : IsPair (0 ∷ no_row ∷ [])

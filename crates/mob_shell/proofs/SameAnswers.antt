@@ -1,5 +1,5 @@
 -- Workers and indexes change no answer.
-use Rattle.std.proofs.Common.{◌≡◌, ◌∙◌, ap, sym, subst, inl, inr, take, ℕ, ℤ, List, [], Option, Some, None, Ok, Err}
+use Rattle.std.proofs.Common.{◌≡◌, ◌∙◌, ap, sym, subst, inl, inr, take, ℕ, ℤ, List, Option, Some, None, Ok, Err}
 use Rattle.mob_words.specs.declared.options.Settings.{Settings}
 use Rattle.mob_typed.specs.Selects.{TypedSelectParts}
 use Rattle.mob_typed.specs.Statements.{ScriptOut}
@@ -23,7 +23,7 @@ use Rattle.mob_shell.specs.Ending.{IsDue}
 use Rattle.mob_shell.specs.Inputs.{FilesBy, Input, ScriptBy}
 use Rattle.mob_shell.specs.Program.{IsHalted, IsProgram, ProgramWrites, StopsWith}
 use Rattle.mob_shell.specs.Runs.{RunsStatement, Stops, begin}
-use Rattle.mob_shell.specs.SameAnswers.{DifferInIndexes, DifferInWorkers, IndexesAnswerTheSame, IndexesDeleteTheSame, IndexesKeepTheSame, WorkersEndTheSame, WorkersReadTheSame, WorkersWriteTheSame}
+use Rattle.mob_shell.specs.SameAnswers.{DifferInWorkers, IndexesAnswerTheSame, IndexesDeleteTheSame, IndexesKeepTheSame, WorkersEndTheSame, WorkersReadTheSame, WorkersWriteTheSame}
 use Rattle.mob_statements.specs.Statements.{Ran}
 use Rattle.mob_shell.specs.StepOutcomes.{OneAnswer}
 

@@ -1,6 +1,7 @@
-use Rattle.std.proofs.Common.{ℕ, List, inl, Ok, Err, subst}
-use Rattle.std.proofs.lemmas.Result.{MatchResult-weaker, err_from_is_err_and}
+use Rattle.std.proofs.Common.{ℕ, List, inl, inr, Ok, Err, subst}
+use Rattle.std.proofs.lemmas.Result.{IfErr-weaker, MatchResult-weaker, err_from_is_err_and}
 use Rattle.mob_typed.specs.Selects.{select_seen}
+use Rattle.mob_eval.specs.QueryFaults.{OnTuple, TupleFault}
 use Rattle.mob_eval.proofs.QueryFaults.{of_query}
 use Rattle.mob_join.specs.Query.{IsKept}
 use Rattle.mob_tail.specs.Answers.{IsAnswerOnKept}
@@ -22,3 +23,13 @@ returns-clause-text g c =
     let there = λ (rows : List (List (List ℕ))) (k : IsAnswerOnKept select c.store.result.now day c.as_slice.result.now (Ok rows)).
     subst (λ z. IsAnswerOnKept select z day c.in_ok-kept.kept (Ok rows)) c.store.ensures.same (subst (λ z. IsAnswerOnKept select c.store.result.now day z (Ok rows)) c.as_slice.ensures.same k) in
     MatchResult-weaker c.answered_text.result c.answered_text.ensures.text (λ text h. (h.0, (c.in_ok-kept.kept, c.in_ok-kept.ensures.kept, there h.0 h.1), h.2)) (λ e h. h)
+
+pub returns-clause-fault : goal.returns-clause-fault
+returns-clause-fault g c =
+    let select = select_seen c.args.select.now in
+    let catalogue = c.args.catalog.now in
+    let day = c.args.epoch.now in
+    let there = λ (f : TupleFault) (k : IsAnswerOnKept select c.store.result.now day c.as_slice.result.now (Err f)).
+    subst (λ z. IsAnswerOnKept select z day c.in_ok-kept.kept (Err f)) c.store.ensures.same (subst (λ z. IsAnswerOnKept select c.store.result.now day z (Err f)) c.as_slice.ensures.same k) in
+    IfErr-weaker c.answered_text.result (OnTuple (λ f. IsAnswerOnKept select c.store.result.now day c.as_slice.result.now (Err f))) (OnTuple (λ f. QueryAnswers select catalogue day (Err f)))
+    (of_query (λ f. IsAnswerOnKept select c.store.result.now day c.as_slice.result.now (Err f)) (λ f. QueryAnswers select catalogue day (Err f)) (λ f k. inr (c.in_ok-kept.kept, c.in_ok-kept.ensures.kept, there f k))) c.answered_text.ensures.fault
