@@ -131,8 +131,8 @@ pub record HasNoExplain (script : List ℕ) : Type 0 where
 
 -- ---- the laws
 
--- A program that writes a text has answers of its SELECTs. If its script has no EXPLAIN, the text is
--- these, one after another.
+-- A program that writes a text has answers of its SELECTs. If its script has no EXPLAIN, the text
+-- is these, one after another.
 abbrev pub WrittenIsAnswered : Type 0
 WrittenIsAnswered = (settings : Settings) (input : Input) (text : List ℕ) → ProgramWrites settings input text
     → (answers : List (List ℕ)) × ProgramAnswers settings input answers × (HasNoExplain input.script → text ≡ concat answers)
