@@ -1,4 +1,4 @@
--- An order of the values of rows is one of the rows.
+-- An order of the values of rows is an order of the rows.
 use Rattle.std.proofs.Common.{◌≡◌, ◌⊎◌, inl, inr, ℕ, ℤ, zero, suc, ◌+◌, ◌<◌, Bool, true, false, cond, List, [], ◌∷◌, length, map, take, refl, sym, ap, ap₂, subst, ◌∙◌, true≢false, arith}
 use Rattle.std.specs.List.{filter}
 use Rattle.std.specs.List.Sorted.{IsPermutation, IsSorted, IsSortedBy, IsStable, ties}
@@ -24,7 +24,7 @@ same_filter : {X : Type 0} (p q : X → Bool) → ((x : X) → p x ≡ q x) → 
 same_filter p q e [] = refl
 same_filter p q e (x ∷ xs) = ap₂ (λ (b : Bool) zs. cond b (x ∷ zs) zs) (e x) (same_filter p q e xs)
 
--- some entry passes, or none is left
+-- some entry passes a test, or none is left
 module _ {X : Type 0} (p : X → Bool) where
   passing : (xs : List X) → ((x : X) × (p x ≡ true)) ⊎ (filter p xs ≡ [])
   passing [] = inr refl
@@ -44,7 +44,7 @@ module _ {Y : Type 0} (lt : Y → Y → Bool) (order : IsStrictWeakOrder lt) whe
       by true b e k h = absurd (true≢false (sym h ∙ rw e refl))
       by false true e k h = absurd (true≢false (sym h ∙ rw (e, k) refl))
 
-  -- what ties is before the same
+  -- values that tie are before the same values
   level : (y z w : Y) → lt y z ≡ false → lt z y ≡ false → lt y w ≡ lt z w
   level y z w h k = by (lt y w) (lt z w) refl refl
     where
@@ -54,7 +54,7 @@ module _ {Y : Type 0} (lt : Y → Y → Bool) (order : IsStrictWeakOrder lt) whe
       by true false e q = absurd (true≢false (sym e ∙ order.chain y z w h q))
       by false true e q = absurd (true≢false (sym q ∙ order.chain z y w k e))
 
-  -- and behind the same
+  -- and after the same values
   level_behind : (y z w : Y) → lt y z ≡ false → lt z y ≡ false → lt w y ≡ lt w z
   level_behind y z w h k = by (lt w y) (lt w z) refl refl
     where
@@ -100,7 +100,7 @@ none : (n : ℕ) → ◌≡◌ {A = List Value} [] (take n [])
 none zero = refl
 none (suc n) = refl
 
--- keys are compared no further than there are directions
+-- keys are compared only as far as there are directions
 taken : (falls : List Bool) (vs ws : List Value) → compare_keys falls (take (length falls) vs) (take (length falls) ws) ≡ compare_keys falls vs ws
 taken [] vs ws = refl
 taken (f ∷ falls) vs ws = ap₂ ordering_then (ap₂ (compare_key f) (first vs) (first ws)) (ap₂ (compare_keys falls) (others vs) (others ws) ∙ taken falls (other_keys vs) (other_keys ws))

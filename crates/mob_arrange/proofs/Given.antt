@@ -1,4 +1,4 @@
--- Rows that are cut and printed.
+-- Rows are cut and printed.
 use Rattle.std.proofs.Common.{◌≡◌, ℕ, ℤ, Bool, List, [], ◌∷◌, Option, Some, None, map, drop, refl, sym, ap, subst}
 use Rattle.std.proofs.lemmas.List.{take-map}
 use Rattle.mob_value.specs.declared.value.Value.{Value}
@@ -8,7 +8,7 @@ use Rattle.mob_arrange.specs.Order.{IsOrderedByKeys}
 use Rattle.mob_arrange.specs.Rows.{AreDistinct, limited}
 use Rattle.mob_arrange.specs.RowsText.{IsTextOfGiven, IsTextOfArranged}
 
--- what is cut and then printed is what is printed and then cut
+-- cutting and then printing is printing and then cutting
 pub cut_before : {X Y : Type 0} (f : X → Y) (limit : Option ℕ) (xs : List X) → map f (limited limit xs) ≡ limited limit (map f xs)
 cut_before f None xs = refl
 cut_before f (Some n) xs = sym (take-map f n xs)

@@ -45,7 +45,7 @@ module _ {X : Type 0} (lt : X → X → Bool) (order : IsStrictWeakOrder lt) whe
   fails : (p : X → Bool) (x : X) (xs : List X) → p x ≡ false → filter p (x ∷ xs) ≡ filter p xs
   fails p x xs h = rw h refl
 
-  -- the first that passes a test is not less than what leads the list
+  -- the first entry that passes a test is not less than one that leads the list
   led : (x y : X) (p : X → Bool) (zs rest : List X) → Leads x zs → filter p zs ≡ y ∷ rest → lt y x ≡ false
   led x y p [] rest h e = absurd (cc e)
   led x y p (z ∷ zs) rest h e = by (p z) refl (λ k. led x y p zs rest h.1 k)

@@ -29,7 +29,7 @@ truth_of : Value → Bool
 truth_of (Truth b) = b
 truth_of v = false
 
--- by place, by truth, by bytes and by number, each of which a value has or not
+-- by rank, by truth, by bytes and by number, each of which a value has or not
 by_parts : Value → Value → Ordering
 by_parts = then_cmp (on type_rank nat_cmp) (then_cmp (on truth_of bool_cmp) (then_cmp (on bytes_of compare_bytes) (on number_of compare_ratio)))
 
@@ -80,10 +80,10 @@ keys_total : (falls : List Bool) → IsTotalOrder (compare_keys falls)
 keys_total [] = record { antisymm = λ vs ws. refl; trans = λ us vs ws h k. h; congr = λ us vs ws h. refl }
 keys_total (f ∷ rest) = then_total (on_total first_key (key_total f)) (on_total other_keys (keys_total rest))
 
--- values before others are those whose keys compare as less
+-- values are before others if their keys compare as less
 pub keys_ranked : (falls : List Bool) → IsStrictWeakOrder (λ vs ws. is_lt (compare_keys falls vs ws))
 keys_ranked falls = ranks_by (keys_total falls) (λ (values : List Value). values)
 
--- a row before another is one whose keys compare as less
+-- a row is before another if their keys compare as less
 pub rows_ranked : (falls : List Bool) → IsStrictWeakOrder (λ a b. is_lt (compare_rows falls a b))
 rows_ranked falls = ranks_by (keys_total falls) (λ (row : Keyed). row.keys)

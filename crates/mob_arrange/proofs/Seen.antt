@@ -1,4 +1,4 @@
--- Rows that were seen, as a set of their texts.
+-- The rows seen so far, as a set of their texts.
 use Rattle.std.proofs.Common.{◌≡◌, ◌⊎◌, inl, inr, ℕ, ◌+◌, ◌<◌, Bool, true, false, List, [], ◌∷◌, ◌++◌, length, get_or, drop, map, nat_eq, Bor, not, ◌||◌, refl, sym, ap, ap₂, ◌∙◌, subst, append_assoc, append-nil, true≢false, arith}
 use Rattle.std.specs.declared.string.String.{String}
 use Rattle.std.specs.declared.vec.Vec.{Vec}
@@ -40,11 +40,11 @@ unfolding same_texts
 any_seen k [] = refl
 any_seen k (v ∷ keys) = ap₂ (λ (x y : Bool). x || y) (sym (pointwise-map (λ b. string_bytes b) (pointwise nat_eq) k.items v.items)) (any_seen k keys)
 
--- x is among those before it and they stay, or it is not and comes after them
+-- x is among the earlier entries and these stay, or it is new and is appended
 abbrev pub Taken : {X : Type 0} → List X → X → Bool → List X → Type 0
 Taken before x is_new next = (Contains before x × (is_new ≡ false) × (next ≡ before)) ⊎ ((Contains before x → ⊥) × (is_new ≡ true) × (next ≡ before ++ x ∷ []))
 
--- what a set of rows does with one more
+-- one more row in a set of rows
 pub seen_or_new : {A B : Type 0} (k : Vec (String A) B) (keys next : List (Vec (String A) B)) (is_new : Bool) → is_new ≡ not (list_any (same_strings k) keys) → next ≡ insert_key same_strings keys k
     → Taken (map strings_of keys) (strings_of k) is_new (map strings_of next)
 seen_or_new k keys next is_new e s = by (list_any (same_strings k) keys) refl
@@ -58,7 +58,7 @@ seen_or_new k keys next is_new e s = by (list_any (same_strings k) keys) refl
     )
 
 module _ {X : Type 0} (all : List X) (i : ℕ) (x : X) (before next : List X) (is_new : Bool) (lt : i < length all) (is : x ≡ get_or all i x) where
-  -- the rows that were seen go on with those that are still to come
+  -- the rows seen so far, continued by those to come
   pub seen_step : ((rest : List X) → AreFirst before (drop i all) rest → AreFirst [] all (before ++ rest))
       → Taken before x is_new next
       → (rest : List X) → AreFirst next (drop (i + 1) all) rest → AreFirst [] all (next ++ rest)

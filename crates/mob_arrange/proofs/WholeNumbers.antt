@@ -1,4 +1,4 @@
--- Whole numbers compare as they are.
+-- Whole numbers compare like integers.
 use Rattle.std.proofs.Common.{◌≡◌, ◌<ℤ◌, ℤ, refl, sym, ap, ◌∙◌, subst, arith}
 use Rattle.std.specs.Cmp.{int_ranks}
 use Rattle.std.specs.Ordering.{int_cmp, MatchOrdering}
@@ -10,7 +10,7 @@ use Rattle.mob_ratio.proofs.Clear.{whole-over, same_lt}
 use Rattle.mob_ratio.proofs.Order.{lt-before, before-back, before-self}
 use Rattle.mob_slice.specs.Ranks.{compare_ratio}
 
--- a fraction whose denominator is 1
+-- a fraction with the denominator 1
 pub is_whole : (q : Ratio) → q.den ≡ 1 → q ≡ whole q.num
 is_whole q h = sym (over-self q) ∙ ap (over q.num) h ∙ sym (whole-over q.num)
 

@@ -1,10 +1,10 @@
--- The value that is seen at a place of a row.
+-- The value at a place of a row.
 use Rattle.mob_value.specs.declared.value.Value.{Value}
 use Rattle.mob_value.specs.declared.value.Value.TheVariants.{Null, Number}
 use Rattle.mob_arrange.specs.declared.found.Found.{Found}
 use Rattle.mob_arrange.specs.declared.found.Found.TheVariants.{Number as NumberFound, Value as ValueFound, Nothing}
 
--- NULL where there is none
+-- NULL if there is none
 abbrev pub found_value : Found → Value
 found_value (NumberFound n) = Number n.now
 found_value (ValueFound v) = v.now

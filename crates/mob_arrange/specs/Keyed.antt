@@ -8,6 +8,6 @@ pub record Keyed : Type 0 where
   pub fields : List (List ℕ)
   pub keys : List Value
 
--- the row of the values of so many keys, and behind them of those of its fields
+-- the row of these values: so many keys, then its fields
 abbrev pub row_of_values : ℤ → ℕ → List Value → Keyed
 row_of_values day keys values = record { fields = map (field_text day) (drop keys values); keys = take keys values }

@@ -9,8 +9,8 @@ use Rattle.mob_value.specs.declared.value.Value.{Value}
 use Rattle.mob_value.specs.declared.value.Value.TheVariants.{Null, Bool as Truth, Number, Text, Moment, Point, Polygon, Span, SpanSet, Box, MovingBool, MovingInt, MovingFrac, MovingText, MovingPoint}
 use Rattle.mob_arrange.specs.Keyed.{Keyed}
 
--- The place of a value among values of other types, with NULL behind every other value. A key has
--- one type, so that only NULL stands beside its values.
+-- The rank of a value among values of other types, with NULL last. A key has one type, so only NULL
+-- comes with its values.
 abbrev pub type_rank : Value → ℕ
 type_rank (Truth a) = 0
 type_rank (Number a) = 1
@@ -36,11 +36,11 @@ compare_values (Text a) (Text b) = compare_bytes a b
 compare_values (Moment a) (Moment b) = compare_ratio a b
 compare_values a b = nat_cmp (type_rank a) (type_rank b)
 
--- a key that falls, as under DESC, stands the other way round, with NULL first
+-- a descending key reverses the order, with NULL first
 abbrev pub compare_key : Bool → Value → Value → Ordering
 compare_key falls a b = cond falls (compare_values b a) (compare_values a b)
 
--- the first key; a row that has none is as if it were NULL
+-- the first key; a row without one counts as NULL
 abbrev pub first_key : List Value → Value
 first_key [] = Null
 first_key (v ∷ vs) = v
@@ -57,7 +57,7 @@ compare_keys (falls ∷ rest) vs ws = ordering_then (compare_key falls (first_ke
 abbrev pub compare_rows : List Bool → Keyed → Keyed → Ordering
 compare_rows falls a b = compare_keys falls a.keys b.keys
 
--- the rows in the order of the keys, and rows whose keys tie in the order in which they were
+-- the rows sorted by the keys; rows with equal keys keep their order
 pub record IsOrderedByKeys (falls : List Bool) (rows ordered : List Keyed) : Type 0 where
   pub same : IsPermutation rows ordered
   pub sorted : IsSorted (compare_rows falls) ordered

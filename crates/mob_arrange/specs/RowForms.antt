@@ -1,4 +1,4 @@
--- The values of a row, however it has them.
+-- The values of a row, in either form.
 use Rattle.std.specs.Prelude.{List}
 use Rattle.mob_value.specs.declared.value.Value.{Value}
 use Rattle.mob_arrange.specs.declared.rows.RowForm.{RowForm}

@@ -1,4 +1,4 @@
--- The value that an entry of a row has.
+-- The value of an entry of a row.
 use Rattle.mob_value.specs.declared.value.Value.{Value}
 use Rattle.mob_arrange.specs.declared.row_values.RowValue.{RowValue}
 use Rattle.mob_arrange.specs.declared.row_values.RowValue.TheVariants.{Stored, Made}

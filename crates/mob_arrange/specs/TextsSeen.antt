@@ -1,4 +1,4 @@
--- The texts that a vector refers to or has.
+-- The texts that a vector borrows or owns.
 use Rattle.std.specs.Prelude.{ℕ, List, map, string_bytes}
 use Rattle.std.specs.Borrow.{Bor}
 use Rattle.std.specs.declared.string.String.{String}

@@ -1,4 +1,4 @@
-// The text of an answer from its rows.
+//! The text of an answer from its rows.
 ghost use Rattle.std.specs.Prelude.{◌≡◌, IfOk, length, map, drop, true, false};
 ghost use Rattle.mob_literal.specs.Fields.{field_text};
 ghost use Rattle.mob_arrange.specs.Keyed.{row_of_values};
@@ -14,7 +14,7 @@ use mob_records::counted_text_by;
 use mob_scalar::Epoch;
 use std::alloc::{AllocError, Global};
 
-// The first of rows, as many as the limit leaves.
+// The first rows, at most as many as the limit.
 fn limited<T>(limit: Option<u64>, rows: &[T]) -> &[T]
     ensures front { result.now ≡ limited_rows limit rows.now }
 {
@@ -29,7 +29,7 @@ fn limited<T>(limit: Option<u64>, rows: &[T]) -> &[T]
     }
 }
 
-// Each row is given, a field printed where it is written.
+// Each row is printed, field by field, directly into the text.
 fn all_text(
     alloc: Global,
     names: &[Text],
@@ -44,8 +44,8 @@ fn all_text(
     counted_text_by(alloc, names, limited(limit, rows), &printer)
 }
 
-// All rows are printed, since it is their fields that are told apart, and of equal ones the first
-// is given.
+// All rows are printed first, because distinct rows are found by their fields. Of equal rows the
+// first is kept.
 fn distinct_text(
     alloc: Global,
     names: &[Text],
@@ -60,10 +60,11 @@ fn distinct_text(
     counted_text_by(alloc, names, limited(limit, kept.as_slice()), &Printed)
 }
 
-/// The text of an answer with these names and rows: the rows are put in the order of their keys,
-/// where `falls` says for each key whether it falls; of equal ones only the first is given where
-/// `is_distinct` is true; and no more than `limit` are given. Without `is_distinct` a field is
-/// printed where it is written, and no field of a row that the limit drops.
+/// The text of an answer with these names and rows. The rows are sorted by their keys, where
+/// `falls` says for each key whether it is descending. If `is_distinct` is true, only the first of
+/// equal rows is kept. At most `limit` rows are given. Without `is_distinct` a field is printed
+/// directly into the text, and no field of a row beyond the limit is printed. The only error is a
+/// failed allocation.
 pub fn arranged_text(
     alloc: Global,
     names: &[Text],

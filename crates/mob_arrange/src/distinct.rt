@@ -1,4 +1,4 @@
-// Of equal rows the first.
+//! The first of equal rows.
 ghost use Rattle.std.specs.Prelude.{◌≡◌, ◌<◌, [], IfOk, drop, get_or, length, map, string_bytes};
 ghost use Rattle.mob_literal.specs.Fields.{field_text};
 ghost use Rattle.mob_arrange.specs.Rows.{AreFirst};
@@ -38,8 +38,8 @@ fn fields_of(alloc: Global, printer: &Fields<'_>, row: &Row<'_>) -> Result<Vec<S
     Ok(texts)
 }
 
-/// The fields of rows, of equal ones the first, in the order of the rows. The fields of a row stand
-/// behind so many keys.
+/// The fields of rows, without those equal to an earlier row, in the order of the rows. The fields
+/// of a row come after its keys. The only error is a failed allocation.
 pub fn distinct(
     alloc: Global,
     keys: usize,
@@ -52,7 +52,7 @@ pub fn distinct(
     let mut seen = IndexSet::new(alloc);
     for row in rows {
         let fields = fields_of(alloc, &printer, row)?;
-        // Fields that are there already are not added, which needs no answer here.
+        // Fields that are already in the set are not added, so the result is not needed here.
         let _is_new = seen.insert(fields)?;
     }
     Ok(seen)

@@ -22,12 +22,12 @@ fn write_found(found: Found<'_>, epoch: &Epoch, into: &mut String) -> Result<(),
     }
 }
 
-/// Prints the fields of rows, which stand behind so many keys.
+/// Prints the fields of rows, which come after `keys` keys.
 #[derive(Clone, Copy)]
 pub struct Fields<'a> {
     /// How many keys there are.
     pub keys: usize,
-    /// The epoch by which instants are printed.
+    /// The epoch with which instants are printed.
     pub epoch: &'a Epoch,
 }
 
@@ -48,7 +48,7 @@ impl<'a, 'b> FieldPrinter<Row<'b>> for Fields<'a> {
     }
 }
 
-/// Prints rows whose fields are printed.
+/// Prints rows whose fields are printed already.
 #[derive(Clone, Copy)]
 pub struct Printed;
 

@@ -1,15 +1,15 @@
-//! A value where a row has it.
+//! A value as a row holds it.
 
 use mob_frac::Frac;
 use mob_value::Value;
 
-/// A value where a row has it.
+/// A value as a row holds it.
 #[derive(Clone, Copy)]
 pub enum Found<'a> {
     /// A number.
     Number(&'a Frac),
     /// Any value.
     Value(&'a Value),
-    /// No value: it counts as NULL.
+    /// No value, which counts as NULL.
     Nothing,
 }

@@ -1,5 +1,4 @@
-//! The rows of an answer: put in the order of their keys, of equal ones the first, no more than so
-//! many, and then printed.
+//! The rows of an answer: sorted by their keys, made distinct, cut to the limit, and printed.
 #![tactic(auto)]
 
 mod arrange;

@@ -1,4 +1,4 @@
-//! The values of a row in a list.
+//! A row with its values in a list.
 ghost use Rattle.std.specs.Prelude.{◌≡◌, ◌++◌, IfOk, IfSome, map};
 ghost use Rattle.mob_ratio.specs.Ratio.{whole};
 ghost use Rattle.mob_value.specs.declared.value.Value.TheVariants.{Number};
@@ -13,13 +13,13 @@ use mob_value::Value;
 use std::alloc::AllocError;
 use std::marker::Model;
 
-// The number of a row whose first value is no whole number. A fraction has no such numerator.
+// Marks a first value that is not a whole number. No fraction has this numerator.
 const UNKNOWN: i64 = i64::MIN;
 
-/// The values of a row in a list, which contracts see.
+/// A row with its values in a list, which contracts see.
 ///
-/// Where the first value is a whole number, the row has it beside the list, and so it has the
-/// second, so that most rows are put in order without a look at their values.
+/// The first value, if it is a whole number, is also outside the list, and so is the second. So
+/// most rows are sorted without access to their lists.
 #[derive(Drop)]
 pub struct Listed<'a> {
     values: Items<RowValue<'a>>,
@@ -41,7 +41,7 @@ impl<'a> Model for Listed<'a> {
     ghost invariant = { λ r. KnowsFirst r.first (map row_value r.values) × KnowsFirst r.second (other_keys (map row_value r.values)) };
 }
 
-// The number itself where it is whole.
+// The number itself if it is whole.
 fn whole_part(number: &Frac) -> i64
     ensures whole { (result ≡ unknown → ⊥) → number.now ≡ whole result }
 {
@@ -62,7 +62,7 @@ fn whole_number(value: &Value) -> i64
     }
 }
 
-/// The values behind the first one.
+/// The values after the first one.
 pub fn others<'a, 'b>(values: &'a [RowValue<'b>]) -> &'a [RowValue<'b>]
     ensures others { map row_value result.now ≡ other_keys (map row_value values.now) }
 {
@@ -73,7 +73,7 @@ pub fn others<'a, 'b>(values: &'a [RowValue<'b>]) -> &'a [RowValue<'b>]
     }
 }
 
-// What is known of the first of these values.
+// The first of these values, if it is a whole number.
 fn first_number(values: &[RowValue<'_>]) -> i64
     ensures known { KnowsFirst result (map row_value values.now) }
 {
@@ -83,7 +83,7 @@ fn first_number(values: &[RowValue<'_>]) -> i64
     }
 }
 
-// One list behind another.
+// One list after another.
 fn joined<T: Drop>(mut front: Vec<T>, mut back: Vec<T>) -> Result<Vec<T>, AllocError>
     ensures joined { IfOk result (λ all. all.items ≡ front.items ++ back.items) }
 {
@@ -92,7 +92,8 @@ fn joined<T: Drop>(mut front: Vec<T>, mut back: Vec<T>) -> Result<Vec<T>, AllocE
 }
 
 impl<'a> Listed<'a> {
-    /// The values of these keys, and behind them those of these fields.
+    /// A row with the values of these keys, then those of these fields. The only error is a failed
+    /// allocation.
     pub fn new(
         keys: Items<RowValue<'a>>,
         fields: Items<RowValue<'a>>,
@@ -109,14 +110,14 @@ impl<'a> Listed<'a> {
         })
     }
 
-    /// The values of the keys, and behind them those of the fields.
+    /// The values of the keys, then those of the fields.
     pub fn values(&self) -> &[RowValue<'a>]
         ensures values { map row_value result.now ≡ self.now }
     {
         self.values.as_slice()
     }
 
-    /// The first value where it is a whole number, and nothing where this is not known.
+    /// The first value if it is known to be a whole number.
     pub fn first(&self) -> Option<i64>
         ensures whole { IfSome result (λ n. first_key self.now ≡ Number (whole n)) }
     {
@@ -127,7 +128,7 @@ impl<'a> Listed<'a> {
         }
     }
 
-    /// The second value where it is a whole number, and nothing where this is not known.
+    /// The second value if it is known to be a whole number.
     pub fn second(&self) -> Option<i64>
         ensures whole { IfSome result (λ n. first_key (other_keys self.now) ≡ Number (whole n)) }
     {

@@ -1,4 +1,4 @@
-//! The values of a row that are numbers, in the row itself.
+//! A row whose values are numbers, stored in the row itself.
 ghost use Rattle.std.specs.Prelude.{◌≡◌, ◌≤◌, ◌++◌, ◌∷◌, [], MatchOption, drop, length, map, true};
 ghost use Rattle.mob_value.specs.declared.value.Value.TheVariants.{Number};
 ghost use Rattle.mob_arrange.specs.Order.{first_key};
@@ -64,7 +64,7 @@ impl Numbers {
         }
     }
 
-    // Puts a number behind the others, if there is room.
+    // Appends a number, if there is room.
     fn push_number(&mut self, number: &Frac) -> bool
         ensures pushed { result ≡ true → self.new ≡ self.old ++ Number number.now ∷ [] }
     {
@@ -76,7 +76,7 @@ impl Numbers {
         true
     }
 
-    // Puts a value behind the others, if it is a number and there is room.
+    // Appends a value, if it is a number and there is room.
     fn push(&mut self, value: &Value) -> bool
         ensures pushed { result ≡ true → self.new ≡ self.old ++ value.now ∷ [] }
     {
@@ -86,8 +86,8 @@ impl Numbers {
         }
     }
 
-    /// Puts values behind the others. It answers false where one is no number or there is no room;
-    /// then some may be put.
+    /// Appends values. Returns false if one is not a number or there is no room; some may be
+    /// appended then.
     pub fn push_all(&mut self, values: &[RowValue<'_>]) -> bool
         ensures pushed { result ≡ true → self.new ≡ self.old ++ map row_value values.now }
     {

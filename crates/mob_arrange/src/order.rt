@@ -1,4 +1,4 @@
-// The order of rows by their keys.
+//! The order of rows by their keys.
 ghost use Rattle.std.specs.Prelude.{◌≡◌, ◌<◌, ◌+◌, ◌^◌, OnOk, ℤ, drop, length, map};
 ghost use Rattle.std.specs.Ordering.{int_cmp};
 ghost use Rattle.mob_slice.specs.Ranks.{compare_ratio};
@@ -41,7 +41,7 @@ fn place(value: &Value) -> u8
     }
 }
 
-// By one comparison.
+// With a single comparison.
 fn compare_numbers(a: &Frac, b: &Frac) -> Ordering
     ensures order { result ≡ compare_ratio a.now b.now }
 {
@@ -60,7 +60,7 @@ fn compare(a: &Value, b: &Value) -> Ordering
     }
 }
 
-// The first value, or this NULL where there is none.
+// The first value, or this NULL if there is none.
 fn first_or<'a>(values: &'a [RowValue<'_>], null: &'a Value) -> &'a Value
     requires null { null.now ≡ Value.Null }
     ensures first { result.now ≡ first_key (map row_value values.now) }
@@ -96,7 +96,7 @@ fn compare_whole(falls: bool, a: i64, b: i64) -> Ordering
     }
 }
 
-// The order of the first keys, by the whole numbers that the rows have beside their values.
+// The order of the first keys, by the whole numbers that the rows have outside their lists.
 fn compare_rows(falls: bool, a: &Listed<'_>, b: &Listed<'_>) -> Ordering
     ensures order { result ≡ compare_key falls (first_key a.now) (first_key b.now) }
 {
@@ -128,7 +128,7 @@ fn compare_seconds(falls: bool, a: &Listed<'_>, b: &Listed<'_>) -> Ordering
     }
 }
 
-// The order of the keys behind the first ones.
+// The order of the keys after the first ones.
 fn compare_others(falls: &[bool], a: &Listed<'_>, b: &Listed<'_>) -> Ordering
     ensures order { result ≡ compare_keys falls.now (other_keys a.now) (other_keys b.now) }
 {
@@ -145,7 +145,7 @@ fn compare_others(falls: &[bool], a: &Listed<'_>, b: &Listed<'_>) -> Ordering
     }
 }
 
-// The order of rows of which both have a list.
+// The order of two rows with lists.
 fn compare_listed(falls: &[bool], a: &Listed<'_>, b: &Listed<'_>) -> Ordering
     ensures order { result ≡ compare_keys falls.now a.now b.now }
 {
@@ -233,9 +233,9 @@ fn compare_by(falls: &[bool], a: &Row<'_>, b: &Row<'_>) -> Ordering
     }
 }
 
-/// Puts the rows in the order of their keys: a key falls where its entry in `falls` is true, NULL
-/// stands behind every other value where a key rises and before it where it falls, and rows whose
-/// keys tie stay in their order.
+/// Sorts the rows by their keys. A key is descending if its entry in `falls` is true. NULL comes
+/// after every other value of an ascending key and before every other value of a descending one.
+/// Rows with equal keys keep their order. The only error is a failed allocation.
 pub fn order(falls: &[bool], rows: &mut Vec<Row<'_>>) -> Result<(), AllocError>
     ensures ordered { OnOk result ((day : ℤ) → IsOrderedByKeys falls.now (map (row_of_values day (length falls.now)) rows.old.items) (map (row_of_values day (length falls.now)) rows.new.items)) }
 {

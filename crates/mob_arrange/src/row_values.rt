@@ -5,8 +5,8 @@ ghost use Rattle.mob_arrange.specs.RowValues.{row_value};
 use mob_value::{Boxed, Value};
 use std::alloc::{AllocError, Global};
 
-/// A value of a row: one that lies in the store, or one that was made, behind a pointer, so that a
-/// row of stored values is small.
+/// A value of a row: a stored one, or a made one on the heap, so that a row of stored values is
+/// small.
 #[derive(Drop)]
 pub enum RowValue<'a> {
     /// A stored value.
@@ -16,7 +16,7 @@ pub enum RowValue<'a> {
 }
 
 impl<'a> RowValue<'a> {
-    /// A made value, in memory of its own.
+    /// A made value on the heap. The only error is a failed allocation.
     pub fn made(alloc: Global, value: Value) -> Result<RowValue<'a>, AllocError>
         ensures value { IfOk result (λ v. row_value v ≡ value) }
     {

@@ -12,20 +12,20 @@ use mob_list::items::Items;
 use std::alloc::AllocError;
 use std::marker::Model;
 
-/// How a row has its values.
+/// How a row holds its values.
 #[derive(Drop)]
 pub enum RowForm<'a> {
-    /// In itself: at most four, all of them numbers.
+    /// In the row itself: at most four, all of them numbers.
     Numbers(Numbers),
     /// In a list.
     Listed(Listed<'a>),
 }
 
-/// A row of an answer: the values of its keys, and behind them those of its fields. Contracts see
-/// the list of these values.
+/// A row of an answer: the values of its keys, then those of its fields. Contracts see the list of
+/// these values.
 ///
-/// A row of at most four numbers has them in itself and takes no other memory, so that it is put in
-/// order and printed without a look at another place.
+/// A row of at most four numbers holds them itself, so it is sorted and printed without access to
+/// other memory.
 #[derive(Drop)]
 pub struct Row<'a> {
     form: RowForm<'a>,
@@ -77,7 +77,7 @@ fn value_at<'a>(values: &'a [RowValue<'_>], place: usize) -> Found<'a>
 }
 
 impl<'a> Row<'a> {
-    /// The row of these keys and fields.
+    /// The row of these keys and fields. The only error is a failed allocation.
     pub fn new(
         keys: Items<RowValue<'a>>,
         fields: Items<RowValue<'a>>,

@@ -1,4 +1,4 @@
-// Boxes that have space and time, by whole numbers.
+//! Boxes of space and time with whole numbers.
 ghost use Rattle.std.specs.Prelude.{◌≡◌, true, IfSome};
 ghost use Rattle.mob_stbox.specs.Boxes.{is_whole};
 
@@ -23,7 +23,7 @@ fn area(x: (i64, i64), y: (i64, i64)) -> Option<Area> {
     })
 }
 
-/// The box with these sides and from the one instant to the other.
+/// The box with these sides, from the first instant to the second.
 #[tactic(auto, unfolding(mob_stbox::specs::Boxes::is_whole))]
 pub fn boxed(x: (i64, i64), y: (i64, i64), t: (i64, i64)) -> Option<StBox>
     ensures whole { IfSome result (λ b. is_whole b ≡ true) }

@@ -1,4 +1,4 @@
-// Roots of linear functions on spans, and the cells that they make.
+//! Roots of linear functions on spans, and the cells between them.
 
 ghost use Rattle.std.specs.Prelude.{◌≡◌, ◌<◌, ◌∷◌, [], length, true, IfOk};
 ghost use Rattle.mob_ratio.specs.Order.{before};
@@ -14,14 +14,14 @@ use std::alloc::Global;
 // A fraction by its parts.
 type Parts = (i64, i64);
 
-// A function by its values at the ends of a span.
+// A function, by its values at the ends of a span.
 type Function = (Parts, Parts);
 
 // The ends of a span, and whether it includes them.
 type Limits = (i64, i64, bool, bool);
 
-// A cell by its ends, and the sign of a function there. A cell has both ends where they are one
-// instant, and else none.
+// A cell by its ends, and the sign of a function there. A cell includes both ends if they are one
+// instant, else neither.
 type Signed = (Parts, Parts, i8);
 
 fn is_fraction(number: &Frac, wanted: Parts) -> bool {
@@ -35,7 +35,7 @@ fn function(ends: &Function) -> Option<Ends> {
     }
 }
 
-// Whether the root is the wanted one; (0, 0) stands for a part that does not fit.
+// Whether the root is the expected one; (0, 0) stands for a part that does not fit.
 fn is_root(span: &Span, ends: &Ends, wanted: Option<Parts>) -> bool {
     if !span.is_long() {
         return false;
@@ -60,13 +60,13 @@ fn has_root(limits: &Limits, ends: &Function, wanted: Option<Parts>) -> bool {
 static ROOTS: [(Limits, Function, Option<Parts>); 6] = [
     // 4 - 3 t
     ((0, 3, true, true), ((4, 1), (-5, 1)), Some((4, 3))),
-    // from -1/3 at 1 by 5/6 to 1/2 at 2: the third is risen at 2/5 of the way
+    // from -1/3 at 1 to 1/2 at 2, a difference of 5/6: the root is after 2/5 of the time
     ((1, 2, false, false), ((-1, 3), (1, 2)), Some((7, 5))),
     // 0 at an end, no change of sign, level
     ((0, 3, true, true), ((0, 1), (5, 1)), None),
     ((0, 3, true, true), ((1, 1), (5, 1)), None),
     ((0, 3, true, true), ((0, 1), (0, 1)), None),
-    // the least number less 1
+    // the least number minus 1
     (
         (0, 3, true, true),
         ((-4611686018427387903, 1), (1, 1)),
@@ -167,7 +167,7 @@ static CUTS: [(Limits, Function, &[Signed]); 3] = [
         ((-5, 1), (-5, 1)),
         &[((0, 1), (3, 1), -1), ((3, 1), (3, 1), -1)],
     ),
-    // 0 at an end alone
+    // 0 only at an end
     (
         (0, 3, true, false),
         ((0, 1), (6, 1)),

@@ -1,4 +1,4 @@
-// Steady courses, lists and texts.
+//! Steady courses, lists and texts.
 
 use crate::lines::span;
 use mob_frac::Frac;
@@ -8,8 +8,8 @@ use mob_slice::{BaseValue, Course, Steady};
 use mob_span::Span;
 use std::alloc::Global;
 
-// Whether a steady course of that value has it at an instant of its span, in a copy and on the next
-// span.
+// Whether a steady course of this value has it at an instant of its span, in a copy, and on the
+// next span.
 fn goes_on<B: BaseValue + Drop>(alloc: Global, value: B, first: &Span, next: &Span) -> bool {
     if !first.has(first.lower()) || !first.meets(next) {
         return false;

@@ -1,4 +1,4 @@
-// What a search finds.
+//! The result of a search.
 ghost use Rattle.std.specs.Prelude.{◌≡◌, ◌<◌};
 
 use mob_rtree::RTree;

@@ -1,4 +1,4 @@
-// Fractions. The expected values are computed by hand and by Python's fractions.
+//! Fractions. The expected values are computed by hand and with Python's fractions.
 
 use mob_frac::{Frac, Overflow, Wide, over_product, same_ratio};
 use std::cmp::Ordering;
@@ -72,7 +72,7 @@ static ORDERS: [(Parts, Parts, Ordering); 5] = [
     ((1, LARGEST), (0, 1), Ordering::Greater),
 ];
 
-// Two pairs of numbers, and whether they have one ratio.
+// Two pairs of numbers, and whether their ratios are equal.
 static RATIOS: [(Parts, Parts, Parts, Parts, bool); 8] = [
     ((1, 2), (1, 1), (2, 1), (4, 1), true),
     ((1, 2), (1, 1), (2, 1), (5, 1), false),
@@ -220,7 +220,7 @@ fn have_ratio(row: &(Parts, Parts, Parts, Parts, bool)) -> bool {
     }
 }
 
-// Quotients by a product: the sign, the number above and the two below.
+// Quotients by a product: the sign, the numerator and the two denominators.
 fn are_over_products() -> bool {
     parts_of(over_product(false, 6, 4, 9)) == Some((1, 6))
         && parts_of(over_product(true, 6, 4, 9)) == Some((-1, 6))

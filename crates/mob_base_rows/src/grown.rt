@@ -1,5 +1,5 @@
-// A tree of points on a line, put in one by one: nodes are split, entries are taken out and put in
-// again.
+//! A tree of points on a line, inserted one by one: nodes are split, entries are removed and
+//! inserted again.
 ghost use Rattle.std.specs.Prelude.{true};
 
 use crate::boxes::boxed;

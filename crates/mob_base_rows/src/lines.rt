@@ -1,4 +1,4 @@
-// Lines on spans between whole numbers.
+//! Lines on spans between whole numbers.
 
 use mob_frac::Frac;
 use mob_plane::Point;
@@ -12,7 +12,7 @@ type Row = (i64, i64, bool, bool, i64, i64);
 // A fraction by its parts.
 type Parts = (i64, i64);
 
-/// The span with these ends, of which each is included or not.
+/// The span with these ends, each with whether it is included.
 pub fn span(ends: (i64, i64, bool, bool)) -> Option<Span> {
     match (Frac::new(ends.0, 1), Frac::new(ends.1, 1)) {
         (Ok(lower), Ok(upper)) => Span::new(lower, upper, ends.2, ends.3),
@@ -32,7 +32,7 @@ fn line(row: &Row) -> Option<(Span, Line)> {
     }
 }
 
-/// The fraction of these parts. None where the second one is 0.
+/// The fraction of these parts; `None` if the second one is 0.
 pub fn fraction(parts: (i64, i64)) -> Option<Frac> {
     if parts.1 == 0 {
         return None;
@@ -44,8 +44,8 @@ fn parts_of(number: &Frac) -> Parts {
     (number.num(), number.den())
 }
 
-// The value of a course at an instant of its span; None where the span does not have it, or a part
-// of F1 does not fit.
+// The value of a course at an instant of its span; `None` if the span does not include the instant,
+// or a part of F1 does not fit.
 fn value_in<C: Course>(alloc: Global, course: &C, span: &Span, t: &Frac) -> Option<C::Base>
 where
     C::Base: Drop,
@@ -70,11 +70,11 @@ static VALUES: [(Row, Parts, Option<Parts>); 6] = [
     ((0, 3, true, true, 0, 1), (1, 1), Some((1, 3))),
     ((0, 3, true, false, 0, 1), (0, 1), Some((0, 1))),
     ((0, 3, true, true, 0, 1), (3, 1), Some((1, 1))),
-    // the span leaves its end out
+    // the span does not include its end
     ((0, 3, true, false, 0, 1), (3, 1), None),
-    // a third of that instant is too fine
+    // a third of that instant does not fit
     ((0, 3, true, true, 0, 1), (1, 4611686018427387902), None),
-    // where the line is level nothing is computed
+    // if the line is level, nothing is computed
     (
         (0, 3, true, true, 5, 5),
         (1, 4611686018427387902),
@@ -89,7 +89,7 @@ fn lines_at_instants(rt: HostRuntime) {
     }
 }
 
-// Whether a line goes on as the next one; None where the next span does not begin where the first
+// Whether a line continues as the next one; `None` if the next span does not begin where the first
 // ends.
 fn goes_on(first: &Row, next: &Row) -> Option<bool> {
     match (line(first), line(next)) {
@@ -121,7 +121,7 @@ static NEXT: [(Row, Row, Option<bool>); 5] = [
         Some(false),
     ),
     ((0, 1, true, false, 0, 1), (2, 3, true, true, 2, 3), None),
-    // the rise from the least number to the greatest does not fit, and is not computed
+    // the difference from the least number to the greatest does not fit, and is not computed
     (
         (0, 1, true, false, -4611686018427387903, 0),
         (1, 2, true, true, 0, 4611686018427387903),
@@ -136,7 +136,7 @@ fn lines_go_on(rt: HostRuntime) {
     }
 }
 
-// Where a point is at 1 that goes from (1/2, 0) at 0 to (1/2, 9) at 3.
+// The place at 1 of a point that goes from (1/2, 0) at 0 to (1/2, 9) at 3.
 fn point_at_one(alloc: Global) -> Option<(Parts, Parts)> {
     match (
         line(&(0, 3, true, true, 0, 9)),
@@ -163,7 +163,7 @@ fn point_at_one(alloc: Global) -> Option<(Parts, Parts)> {
     }
 }
 
-// The gap of two numbers, and whether the first is less.
+// The difference of two numbers, and whether the first is less.
 fn compared(first: Parts, next: Parts) -> Option<(Parts, bool)> {
     match (fraction(first), fraction(next)) {
         (Some(a), Some(b)) => match &Line::gaps(&a, &b) {

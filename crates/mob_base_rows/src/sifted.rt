@@ -1,4 +1,4 @@
-// Entries of many ids that are taken out in one pass, and the same one by one.
+//! Entries of many ids that are removed in one pass, and the same ones one by one.
 ghost use Rattle.std.specs.Prelude.{true, IfSome};
 ghost use Rattle.std.specs.List.Sorted.{IsNonDecreasing};
 
@@ -8,7 +8,7 @@ use crate::grown::{all_put, takes};
 use mob_rtree::RTree;
 use std::alloc::Global;
 
-// The ids below a number that three divides, or those that it does not.
+// The ids below `end` that are divisible by three, or those that are not.
 fn ids_below(alloc: Global, end: u32, thirds: bool) -> Option<Vec<u32>>
     ensures rising { IfSome result (λ ids. IsNonDecreasing ids.items) }
 {
@@ -39,7 +39,7 @@ fn has_only(alloc: Global, tree: &RTree, ids: &[u32]) -> bool {
     }
 }
 
-// Whether a tree of 600 entries has the others left, where each third is taken out in one pass.
+// Whether a tree of 600 entries keeps the others when each third entry is removed in one pass.
 fn sifts(alloc: Global, tree: &mut RTree, gone: &[u32], left: &[u32]) -> bool
     requires rising { IsNonDecreasing gone.now }
 {
@@ -50,12 +50,12 @@ fn sifts(alloc: Global, tree: &mut RTree, gone: &[u32], left: &[u32]) -> bool
     has_only(alloc, tree, left)
 }
 
-// Whether it has the same left where they are taken out one by one.
+// Whether it keeps the same entries when these are removed one by one.
 fn takes_each(alloc: Global, tree: &mut RTree, gone: &[u32], left: &[u32]) -> bool {
     all_put(tree, 0, 600) && each_taken(tree, gone) && has_only(alloc, tree, left)
 }
 
-// Whether nothing is left of these, and an entry can be put in again.
+// Whether the tree is empty without these, and an entry can be inserted again.
 fn empties(alloc: Global, tree: &mut RTree, left: &[u32]) -> bool
     requires rising { IsNonDecreasing left.now }
 {

@@ -1,4 +1,4 @@
-// Spans between whole numbers, and sets of them.
+//! Spans between whole numbers, and sets of them.
 
 use crate::lines::span;
 use mob_frac::Frac;
@@ -17,7 +17,7 @@ fn ends_of(span: &Span) -> Ends {
     )
 }
 
-// Two spans, and the one that they share.
+// Two spans, and their intersection.
 static MEETS: [(Ends, Ends, Option<Ends>); 2] = [
     (
         (1, 3, true, false),
@@ -27,8 +27,8 @@ static MEETS: [(Ends, Ends, Option<Ends>); 2] = [
     ((1, 3, true, false), (3, 4, true, true), None),
 ];
 
-// Two spans, and whether they overlap, the first meets the second, is clear of it, starts before it
-// and ends before it.
+// Two spans, and whether they overlap, the first meets the second, is separate from it, starts
+// before it and ends before it.
 static ORDERS: [(Ends, Ends, (bool, bool, bool, bool, bool)); 3] = [
     (
         (1, 3, true, false),
@@ -66,7 +66,7 @@ fn order_of(a: Ends, b: Ends) -> Option<(bool, bool, bool, bool, bool)> {
     Some(order(&span(a)?, &span(b)?))
 }
 
-// Whether a span has the instants 2 and 3, and is long.
+// Whether a span includes the instants 2 and 3, and is longer than an instant.
 fn has(ends: Ends) -> Option<(bool, bool, bool)> {
     match (span(ends), Frac::new(2, 1), Frac::new(3, 1)) {
         (Some(span), Ok(two), Ok(three)) => Some((
@@ -101,12 +101,12 @@ fn spans_are_in_order(rt: HostRuntime) {
     }
 }
 
-// Three spans, the first and the last of the two of their set, and whether it has the instants 2, 3
-// and 4.
+// Three spans, the first and the last of the two spans of their set, and whether it includes the
+// instants 2, 3 and 4.
 type Joined = (Ends, Ends, Ends, Ends, Ends, (bool, bool, bool));
 
 static SETS: [Joined; 2] = [
-    // they meet at 3, and the later span stands first
+    // they meet at 3, and the later span is first
     (
         (5, 6, true, true),
         (3, 4, true, false),
@@ -115,7 +115,7 @@ static SETS: [Joined; 2] = [
         (5, 6, true, true),
         (true, true, false),
     ),
-    // neither has 3, and one lies within the other
+    // neither includes 3, and one is within the other
     (
         (3, 4, false, false),
         (2, 2, true, true),
@@ -137,7 +137,7 @@ fn set(alloc: Global, a: Ends, b: Ends, c: Ends) -> Option<SpanSet> {
     set_of(alloc, [span(a)?, span(b)?, span(c)?])
 }
 
-// Whether a set has the instants 2, 3 and 4.
+// Whether a set includes the instants 2, 3 and 4.
 fn instants(set: &SpanSet) -> Option<(bool, bool, bool)> {
     match (Frac::new(2, 1), Frac::new(3, 1), Frac::new(4, 1)) {
         (Ok(two), Ok(three), Ok(four)) => Some((set.has(&two), set.has(&three), set.has(&four))),
@@ -211,7 +211,7 @@ fn parts_by(alloc: Global, a: &SpanSet, b: Ends, both: Ends, left: Ends) -> bool
     }
 }
 
-// Whether the sets of these two spans share that span, and the first has the last one alone.
+// Whether the sets of these two spans share the third span, and the fourth is only in the first.
 fn parts(alloc: Global, a: Ends, b: Ends, both: Ends, left: Ends) -> bool {
     match &one(alloc, a) {
         Some(a) => parts_by(alloc, a, b, both, left),

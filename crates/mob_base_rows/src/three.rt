@@ -1,4 +1,4 @@
-// A tree of three boxes, of which two are equal and touch the one that is asked for.
+//! A tree of three boxes, two of which are equal and touch the box that is searched for.
 ghost use Rattle.std.specs.Prelude.{◌≡◌, true, IfSome};
 ghost use Rattle.mob_stbox.specs.Boxes.{is_whole};
 
@@ -8,7 +8,7 @@ use mob_rtree::RTree;
 use mob_stbox::StBox;
 use std::alloc::Global;
 
-// Their boxes; the one that is asked for.
+// Their boxes, and the box that is searched for.
 #[derive(Clone, Copy)]
 struct ThreeBoxes {
     near: StBox,

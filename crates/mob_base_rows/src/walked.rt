@@ -1,4 +1,4 @@
-// A tree as it is walked from its root.
+//! A walk over a tree from its root.
 
 use crate::boxes::boxed;
 use mob_rtree::{Child, RTree};

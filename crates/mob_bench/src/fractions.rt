@@ -1,8 +1,9 @@
+//! Operations on fractions, to be timed.
 use mob_frac::{Frac, Overflow};
 use std::alloc::{AllocError, Global};
 use std::cmp::Ordering;
 
-/// What is done with two operands.
+/// An operation on two operands.
 #[derive(Clone, Copy, Debug, PartialEq, Eq)]
 pub enum Operation {
     Add,
@@ -19,7 +20,7 @@ pub enum Kind {
     Mixed,
 }
 
-/// The operation of a word.
+/// The operation with this name.
 pub fn operation_of(word: &str) -> Option<Operation> {
     match word {
         "add" => Some(Operation::Add),
@@ -31,7 +32,7 @@ pub fn operation_of(word: &str) -> Option<Operation> {
     }
 }
 
-/// The kind of a word.
+/// The kind with this name.
 pub fn kind_of(word: &str) -> Option<Kind> {
     match word {
         "whole" => Some(Kind::Whole),
@@ -40,7 +41,7 @@ pub fn kind_of(word: &str) -> Option<Kind> {
     }
 }
 
-// Knuth's linear congruential generator of 64 bits; its upper bits are the good ones.
+// Knuth's linear congruential generator of 64 bits. Its upper bits are the more random ones.
 fn next_state(state: u64) -> u64 {
     state
         .wrapping_mul(6364136223846793005)
@@ -69,7 +70,7 @@ pub fn operands(alloc: Global, kind: Kind) -> Result<Vec<Frac>, AllocError> {
     Ok(made)
 }
 
-// The sum goes over both parts of each result.
+// The checksum with both parts of one more result.
 fn mixed_in(sum: u64, num: i64, den: i64) -> u64 {
     sum.wrapping_mul(31)
         .wrapping_add(num.cast_unsigned())

@@ -1,10 +1,11 @@
 //! Work to be timed from outside: operations on fractions, and searches for the nearest trips of a
 //! table.
 //!
-//! The arguments are an operation (`add`, `subtract`, `multiply`, `divide` or `compare`), a kind of
-//! operands (`whole` or `mixed`) and a count, 0 for none; the program prints a checksum. Two more
-//! arguments ask for the ten trips nearest to `POINT(500 500)`: `near`, with a tree that is built
-//! once, or `scan`, which computes the approach of each trip, and a count.
+//! The first three arguments are an operation (`add`, `subtract`, `multiply`, `divide` or
+//! `compare`), a kind of operands (`whole` or `mixed`) and a count, 0 for none; the program prints
+//! a checksum. Two more arguments, a method and a count, ask for the ten trips nearest to
+//! `POINT(500 500)`: `near` uses a tree that is built once, and `scan` computes the approach of
+//! each trip.
 #![tactic(auto)]
 
 mod fractions;

@@ -1,4 +1,4 @@
-// The ten trips nearest to `POINT(500 500)`, and the approach of each trip.
+//! The ten trips nearest to `POINT(500 500)`, and the approach of each trip.
 ghost use Rattle.std.specs.Prelude.{◌≡◌, ◌<◌, ◌≤◌, length};
 ghost use Rattle.mob_knn.specs.Nearest.{AreOfTrips};
 
@@ -16,7 +16,7 @@ use std::alloc::{AllocError, Global};
 use std::marker::Brand;
 use std::sync::ledger::{Blank, Ledger};
 
-// Whether a trip has an approach above 0.
+// Whether a trip has a positive approach.
 fn is_away(alloc: Global, trip: &Option<Moving<PlaneLine>>, point: &Point) -> bool {
     let Some(trip) = trip else {
         return false;
@@ -27,7 +27,7 @@ fn is_away(alloc: Global, trip: &Option<Moving<PlaneLine>>, point: &Point) -> bo
     }
 }
 
-// How many trips have an approach above 0.
+// How many trips have a positive approach.
 fn scan(alloc: Global, trips: &[Option<Moving<PlaneLine>>], point: &Point) -> usize {
     let mut away = 0;
     for trip in trips {
@@ -73,7 +73,7 @@ fn with_tree(
     Ok(sum)
 }
 
-// What the last of `count` searches or scans finds, or the exit status.
+// The result of the last of `count` searches or scans, or the exit status.
 fn found(
     alloc: Global,
     trips: &[Option<Moving<PlaneLine>>],
@@ -100,7 +100,7 @@ fn found(
     Ok(away)
 }
 
-/// What the last of `count` searches (`near`), or scans, of the table of trips finds, and the
+/// The result of the last of `count` searches (`near`), or scans, of the table of trips, and the
 /// number of trips; or the exit status.
 pub fn timed<S: Source>(
     alloc: Global,

@@ -44,7 +44,7 @@ live_set (h ∷ hs) zero live head lt is none =
     ap (λ (u : TableHead). let v : TableHead = record u { live = live } in v ∷ hs) is ∙ ap (λ (l : List ℕ). let v : TableHead = record h { live = l ++ live } in v ∷ hs) (sym none)
 live_set (h ∷ hs) (suc n) live head lt is none = ap (λ (l : List TableHead). h ∷ l) (live_set hs n live head (omega arith) is none)
 
--- ---- all rows are those of the list behind the others
+-- ---- adding all rows appends the list
 
 module _ (n : ℕ) where
   count_more : (tables : List Table) (row : List Value) → n < length tables → rows_put n (with_changed n (with_last_row row) tables) ≡ suc (rows_put n tables)
@@ -80,7 +80,7 @@ module _ (n : ℕ) where
   rest_all [] c = (refl, refl, refl)
   rest_all (row ∷ rows) c = rest_all rows (with_row n row c)
 
-  -- ---- and the indexes keep together with it, since none is on the table
+  -- ---- and the invariant of the indexes stays, since none is on the table
 
   no_entry : (tables : List Table) (number : ℕ) (is : List TableIndex) → AllByRecursion (λ on. on.0 ≡ n → ⊥) (map (λ (i : TableIndex). i.on) is) → AllZip (IsEntered tables n number) is is
   no_entry tables number [] none = tt

@@ -22,7 +22,7 @@ pub fn has_index(indexed: &[(u32, u32)], table: u32) -> bool
     false
 }
 
-/// Whether rows were put into the table of this number, or it is not there.
+/// Whether the table of this number has had rows, or does not exist.
 pub fn has_rows(tables: &[Table], table: u32) -> bool
     ensures there { result ≡ false → table < length tables.now }
     ensures none { result ≡ false → rows_put table tables.now ≡ 0 }
@@ -33,7 +33,7 @@ pub fn has_rows(tables: &[Table], table: u32) -> bool
     }
 }
 
-/// Whether rows of the table of this number are there.
+/// Whether the table of this number has live rows.
 pub fn has_live(heads: &[TableHead], table: u32) -> bool
     ensures none { result ≡ false → live_of heads.now table ≡ [] }
 {
@@ -43,7 +43,7 @@ pub fn has_live(heads: &[TableHead], table: u32) -> bool
     }
 }
 
-/// The numbers from 0, so many.
+/// The numbers from 0 below `count`.
 pub fn first_numbers(alloc: Global, count: usize) -> Result<Items<u32>, AllocError>
     ensures numbers { IfOk result (λ numbers. numbers ≡ numbers_from 0 count) }
 {
@@ -57,7 +57,7 @@ pub fn first_numbers(alloc: Global, count: usize) -> Result<Items<u32>, AllocErr
     Ok(Items::from_vec(numbers))
 }
 
-/// Puts rows into a table that has none. It takes no memory.
+/// Puts rows into a table that has none. It allocates nothing.
 pub fn set_rows(alloc: Global, tables: &mut Items<Table>, table: u32, rows: Rows<Value>)
     requires there { table < length tables.old }
     requires none { rows_put table tables.old ≡ 0 }
@@ -69,7 +69,7 @@ pub fn set_rows(alloc: Global, tables: &mut Items<Table>, table: u32, rows: Rows
     *tables = Items::from_vec(all);
 }
 
-/// Says that rows of a table are there of which none was. It takes no memory.
+/// Marks rows as live in a table that has no live rows. It allocates nothing.
 pub fn set_live(heads: &mut Vec<TableHead>, table: u32, live: Items<u32>)
     requires there { table < length heads.old.items }
     requires none { live_of heads.old.items table ≡ [] }

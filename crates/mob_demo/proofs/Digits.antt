@@ -9,7 +9,7 @@ pub one_padded : (n : ℕ) → n < 10 → padded 2 n ≡ codes "0" ++ decimal n
 unfolding padded
 one_padded n small = ap (λ (t : Text). replicate (2 - length t) 48 ++ decimal n) (decimal_digit n small)
 
--- a zero, and a number below 10 behind it
+-- a zero, followed by a number below 10
 pub behind_zero : (n : ℕ) (old zero now : Text) → n < 10 → zero ≡ old ++ codes "0" → now ≡ zero ++ decimal n → now ≡ old ++ padded 2 n
 behind_zero n old zero now small before added =
     added ∙ ap (λ (t : Text). t ++ decimal n) before ∙ append_assoc old (codes "0") (decimal n) ∙ ap (λ (t : Text). old ++ t) (sym (one_padded n small))

@@ -1,4 +1,4 @@
--- Positions of the demo's first ship, as they are printed.
+-- Positions of the demo's first ship, as printed.
 use Rattle.std.proofs.Common.{◌≡◌, ◌∙◌, ◌++◌, ap, refl, codes, arith}
 use Rattle.std.proofs.lemmas.Fmt.{decimal_digit}
 use Rattle.mob_language.specs.Language.{Text}
@@ -13,7 +13,7 @@ no_hour = one_padded 0 (omega arith) ∙ ap (λ (t : Text). codes "0" ++ t) (dec
 one_minute : padded 2 1 ≡ codes "01"
 one_minute = one_padded 1 (omega arith) ∙ ap (λ (t : Text). codes "0" ++ t) (decimal_digit 1 (omega arith))
 
--- a position by the texts of its numbers
+-- a position from the texts of its numbers
 abbrev text_of : Text → Text → Text → Text → Text
 text_of x y hour minute =
     codes "POINT(" ++ (x ++ (codes " " ++ (y ++ (codes ")@" ++ (codes "2001-01-01 " ++ (hour ++ (codes ":" ++ (minute ++ codes ":00+00"))))))))

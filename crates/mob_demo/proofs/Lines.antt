@@ -5,7 +5,7 @@ use Rattle.mob_language.specs.Language.{Text}
 use Rattle.mob_demo.specs.Demo.{demo_file_text, line_text}
 use Rattle.mob_demo.proofs.Ranges.{range_begins, range_over}
 
--- the lines of the ships from one on
+-- the lines of the ships from this one on
 abbrev pub lines_from : ℕ → ℕ → Text
 lines_from ship ships = flat_map line_text (range_with_len ship (ships + 1 - ship))
 

@@ -8,7 +8,7 @@ use Rattle.mob_scalar.proofs.CommasWritten.{commas_done}
 use Rattle.mob_demo.specs.Demo.{minute_text, position_text, positions_text}
 use Rattle.mob_demo.proofs.Ranges.{range_begins, range_over}
 
--- five texts, one behind the other
+-- five texts, one after another
 five_written : (old a b c d now p q r s t : Text) → a ≡ old ++ p → b ≡ a ++ q → c ≡ b ++ r → d ≡ c ++ s → now ≡ d ++ t → now ≡ old ++ (p ++ (q ++ (r ++ (s ++ t))))
 five_written old a b c d now p q r s t first second third fourth fifth = fifth ∙ rw (fourth, third, second, first) (simp append_assoc)
 
@@ -18,7 +18,7 @@ unfolding minute_text
 minute_written minute old a b c d now first second third fourth fifth =
     five_written old a b c d now (codes "2001-01-01 ") (padded 2 (minute / 60)) (codes ":") (padded 2 (minute % 60)) (codes ":00+00") first second third fourth fifth
 
--- the positions from a minute on, each behind a comma
+-- the positions from a minute on, each after a comma
 abbrev pub positions_from : ℕ → ℕ → Text
 positions_from minute ship = more_texts (position_text ship) (range_with_len minute (61 - minute))
 

@@ -1,4 +1,4 @@
--- The numbers from one on up to an end.
+-- The numbers from one up to an end.
 use Rattle.std.proofs.Common.{◌≡◌, ◌<◌, ◌≤◌, ◌+◌, ◌-◌, ◌∷◌, [], ℕ, suc, ap, arith}
 use Rattle.std.specs.List.{range_with_len}
 

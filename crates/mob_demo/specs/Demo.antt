@@ -1,5 +1,5 @@
--- The demo: ships that go to and fro in a square, each with a position at every minute of an hour,
--- and a script that asks of them.
+-- The demo: ships that move to and fro in a square, each with a position at every minute of an
+-- hour, and a script that queries them.
 use Rattle.std.specs.Prelude.{ℕ, ◌+◌, ◌-◌, ◌*◌, ◌/◌, ◌%◌, ◌++◌, map, flat_map, codes, nat_le, if◌then◌else◌}
 use Rattle.std.specs.Fmt.{decimal}
 use Rattle.std.specs.List.{range_with_len}
@@ -7,17 +7,17 @@ use Rattle.mob_language.specs.Language.{Text}
 use Rattle.mob_scalar.specs.Brackets.{with_commas}
 use Rattle.mob_scalar.specs.MomentText.{padded}
 
--- ---- where the ships are
+-- ---- the positions of the ships
 
--- where one is who has gone so far, to and fro between 0 and 5000
+-- the place after this distance, moving to and fro between 0 and 5000
 abbrev pub to_and_fro : ℕ → ℕ
 to_and_fro way = if nat_le (way % 10000) 5000 then way % 10000 else 10000 - way % 10000
 
--- the place of a ship at a minute, from west to east
+-- the x coordinate of a ship at a minute
 unfoldable pub ship_x : ℕ → ℕ → ℕ
 ship_x ship minute = to_and_fro (173 * ship + minute * (20 + 3 * (ship % 11)))
 
--- and from south to north
+-- and its y coordinate
 unfoldable pub ship_y : ℕ → ℕ → ℕ
 ship_y ship minute = to_and_fro (311 * ship + minute * (15 + 5 * (ship % 7)))
 
@@ -44,7 +44,7 @@ trip_text ship = codes "[" ++ (positions_text ship ++ codes "]")
 unfoldable pub line_text : ℕ → Text
 line_text ship = decimal ship ++ (codes ",\"" ++ (trip_text ship ++ codes "\"\n"))
 
--- the file: the names of the columns, and the lines of the ships from 1 on
+-- the file: the names of the columns, and the lines of the ships from 1
 unfoldable pub demo_file_text : ℕ → Text
 demo_file_text ships = codes "id,trip\n" ++ flat_map line_text (range_with_len 1 ships)
 

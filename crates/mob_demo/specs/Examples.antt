@@ -1,4 +1,4 @@
--- The first ship of the demo in its first two minutes.
+-- The first two minutes of the demo's first ship.
 use Rattle.std.specs.Prelude.{◌≡◌, codes}
 use Rattle.mob_demo.specs.Demo.{position_text}
 

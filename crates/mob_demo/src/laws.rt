@@ -1,7 +1,7 @@
-//! What the texts of the demo are, by example. No code runs here.
+//! Example rows of the demo's table file. No code runs here.
 ghost use Rattle.mob_demo.specs.Examples.{FirstPositions};
 
-/// Where the first ship is in its first two minutes.
+/// The first two minutes of the first ship.
 pub fn first_ship()
     ensures positions { FirstPositions }
 {}

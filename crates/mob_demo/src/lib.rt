@@ -1,5 +1,5 @@
-//! The input of the demo: a table file of ships that go to and fro in a square for an hour, and a
-//! script that asks of them.
+//! The input of the demo: a table file of ships that move to and fro in a square for an hour, and a
+//! script that queries them.
 #![tactic(auto)]
 
 pub mod laws;

@@ -1,11 +1,11 @@
-// Where the ships of the demo are, minute by minute.
+//! The positions of the ships of the demo, minute by minute.
 ghost use Rattle.std.specs.Prelude.{◌≡◌, ◌≤◌};
 ghost use Rattle.mob_demo.specs.Demo.{ship_x, ship_y, to_and_fro};
 
-// Half of a way to and fro.
+// The side of the square: half the distance to and fro.
 const SIDE: u32 = 5_000;
 
-// Where one is who has gone so far, to and fro between 0 and 5000.
+// The place after this distance, moving to and fro between 0 and 5000.
 fn place_on_way(way: u32) -> u32
     ensures place { result ≡ to_and_fro way }
     ensures within { result ≤ 5000 }
@@ -14,7 +14,7 @@ fn place_on_way(way: u32) -> u32
     if rest <= SIDE { rest } else { 2 * SIDE - rest }
 }
 
-/// The place of a ship at a minute, from west to east.
+/// The x coordinate of a ship at a minute.
 #[tactic(auto, unfolding(crate::specs::Demo::ship_x))]
 pub fn x_of(ship: u32, minute: u32) -> u32
     requires ships { ship ≤ 1000 }
@@ -24,7 +24,7 @@ pub fn x_of(ship: u32, minute: u32) -> u32
     place_on_way(173 * ship + minute * (20 + 3 * (ship % 11)))
 }
 
-/// The place of a ship at a minute, from south to north.
+/// The y coordinate of a ship at a minute.
 #[tactic(auto, unfolding(crate::specs::Demo::ship_y))]
 pub fn y_of(ship: u32, minute: u32) -> u32
     requires ships { ship ≤ 1000 }

@@ -1,11 +1,11 @@
-// The script of the demo.
+//! The script of the demo.
 ghost use Rattle.std.specs.Prelude.{◌≡◌, IfOk, string_bytes};
 ghost use Rattle.mob_demo.specs.Demo.{demo_script_text};
 
 use std::alloc::{AllocError, Global};
 
-/// The script: it reads the table file, makes an index, asks which ships come near one another, and
-/// when each is in a corner.
+/// The script: it reads the table file, makes an index, and asks which ships come near each other,
+/// and when each is in a corner. The only error is a failed allocation.
 #[tactic(auto, unfolding(crate::specs::Demo::demo_script_text))]
 pub fn demo_script(alloc: Global) -> Result<String, AllocError>
     ensures bytes { IfOk result (λ script. string_bytes script ≡ demo_script_text) }

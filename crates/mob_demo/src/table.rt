@@ -1,4 +1,4 @@
-// The table file of the demo.
+//! The table file of the demo.
 ghost use Rattle.std.specs.Prelude.{◌≡◌, ◌<◌, ◌≤◌, ◌++◌, decimal, IfOk, OnOk, string_bytes};
 ghost use Rattle.mob_scalar.specs.MomentText.{padded};
 ghost use Rattle.mob_demo.specs.Demo.{demo_file_text, line_text, minute_text, position_text, positions_text, trip_text};
@@ -7,10 +7,10 @@ use crate::places::{x_of, y_of};
 use itoa::Buffer;
 use std::alloc::{AllocError, Global};
 
-// How many minutes a trip has, from 0 on.
+// How many minutes a trip has, from 0.
 const MINUTES: u32 = 61;
 
-/// The bytes of `demo.csv` with so many ships.
+/// The bytes of `demo.csv` with `ships` ships. The only error is a failed allocation.
 #[tactic(auto, using(crate::proofs::Lines::no_line_yet, crate::proofs::Lines::all_lines))]
 pub fn demo_file(alloc: Global, ships: u32) -> Result<String, AllocError>
     requires few { ships ≤ 1000 }
@@ -46,7 +46,7 @@ fn push_trip(ship: u32, into: &mut String) -> Result<(), AllocError>
     into.push_str("]")
 }
 
-// Adds the positions of a ship with commas between.
+// Adds the positions of a ship, with commas between them.
 #[tactic(auto, using(crate::proofs::Positions::all_positions))]
 fn push_positions(ship: u32, into: &mut String) -> Result<(), AllocError>
     requires ships { ship ≤ 1000 }

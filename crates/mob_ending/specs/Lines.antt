@@ -29,7 +29,7 @@ kind_text kind = codes ": refusal " ++ (decimal (number_of kind) ++ (codes " (" 
 abbrev pub refusal_line : Refusal → List ℕ
 refusal_line refusal = codes "statement " ++ (decimal refusal.statement ++ (codes ", byte " ++ (decimal refusal.place ++ kind_text refusal.kind)))
 
--- where in a table file a refusal is, and why
+-- the place and the kind of a refusal in a table file
 abbrev pub record_text : Kind → ℕ → ℕ → List ℕ
 record_text kind rec field = codes ": record " ++ (decimal rec ++ (codes ", field " ++ (decimal field ++ kind_text kind)))
 
@@ -37,15 +37,15 @@ record_text kind rec field = codes ": record " ++ (decimal rec ++ (codes ", fiel
 abbrev pub table_line : List ℕ → Kind → ℕ → ℕ → List ℕ
 table_line file kind rec field = file ++ record_text kind rec field
 
--- a row's number, from 1; it is 0 where a left-joined table has no row
+-- a row's number, from 1; 0 if a left-joined table has no row
 abbrev pub row_number : ℕ → ℕ
 row_number row = if row == no_row then 0 else row + 1
 
--- this number behind a blank
+-- this number after a space
 abbrev pub further_row : ℕ → List ℕ
 further_row row = 32 ∷ decimal (row_number row)
 
--- the numbers of rows with blanks between; a hyphen where there is no table
+-- the numbers of rows with spaces between them; a hyphen if there are no tables
 abbrev pub rows_text : List ℕ → List ℕ
 rows_text [] = codes "-"
 rows_text (row ∷ rows) = decimal (row_number row) ++ concat (map further_row rows)

@@ -1,4 +1,4 @@
-// How a run ends.
+//! The endings of a run.
 ghost use Rattle.std.specs.Prelude.{◌≡◌};
 
 use mob_ast::{Kind, Refusal};
@@ -6,12 +6,12 @@ use mob_list::text::Text;
 use mob_slice::Formula;
 use mob_tuples::Tuple;
 
-/// How a run ended. Each ending has a status, and each but the good one a line for the notes.
+/// How a run ended. Each ending has a status, and each but `Done` a line for the notes.
 #[derive(Drop)]
 pub enum Ending {
     /// Status 0: the script was read and accepted, and all its answers were written.
     Done,
-    /// Status 2: the words of the command line are not taken.
+    /// Status 2: the arguments are not accepted.
     Usage,
     /// Status 3: the script could not be read, or a table file of this name.
     ReadFault {
@@ -20,13 +20,13 @@ pub enum Ending {
     },
     /// Status 4: the answers could not be written.
     WriteFault,
-    /// Status 5: there was no memory.
+    /// Status 5: an allocation failed.
     NoMemory,
     /// Status 6: a table file is refused.
     TableRefused {
         /// The name of the file.
         file: Text,
-        /// Why it is refused.
+        /// The kind of refusal.
         kind: Kind,
         /// The number of the record, from 1; 0 for the file as a whole.
         rec: u32,
@@ -35,7 +35,7 @@ pub enum Ending {
     },
     /// Status 7: the script is refused, at this place.
     ScriptRefused {
-        /// Why and where it is refused.
+        /// The kind and the place of the refusal.
         refusal: Refusal,
     },
     /// Status 8: a part of a formula does not fit.
@@ -54,7 +54,7 @@ pub enum Ending {
 impl Ending {
     ghost use Rattle.mob_ending.specs.Lines.{status_of};
 
-    /// The number that the program ends with.
+    /// The exit status of the program.
     pub fn status(&self) -> u8
         ensures number { result ≡ status_of self.now }
     {

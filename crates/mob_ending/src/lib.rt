@@ -1,4 +1,4 @@
-//! How a run ends: its status, and the one line that it leaves in the notes.
+//! How a run ends: its status, and the line that it leaves in the notes.
 #![tactic(auto)]
 
 mod ending;

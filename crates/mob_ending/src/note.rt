@@ -1,4 +1,4 @@
-// The one line that a run which did not end well leaves in its notes.
+//! The line that a run leaves in its notes, unless it ended well.
 ghost use Rattle.std.specs.Prelude.{OnOk, OnErr};
 ghost use Rattle.std.specs.Io.KnownBytes.{Appends};
 ghost use Rattle.mob_outside.specs.Faults.{HasCause};
@@ -65,7 +65,7 @@ fn put_statement<E: Sink>(notes: &mut E, statement: u32) -> Result<(), Failed>
     put_pieces(notes, &pieces)
 }
 
-// The place and the formula, behind the rows.
+// The place and the formula, after the rows.
 fn put_passes<E: Sink>(notes: &mut E, place: u32, formula: Formula) -> Result<(), Failed>
     ensures puts { Puts (passes_text place formula) (E.held notes.old) (E.held notes.new) (E.faults notes.old) (E.faults notes.new) }
 {
@@ -139,7 +139,7 @@ fn put_line<E: Sink>(notes: &mut E, ending: &Ending) -> Result<(), Failed>
     }
 }
 
-/// Puts the line of an ending, in pieces that take no memory. A fault of the notes cuts it short
+/// Writes the line of an ending, in pieces, without allocating. A fault of the notes cuts it short
 /// and changes nothing else.
 pub fn tell<E: Sink>(notes: &mut E, ending: &Ending)
     ensures puts { Puts (note_line ending.now) (E.held notes.old) (E.held notes.new) (E.faults notes.old) (E.faults notes.new) }

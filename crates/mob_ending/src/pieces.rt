@@ -1,4 +1,4 @@
-//! Pieces of the lines of notes that other programs share.
+//! Pieces of note lines that other programs share.
 ghost use Rattle.std.specs.Prelude.{◌≡◌, map, OnOk, OnErr};
 ghost use Rattle.std.specs.List.{concat};
 ghost use Rattle.std.specs.Io.KnownBytes.{Appends};
@@ -12,8 +12,8 @@ use mob_outside::{Failed, Sink, put_all, put_pieces};
 use mob_slice::Formula;
 use mob_tuples::NO_ROW;
 
-/// Puts where in a table file a refusal is, and why: `: record R, field F: refusal N (Name)` and a
-/// line feed.
+/// Writes the place and the kind of a refusal in a table file: `: record R, field F: refusal N
+/// (Name)` and a line feed.
 pub fn put_record<E: Sink>(notes: &mut E, kind: Kind, rec: u32, field: u32) -> Result<(), Failed>
     ensures puts { Puts (record_text kind rec field) (E.held notes.old) (E.held notes.new) (E.faults notes.old) (E.faults notes.new) }
 {
@@ -34,7 +34,7 @@ pub fn put_record<E: Sink>(notes: &mut E, kind: Kind, rec: u32, field: u32) -> R
     put_pieces(notes, &pieces)
 }
 
-// The number of a row, from 1; 0 where a left-joined table has no row.
+// The number of a row, from 1; 0 if a left-joined table has no row.
 fn row_number(row: u32) -> u64
     ensures number { result ≡ row_number row }
 {
@@ -44,7 +44,7 @@ fn row_number(row: u32) -> u64
     u64::from(row) + 1
 }
 
-// This number behind a blank.
+// This number after a space.
 fn put_further_row<E: Sink>(notes: &mut E, row: u32) -> Result<(), Failed>
     ensures whole { OnOk result (Appends (E.held notes.old) (E.held notes.new) (further_row row)) }
     ensures part { OnErr result (PutsPart (further_row row) (E.held notes.old) (E.held notes.new)) }
@@ -55,7 +55,7 @@ fn put_further_row<E: Sink>(notes: &mut E, row: u32) -> Result<(), Failed>
     put_pieces(notes, &pieces)
 }
 
-// The numbers of these rows, each behind a blank.
+// The numbers of these rows, each after a space.
 fn put_further_rows<E: Sink>(notes: &mut E, rows: &[u32]) -> Result<(), Failed>
     ensures whole { OnOk result (Appends (E.held notes.old) (E.held notes.new) (concat (map further_row rows.now))) }
     ensures part { OnErr result (PutsPart (concat (map further_row rows.now)) (E.held notes.old) (E.held notes.new)) }
@@ -67,8 +67,8 @@ fn put_further_rows<E: Sink>(notes: &mut E, rows: &[u32]) -> Result<(), Failed>
     Ok(())
 }
 
-/// Puts the numbers of rows, from 1, with blanks between: 0 where a left-joined table has no row, a
-/// hyphen where there is no table.
+/// Writes the numbers of rows, from 1, with spaces between them: 0 if a left-joined table has no
+/// row, a hyphen if there are no tables. `Failed` comes only if the sink failed.
 pub fn put_rows<E: Sink>(notes: &mut E, rows: &[u32]) -> Result<(), Failed>
     ensures whole { OnOk result (Appends (E.held notes.old) (E.held notes.new) (rows_text rows.now)) }
     ensures part { OnErr result (PutsPart (rows_text rows.now) (E.held notes.old) (E.held notes.new)) }

@@ -1,4 +1,4 @@
--- What `answered` makes of an answer that a formula may have passed.
+-- The result of `answered` for an answer with which a formula may have overflowed.
 use Rattle.std.proofs.Common.{◌≡◌, Bool, List, Option, Result, Ok, Err, refl, sym, subst, true≢false}
 use Rattle.std.specs.Prelude.{MatchResult, IfOk, IfErr, IsOk}
 use Rattle.mob_slice.specs.Entries.{Entry, IsFirst, IsDecided}
@@ -18,7 +18,7 @@ pub answered_outcome : (P : Option Bool → Type 0) (entries : List Entry) (r : 
 answered_outcome P entries (Ok truth) x e p d = subst (λ y. IsOutcome (λ v. (answer : Option Bool) × P answer × (v ≡ known answer)) (IsFirst entries) y) (sym e) ((truth, p, refl), d)
 answered_outcome P entries (Err f) x e p d = subst (λ y. IsOutcome (λ v. (answer : Option Bool) × P answer × (v ≡ known answer)) (IsFirst entries) y) (sym e) d
 
--- an answer that no formula can pass is a value
+-- an answer without a formula that can overflow is a value
 pub answered_memory : (r : Result (Option Bool) Formula) (x : Result Value (Fault Formula)) → IsAnswered r x → IsOk r → IfErr x (λ e. e ≡ fault.NoMemory)
 answered_memory (Ok truth) x e ok = subst (λ y. IfErr y (λ f. f ≡ fault.NoMemory)) (sym e) tt
 answered_memory (Err f) x e ok = absurd (true≢false (sym ok))

@@ -22,7 +22,7 @@ either_true : {X : Type 0} → (a b : Bool) → (a ≡ true → X) → (b ≡ tr
 either_true true b f g h = f refl
 either_true false b f g h = g h
 
--- ---- the places that are named
+-- ---- the named places
 
 pub same_if : (a b : ℕ) → (a == b) ≡ true → a ≡ b
 same_if a b h = grind (arith, h)
@@ -72,7 +72,7 @@ names_alone None e h = λ other. is_false (names other e) (named_nowhere other e
 pub nodes_are : (at : ℕ) (e : TExpr) → nodes_at at (typed_of e) ≡ nodes_here (place_of (typed_of e) == at) (typed_of e) ++ all_nodes_at at (trees (out-TExpr e).args.items)
 nodes_are at e = subst (λ t. nodes_at at t ≡ nodes_here (place_of t == at) t ++ all_nodes_at at (trees (out-TExpr e).args.items)) (sym (typed_is e)) refl
 
--- with the nodes of the first i of a list in front
+-- with the nodes of the first i entries of a list
 pub next_nodes : {X : Type 0} → (see : X → TypedTree) (at : ℕ) (whole ys : List TypedTree) (xs : List X) (i : ℕ) (x : X) → i < length xs → x ≡ get_or xs i x → whole ≡ ys ++ all_nodes_at at (typed_trees (map see (drop i xs)))
     → whole ≡ (ys ++ nodes_at at (see x)) ++ all_nodes_at at (typed_trees (map see (drop (i + 1) xs)))
 next_nodes see at whole ys xs i x lt is h =
@@ -84,7 +84,7 @@ last_nodes see at whole ys xs i past h = h ∙ ap (λ zs. ys ++ all_nodes_at at 
 pub of_place : (c : Recollection) (roots : List TypedTree) (at : ℕ) (place : Option ℕ) (e : TExpr) → c.roots ≡ roots → AreCopies (typed_of e) (all_nodes_at at (typed_trees roots)) → names_only place (typed_of e) ≡ true → IsOfPlace c at place
 of_place c roots at place e same is only = (typed_of e, subst (λ rs. AreCopies (typed_of e) (all_nodes_at at (typed_trees rs))) (sym same) is, names_alone place (typed_of e) only)
 
--- ---- nodes that are equal
+-- ---- equal nodes
 
 copies_of : (e f : TypedTree) (xs : List TypedTree) → e ≡ f → AreCopies f xs → AllByRecursion (λ y. y ≡ e) xs
 copies_of e f [] same h = elim h [ ]
@@ -101,7 +101,7 @@ same_node e f o ty p args = typed_is e ∙ (λ i. typed (o i) (ty i) (p i) (type
 
 -- ---- the loops
 
--- two lists of nodes are the same trees where their first nodes and their rests are
+-- two lists of nodes are the same trees if their heads and their tails are
 pub same_front : (xs ys us vs : List TExpr) (x y : TExpr) → xs ≡ x ∷ us → ys ≡ y ∷ vs → typed_of x ≡ typed_of y → map typed_of us ≡ map typed_of vs → map typed_of xs ≡ map typed_of ys
 same_front xs ys us vs x y ex ey h hs = ap (map typed_of) ex ∙ (λ i. h i ∷ hs i) ∙ sym (ap (map typed_of) ey)
 

@@ -1,4 +1,4 @@
--- Two operators that `==` finds equal are one.
+-- Two operators that `==` finds equal are equal.
 use Rattle.std.proofs.Common.{◌≡◌, ◌==◌, ◌&&◌, inl, inr, ℕ, Bool, true, false, List, [], ◌∷◌, refl, sym, ap, true≢false, rules}
 use denote.Struct.Field.{Field}
 use denote.Struct.Values.{Values}
@@ -11,7 +11,7 @@ use Rattle.mob_operators.specs.declared.operator.Op.{Op}
 use Rattle.mob_operators.specs.contracts.operator.Op.{enum, the_parts, as_values}
 use Rattle.mob_eval.proofs.Choosing.{both_true, same_if}
 
--- for each variant with fields: where the test says so, the fields are the same
+-- for each variant with fields: if the test is true, the fields are equal
 abbrev pub Tells : (Fss : List (List Field)) → Each Bool Fss → Type 0
 Tells [] each = Unit {0}
 Tells ([] ∷ Fss) each = Tells Fss each.1

@@ -1,4 +1,4 @@
--- What a list of numbers gives is what its two parts give together.
+-- The result for a list of numbers is that of its two parts together.
 use Rattle.std.specs.Prelude.{◌≡◌, refl, ℕ, List, [], ◌∷◌, ◌++◌, Bool, true, false, Result, Ok, Err, length, nat_le, slice_range, if◌then◌else◌}
 use Rattle.std.proofs.Common.{sym, ap, ap₂, ◌∙◌}
 use Rattle.mob_fan.specs.Outcomes.{IsWork, joined_outcomes}
@@ -6,7 +6,7 @@ use Rattle.mob_fan.proofs.Joining.{nothing_before, joined_three}
 use Rattle.mob_fan.proofs.Lists.{list_work}
 use Rattle.mob_fan_rows.specs.Numbers.{passed}
 
--- of the first number, in both of them
+-- a result for the first number, added to both
 first_in_both : (n : ℕ) (b : Bool) (r s t : Result (List ℕ) ℕ) → t ≡ joined_outcomes r s
     → (if b then joined_outcomes (Ok (n ∷ [])) t else Err n) ≡ joined_outcomes (if b then joined_outcomes (Ok (n ∷ [])) r else Err n) s
 first_in_both n true r s t is = ap (joined_outcomes (Ok (n ∷ []))) is ∙ sym (joined_three (Ok (n ∷ [])) r s)

@@ -1,4 +1,4 @@
--- Numbers that pass one after the other, up to the first one above a limit.
+-- Numbers that pass one after another, up to the first one above a limit.
 use Rattle.std.specs.Prelude.{ℕ, List, [], ◌∷◌, Result, Ok, Err, nat_le, if◌then◌else◌}
 use Rattle.mob_fan.specs.Outcomes.{joined_outcomes}
 

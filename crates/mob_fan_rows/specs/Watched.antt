@@ -1,8 +1,8 @@
--- Work of which nothing is said but that it has a size.
+-- Work with a size, and no other property.
 use Rattle.std.specs.Prelude.{ℕ, List, Result}
 use Rattle.mob_fan.specs.Outcomes.{IsWork}
 
--- any outcome of a range will do
+-- any outcome of a range is allowed
 abbrev pub AnyOutcome : {W : Type 0} → W → ℕ → ℕ → Result (List ℕ) ℕ → Type 0
 AnyOutcome w from to r = Unit {0}
 

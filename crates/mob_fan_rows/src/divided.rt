@@ -1,4 +1,4 @@
-// Divided work has one outcome for every number of workers, as many as there are to be.
+//! Divided work has one outcome for every number of workers, and as many run as are asked for.
 ghost use Rattle.std.specs.Prelude.{◌≤◌};
 
 use crate::gates::{Passing, TwoFlags};
@@ -10,7 +10,7 @@ use std::alloc::Global;
 use std::marker::Sync;
 use std::thread::Threads;
 
-// The numbers, up to a limit, by so many workers are these items.
+// The numbers, up to a limit, are these items for this number of workers.
 fn gives_items<R: Threads + Sync, G: Gate>(
     rt: &R,
     alloc: Global,
@@ -32,7 +32,7 @@ fn gives_items<R: Threads + Sync, G: Gate>(
     }
 }
 
-// The numbers, up to a limit, by so many workers stop at this one.
+// The numbers, up to a limit, stop at this one for this number of workers.
 fn gives_fault<R: Threads + Sync>(
     rt: &R,
     alloc: Global,
@@ -115,7 +115,7 @@ fn each_worker_passes_once(rt: HostRuntime) {
     assert_eq!(rt; gate.sum(), 1);
 }
 
-// Work begins behind the gate: no piece of so many workers finds that none has passed it.
+// Work begins after the gate: no piece finds that no worker has passed it.
 fn begins_behind_the_gate<R: Threads + Sync>(rt: &R, alloc: Global, workers: usize) -> bool
     requires some { 1 ≤ workers }
     requires few { workers ≤ 64 }
@@ -158,8 +158,7 @@ fn two_pieces_run_side_by_side(rt: HostRuntime) {
     assert!(rt; flags.both_saw());
 }
 
-// Work of this size by so many workers is asked for in so many pieces, of which each number is in
-// one alone.
+// Work of this size is divided into this many pieces, and each number is in exactly one.
 fn is_done_once<R: Threads + Sync>(
     rt: &R,
     alloc: Global,

@@ -1,4 +1,4 @@
-// Gates that note which pieces passed, and which passed side by side.
+//! Gates that record which pieces passed, and which passed at the same time.
 
 use mob_outside::Gate;
 use std::sync::atomic::{AtomicBool, AtomicU64, Ordering};
@@ -42,7 +42,7 @@ fn is_seen(flag: &AtomicBool) -> bool {
     false
 }
 
-/// A gate with a flag for each of two pieces, at which each looks for the flag of the other.
+/// A gate with a flag for each of two pieces, at which each waits for the flag of the other.
 #[derive(Drop)]
 pub struct TwoFlags {
     first: AtomicBool,

@@ -1,5 +1,5 @@
-//! Tests of work that is divided among threads, at a work on a list of numbers, and of the ends of
-//! a run by themselves.
+//! Tests of work that is divided among threads, for a work on a list of numbers, and tests of
+//! streams and files on their own.
 #![tactic(auto)]
 
 #[cfg(test)]

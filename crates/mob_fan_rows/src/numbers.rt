@@ -1,4 +1,4 @@
-// Work on a list of numbers.
+//! Work on a list of numbers.
 ghost use Rattle.std.specs.Prelude.{◌≡◌, IfOk};
 ghost use Rattle.mob_fan.specs.Outcomes.{outcome_seen};
 ghost use Rattle.mob_fan_rows.specs.Numbers.{passed};
@@ -7,7 +7,7 @@ use mob_fan::{Outcome, Work};
 use mob_list::items::Items;
 use std::alloc::{AllocError, Global};
 
-/// Numbers that pass one after the other. One above the limit is a fault.
+/// Numbers that pass one after another. One above the limit is a fault.
 #[derive(Drop)]
 pub struct Numbers<'a> {
     /// The numbers, in order.

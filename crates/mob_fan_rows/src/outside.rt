@@ -1,4 +1,4 @@
-// The ends by themselves: in memory, and over a reader and a writer.
+//! Streams and files on their own: in memory, and over a reader and a writer.
 
 use mob_outside::{Failed, Files, MemFiles, MemSink, Sink, Source, StdSink, StdSource};
 use std::alloc::{AllocError, Global};
@@ -24,8 +24,7 @@ fn a_sink_takes_a_step_fails_and_goes_on(rt: HostRuntime) {
     }
 }
 
-// A file is opened and read in steps of 2 bytes; a name that is not there is a fault, and is noted
-// too.
+// A file is opened and read in steps of 2 bytes; a missing name is a fault, and is recorded too.
 fn are_opened(files: &mut MemFiles) -> bool {
     let mut bytes = [0u8; 4];
     files.open("t.csv") == Ok(())

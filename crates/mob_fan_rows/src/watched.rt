@@ -1,5 +1,5 @@
-// Work that looks whether a worker has passed the gate, work of which two pieces look for each
-// other, and work that notes what is asked of it.
+//! Work that tests whether a worker has passed the gate, work whose two pieces look for each other,
+//! and work that records what is asked of it.
 
 use crate::gates::{Passing, TwoFlags};
 use mob_fan::{Outcome, Work};
@@ -8,7 +8,7 @@ use mob_outside::Gate;
 use std::alloc::{AllocError, Global};
 use std::sync::atomic::{AtomicU64, Ordering};
 
-/// Work of a size, which stops where no piece has passed the gate yet.
+/// Work of a size, which stops if no piece has passed the gate yet.
 #[derive(Drop)]
 pub struct Watched<'a> {
     pub gate: &'a Passing,
@@ -41,7 +41,7 @@ impl<'a> Work for Watched<'a> {
     ghost law = { any_joins (λ w. w.size) };
 }
 
-/// Work of size 2, of which each piece looks for the other one.
+/// Work of size 2, whose pieces look for each other.
 #[derive(Drop)]
 pub struct Meeting<'a> {
     pub flags: &'a TwoFlags,
@@ -71,7 +71,7 @@ impl<'a> Work for Meeting<'a> {
     ghost law = { any_joins (λ w. 2) };
 }
 
-/// What is asked of a work: how many pieces, and their lengths together.
+/// What is asked of a work: how many pieces, and the sum of their lengths.
 #[derive(Drop)]
 pub struct Asked {
     pieces: AtomicU64,
@@ -91,18 +91,18 @@ impl Asked {
         self.lengths.fetch_add(length as u64, Ordering::SeqCst);
     }
 
-    /// How many pieces, so far.
+    /// How many pieces were asked for so far.
     pub fn pieces(&self) -> u64 {
         self.pieces.load(Ordering::SeqCst)
     }
 
-    /// Their lengths together, so far.
+    /// The sum of their lengths so far.
     pub fn lengths(&self) -> u64 {
         self.lengths.load(Ordering::SeqCst)
     }
 }
 
-/// Work of a size, which notes what is asked of it.
+/// Work of a size, which records what is asked of it.
 #[derive(Drop)]
 pub struct Noted<'a> {
     pub asked: &'a Asked,

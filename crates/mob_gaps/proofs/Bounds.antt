@@ -1,4 +1,4 @@
--- What the gap of two boxes says of what they hold.
+-- What the gap of two boxes says about their contents.
 use Rattle.std.proofs.Common.{◌≡◌, ◌⊎◌, inl, inr, Bool, true, false, Option, Some, None, arith, refl, sym, ap, ◌∙◌, subst}
 use Rattle.std.specs.Prelude.{cond, not, IfSome}
 use Rattle.std.proofs.lemmas.Bool.{and_parts}
@@ -51,16 +51,16 @@ least_square a b h k =
       );
     }
 
--- ---- of what two boxes hold
+-- ---- the contents of two boxes
 
 square_not_below : (p q : Point) → nil ≤ℚ distance_squared p q
 square_not_below p q = add_le _ _ (square_le (p.x -ℚ q.x)) (square_le (p.y -ℚ q.y))
 
--- a number that no squared distance is below is at most the nearest approach
+-- a lower bound of all squared distances is at most the nearest approach
 up_to_nearest : (left right : Ratio → Option Point) (m v : Ratio) → IsNearest left right m → ((t : Ratio) (p q : Point) → left t ≡ Some p → right t ≡ Some q → v ≤ℚ distance_squared p q) → up_to v m ≡ true
 up_to_nearest left right m v near h = ap not (false_unless (before m v) (λ k. let w = near.greatest v k in not_both _ _ (before-lt _ _ w.5) (h w.0 w.1 w.2 w.3 w.4)))
 
--- the gap of areas of which each has what it should at each common instant
+-- the gap of areas that contain their points at each common instant
 fit_below : (a c : Area) (p q : Point) (t : Bool) → all_fit (area_gap_parts a c) ≡ t → InArea a p → InArea c q → exact_or_nil (area_gap_parts a c) (area_gap a c) ≤ℚ distance_squared p q
 unfolding exact_or_nil
 fit_below a c p q true e i j = rw e (area_below a c p q i j)
@@ -76,7 +76,8 @@ apart_off None r t h k = refl
 apart_off (Some s) None t h k = refl
 apart_off (Some s) (Some r) t h k = ap not ((spans_meet_exact s r).1 (t, h, k))
 
--- The approach of what two boxes hold is not below their gap; where these are apart, there is none.
+-- The approach of the contents of two boxes is not less than their gap; if the boxes are apart,
+-- there is none.
 pub approach_reaches : (one other : Ratio → Option Point) (b c : BoxOf) (m : Ratio) → Covers one b → Covers other c → IsApproach one other (Some m) → gap_reaches (gap_of b c) m ≡ true
 unfolding gap_of
 approach_reaches one other b c m h k (common, near) =
@@ -86,7 +87,7 @@ approach_reaches one other b c m h k (common, near) =
     rw off (up_to_nearest one other m (space_gap b.space c.space) near (λ t p q ep eq.
     gap_below b.space c.space p q (there_in one b t p h ep).in_space (there_in other c t q k eq).in_space))
 
--- a box over another one has what that one has
+-- a box over another contains its contents
 pub covers_over : (place : Ratio → Option Point) (a b : BoxOf) → contains a b ≡ true → Covers place b → Covers place a
 covers_over place a b h k t = by_place (place t) (k t)
   where
@@ -94,7 +95,7 @@ covers_over place a b h k t = by_place (place t) (k t)
     by_place None i = tt
     by_place (Some p) i = in_contained a b t p (contains_is a b h) i
 
--- ---- what it means
+-- ---- the meaning of the gap
 
 pub apart_means : (s r : Option SpanOf) → are_apart s r ≡ true → (x : SpanOf) × (y : SpanOf) × (s ≡ Some x) × (r ≡ Some y) × ((t : Ratio) → InSpan x t → InSpan y t → ⊥)
 apart_means None r h = absurd cc
@@ -133,7 +134,7 @@ gap_means b q h k = by_test (are_apart b.time q.time) refl
     by_test true e = apart_means b.time q.time e
     by_test false e = least_gap b q h k e
 
--- ---- how the code finds it
+-- ---- how the code computes it
 
 pub found_apart : (b q : BoxOf) → are_apart b.time q.time ≡ true → Apart ≡ gap_of b q
 unfolding gap_of

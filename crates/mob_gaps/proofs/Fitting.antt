@@ -1,4 +1,4 @@
--- The test whether all parts fit is exact, and a formula behind others.
+-- The test whether all parts fit is exact; and a formula after others.
 use Rattle.std.proofs.Common.{◌≡◌, ℕ, Bool, true, false, List, [], ◌∷◌, ◌++◌, refl, subst, ◌<◌, ◌^◌}
 use Rattle.std.specs.Prelude.{Result, Ok, Err, nat_lt, nat_abs}
 use borrow.Author.Tests.{ltb-true, lt-ltb}

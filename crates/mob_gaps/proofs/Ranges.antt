@@ -1,4 +1,4 @@
--- How far two ranges are apart on one axis.
+-- The distance of two ranges on one axis.
 use Rattle.std.proofs.Common.{◌≡◌, ◌⊎◌, inl, inr, Bool, true, false, arith, refl, sym, ap, ◌∙◌, subst}
 use Rattle.std.specs.Prelude.{cond, not}
 use Rattle.mob_ratio.specs.Ratio.{Ratio, ◌-ℚ◌, ◌*ℚ◌, ◌<ℚ◌, ◌≤ℚ◌}
@@ -12,7 +12,7 @@ use Rattle.mob_quadratic.proofs.Convex.{square_le, le_mul_pos, sub_le}
 use Rattle.mob_plane.specs.Corners.{smaller, greater}
 use Rattle.mob_gaps.specs.Gaps.{range_gap}
 
--- the greater one of two is one of them, and at least both
+-- the greater of two numbers is one of them, and at least both
 greater_cases : (a b : Ratio) (t : Bool) → before a b ≡ t → ((cond t b a ≡ a) × (b ≤ℚ a)) ⊎ ((cond t b a ≡ b) × (a <ℚ b))
 greater_cases a b true e = inr (refl, before-lt a b e)
 greater_cases a b false e = inl (refl, up_to-le b a e)
@@ -21,7 +21,7 @@ smaller_cases : (a b : Ratio) (t : Bool) → before b a ≡ t → ((cond t b a �
 smaller_cases a b true e = inr (refl, before-lt b a e)
 smaller_cases a b false e = inl (refl, up_to-le a b e)
 
--- where the two ranges share no number, one of them lies below the other
+-- one of the two ranges is below the other, and g is the distance between them
 pub record AreSplit (a b c d g : Ratio) : Type 0 where
   pub way : ((d <ℚ a) × (g ≡ a -ℚ d)) ⊎ ((b <ℚ c) × (g ≡ c -ℚ b))
 
@@ -75,11 +75,11 @@ by_test : (a b c d x y : Ratio) (t : Bool) → up_to (greater a c) (smaller b d)
 by_test a b c d x y true e ax xb cy yd = subst (λ z. z ≤ℚ ((x -ℚ y) *ℚ (x -ℚ y))) (sym nil_square) (square_le (x -ℚ y))
 by_test a b c d x y false e ax xb cy yd = by_way a b c d (greater a c -ℚ smaller b d) x y (split a b c d (le_trans a x b ax xb) (le_trans c y d cy yd) e) ax xb cy yd
 
--- two numbers of the ranges are at least so far from one another
+-- two numbers of the ranges are at least this far apart
 pub between_below : (a b c d x y : Ratio) → a ≤ℚ x → x ≤ℚ b → c ≤ℚ y → y ≤ℚ d → (range_gap a b c d *ℚ range_gap a b c d) ≤ℚ ((x -ℚ y) *ℚ (x -ℚ y))
 between_below a b c d x y ax xb cy yd = by_test a b c d x y (up_to (greater a c) (smaller b d)) refl ax xb cy yd
 
--- ---- and two are
+-- ---- and two numbers are exactly this far apart
 
 pub record AreTaken (a b c d g : Ratio) : Type 0 where
   pub x : Ratio

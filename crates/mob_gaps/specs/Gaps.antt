@@ -14,9 +14,9 @@ use Rattle.mob_near.specs.Distances.{length_squared, distance_squared}
 use Rattle.mob_gaps.specs.declared.kind.Gap.{Gap}
 use Rattle.mob_gaps.specs.declared.kind.Gap.TheVariants.{Apart, AtLeast}
 
--- The distance of the numbers from a to b to those from c to d: the greater of the two least ones
--- less the smaller of the two greatest ones. Where the two ranges share a number it is 0, without
--- an operation. Then the part of this difference.
+-- The distance between the ranges from a to b and from c to d: the greater of the two lower ends
+-- minus the smaller of the two upper ends. If the two ranges overlap it is 0, without an operation.
+-- Then the part of this difference.
 abbrev pub range_gap : Ratio → Ratio → Ratio → Ratio → Ratio
 range_gap a b c d = cond (up_to (greater a c) (smaller b d)) nil (greater a c -ℚ smaller b d)
 
@@ -38,7 +38,7 @@ abbrev pub area_gap_parts : Area → Area → List Ratio
 area_gap_parts a b = range_gap_parts a.xmin a.xmax b.xmin b.xmax ++ (range_gap_parts a.ymin a.ymax b.ymin b.ymax ++ square_parts (gap_east a b) (gap_north a b))
 
 -- m is the least squared distance of a point of a and one of b: none is less, and two points have
--- it
+-- this one
 pub record IsLeastSquare (a b : Area) (m : Ratio) : Type 0 where
   pub lower : (p q : Point) → InArea a p → InArea b q → up_to m (distance_squared p q) ≡ true
   pub taken : (p : Point) × (q : Point) × InArea a p × InArea b q × (distance_squared p q ≡ m)
@@ -47,8 +47,8 @@ pub record IsLeastSquare (a b : Area) (m : Ratio) : Type 0 where
 abbrev pub AreApart : BoxOf → BoxOf → Type 0
 AreApart b q = (s : SpanOf) × (r : SpanOf) × (b.time ≡ Some s) × (q.time ≡ Some r) × ((t : Ratio) → InSpan s t → InSpan r t → ⊥)
 
--- The gap of two boxes: Apart exactly where both have times that share no instant; else the least
--- squared distance of the two areas, or 0 where a part of its formulas does not fit.
+-- The gap of two boxes: Apart exactly if both have times that share no instant; else the least
+-- squared distance of the two areas, or 0 if a part of its formulas does not fit.
 pub record IsLeastGap (b q : BoxOf) (m : Ratio) : Type 0 where
   pub together : AreApart b q → ⊥
   pub exact : (a c : Area) → b.space ≡ Some a → q.space ≡ Some c → AllFit (area_gap_parts a c) → IsLeastSquare a c m
@@ -58,7 +58,7 @@ abbrev pub IsGap : BoxOf → BoxOf → Gap → Type 0
 IsGap b q Apart = AreApart b q
 IsGap b q (AtLeast m) = IsLeastGap b q m
 
--- ---- the same as a function, which computes
+-- ---- the same as a function that computes
 
 -- whether a number fits, and whether all parts do
 abbrev pub part_fits : Ratio → Bool
@@ -68,7 +68,7 @@ abbrev pub all_fit : List Ratio → Bool
 all_fit [] = true
 all_fit (q ∷ parts) = part_fits q && all_fit parts
 
--- x where all parts fit, else 0
+-- x if all parts fit, else 0
 unfoldable pub exact_or_nil : List Ratio → Ratio → Ratio
 exact_or_nil parts x = cond (all_fit parts) x nil
 

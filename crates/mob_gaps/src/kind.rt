@@ -1,11 +1,11 @@
-// What the gap of two boxes may be.
+//! The values of a gap of two boxes.
 use mob_frac::Frac;
 
-/// How near what is in two boxes can come.
+/// A lower bound of how near the contents of two boxes can come.
 #[derive(Clone, Copy, Debug, Drop)]
 pub enum Gap {
     /// Both boxes have times, and these share no instant.
     Apart,
-    /// The squared distance of a point of one box to a point of the other is at least this.
+    /// The squared distance between points of the two boxes is at least this.
     AtLeast(Frac),
 }

@@ -1,4 +1,4 @@
-//! The gap of two boxes: a lower bound of the squared distance of what is in them.
+//! The gap of two boxes: a lower bound of the squared distance of their contents.
 #![tactic(auto)]
 
 mod kind;

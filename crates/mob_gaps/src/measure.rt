@@ -9,7 +9,7 @@ use mob_frac::{Frac, Overflow};
 use mob_plane::{greater, smaller};
 use mob_stbox::{Area, StBox};
 
-// The distance of the numbers from `a` to `b` to those from `c` to `d`: 0 where they share one.
+// The distance between the ranges from `a` to `b` and from `c` to `d`: 0 if they overlap.
 fn range_gap(a: &Frac, b: &Frac, c: &Frac, d: &Frac) -> Result<Frac, Overflow>
     ensures value { IsFormula (range_gap_parts a.now b.now c.now d.now) (range_gap a.now b.now c.now d.now) result }
 {
@@ -39,7 +39,7 @@ fn area_gap(a: &Area, b: &Area) -> Result<Frac, Overflow>
     square(&x, &y)
 }
 
-// The least squared distance of two areas, or 0 where a part of its formulas does not fit.
+// The least squared distance of two areas, or 0 if a part of its formulas does not fit.
 fn area_gap_or_zero(a: &Area, b: &Area) -> Frac
     ensures value { result ≡ exact_or_nil (area_gap_parts a.now b.now) (area_gap a.now b.now) }
 {
@@ -59,13 +59,13 @@ fn are_apart(b: &StBox, q: &StBox) -> bool
     }
 }
 
-/// The gap of two boxes. It takes no memory.
+/// The gap of two boxes. It allocates nothing.
 ///
-/// It is `Apart` exactly where both boxes have times that share no instant. Else it is the least
-/// squared distance of their areas, or 0 where a part of its formulas does not fit. These are F2,
-/// by coordinate the greater of the two least coordinates less the smaller of the two greatest ones
-/// where the two ranges share no value, and F6, the squares of these two differences and their sum.
-/// A box without space is `Apart` or has the gap 0.
+/// It is `Apart` exactly if both boxes have times that share no instant. Else it is the least
+/// squared distance of their areas, or 0 if a part of its formulas does not fit. These are F2, in
+/// each coordinate in which the ranges do not overlap, the greater of the two lower ends minus the
+/// smaller of the two upper ends; and F6, the squares of these two differences and their sum. A box
+/// without space is `Apart` or has the gap 0.
 pub fn gap(b: &StBox, q: &StBox) -> Gap
     ensures means { is_some b.now.space ≡ true → is_some q.now.space ≡ true → IsGap b.now q.now result }
     ensures value { result ≡ gap_of b.now q.now }

@@ -1,4 +1,4 @@
--- Each number lies in one band.
+-- Each number is in one band.
 use Rattle.std.proofs.Common.{◌≡◌, ◌↔◌, inl, inr, ℕ, ◌*◌, ◌<◌, Bool, true, false, ℤ, pos, negsuc, ◌+ℤ◌, ◌*ℤ◌, ◌≤ℤ◌, ◌<ℤ◌, arith, refl, sym, ap, subst, ◌∙◌, not}
 use Rattle.std.proofs.lemmas.Int.{ints}
 use native.Mathlib.Nat.{mul-pos}
@@ -68,7 +68,7 @@ edges_lt c n m p h = whole_lt n m (lt_of_mul_pos (whole n) (whole m) c p h)
 next_le : (n m : ℤ) → n <ℤ (m +ℤ pos 1) → n ≤ℤ m
 next_le n m h = omega (arith, ints)
 
--- the numbers of bands rise
+-- the numbers of bands are ordered like their numbers
 pub band_le : (c : Ratio) (n m : ℤ) (x y : Ratio) → nil <ℚ c → InBand c n x → InBand c m y → x ≤ℚ y → n ≤ℤ m
 band_le c n m x y p a b h = next_le n m (edges_lt c n (m +ℤ pos 1) p (le_lt (whole n *ℚ c) y (whole (m +ℤ pos 1) *ℚ c) (le_trans (whole n *ℚ c) x y a.from h) b.until))
 
@@ -96,7 +96,7 @@ in_band_exact c n x = (
   λ b. and_from (up_to (whole n *ℚ c) x) (before x (whole (n +ℤ pos 1) *ℚ c)) (up_to_of (before x (whole n *ℚ c)) (le-up_to (whole n *ℚ c) x b.from)) (lt-before x (whole (n +ℤ pos 1) *ℚ c) b.until),
 )
 
--- ---- the number of a band by the parts of two fractions
+-- ---- the number of a band, from the parts of two fractions
 fraction_from : (k cd xd : ℕ) (xn n : ℤ) → 0 < cd → 0 < xd → (n *ℤ pos (xd * k)) ≤ℤ (xn *ℤ pos cd) → (whole n *ℚ over (pos k) cd) ≤ℚ over xn xd
 fraction_from k cd xd xn n dc dx h =
     let one : 0 < 1 * cd = omega (arith, dc) in
@@ -147,7 +147,7 @@ bottom_positive c x p =
     above : (n : ℕ) → 0 < n → pos 0 <ℤ pos n
     above n h = omega (arith, ints)
 
--- the edge of number n by the parts of the width
+-- the edge of number n, from the parts of the width
 pub edge_is : (n : ℤ) (c : Ratio) → ratio (n *ℤ c.num) (pos c.den) ≡ whole n *ℚ c
 edge_is n c =
     let d = den_pos c in

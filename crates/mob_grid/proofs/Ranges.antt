@@ -1,4 +1,4 @@
--- Each instant of a point lies in one tile, which stands in the range of each box that has it.
+-- Each point at each instant is in one tile, which is in the range of each box that contains it.
 use Rattle.std.proofs.Common.{◌≡◌, ◌↔◌, inl, inr, Bool, true, false, ℤ, pos, ◌*ℤ◌, ◌≤ℤ◌, ◌<ℤ◌, arith, refl, sym, subst, ◌&&◌, int_lt, negsuc, nat_abs, ◌<◌, ◌^◌}
 use Rattle.std.proofs.lemmas.Int.{ints}
 use Rattle.std.proofs.lemmas.Bool.{and_parts, and_from}
@@ -33,8 +33,8 @@ in_tile_exact g a t p = (
       ((in_band_exact g.width a.k t).1 i.in_time),
 )
 
--- the tile of each point of the rectangle, at each instant between the ends of the span or at one
--- of them
+-- the tile of each point of the rectangle, at each instant between the ends of the span or at an
+-- end, is in the range
 pub closed_reach : (g : GridOf) (a : Area) (s : SpanOf) (t : Ratio) (p : Point) → IsGrid g → InArea a p → s.lower ≤ℚ t → t ≤ℚ s.upper → InRange (range_of g a s) (tile_of g t p)
 closed_reach g a s t p h i l u = record {
   from_i = bands_rise g.size a.xmin p.x h.some_size i.from_west;
@@ -84,7 +84,7 @@ module _ (a b c : ℤ) (i : pos 1 ≤ℤ a) (j : pos 1 ≤ℤ b) (k : pos 1 ≤�
       let one : pos 1 ≤ℤ (a *ℤ b) = omega (arith, ints) in
       subst (λ z. pos 10000 <ℤ z) (mul_comm c (a *ℤ b)) (more (pos 10000) c (c *ℤ (a *ℤ b)) h (times_more c (a *ℤ b) (some c k) one))
 
--- the range of a rectangle that has a point and a span that has an instant
+-- the range of a rectangle that contains a point and a span that contains an instant
 pub range_stands : (g : GridOf) (a : Area) (s : SpanOf) → IsGrid g → a.xmin ≤ℚ a.xmax → a.ymin ≤ℚ a.ymax → s.lower ≤ℚ s.upper → IsRange (range_of g a s)
 range_stands g a s h x y t = record {
   by_i = bands_rise g.size a.xmin a.xmax h.some_size x;

@@ -12,7 +12,7 @@ use Rattle.mob_grid.specs.Bands.{InBand, in_band, band_of}
 use Rattle.mob_grid.specs.declared.tile.Tile.{Tile}
 use Rattle.mob_grid.specs.declared.tile.TileRange.{TileRange}
 
--- the sides of the tiles: `size` in units of length, the same by x and by y, and `width` in seconds
+-- the sides of the tiles: `size` in units of length, the same in x and y, and `width` in seconds
 pub record GridOf : Type 0 where
   pub size : Ratio
   pub width : Ratio
@@ -21,17 +21,17 @@ pub record IsGrid (g : GridOf) : Type 0 where
   pub some_size : nil <ℚ g.size
   pub some_width : nil <ℚ g.width
 
--- The tile a has the point p at the instant t.
+-- The tile a contains the point p at the instant t.
 pub record InTile (g : GridOf) (a : Tile) (t : Ratio) (p : Point) : Type 0 where
   pub in_x : InBand g.size a.i p.x
   pub in_y : InBand g.size a.j p.y
   pub in_time : InBand g.width a.k t
 
--- the same as a test, which computes
+-- the same as a test that computes
 abbrev pub in_tile : GridOf → Tile → Ratio → Point → Bool
 in_tile g a t p = in_band g.size a.i p.x && in_band g.size a.j p.y && in_band g.width a.k t
 
--- the tile that has p at t
+-- the tile that contains p at t
 abbrev pub tile_of : GridOf → Ratio → Point → Tile
 tile_of g t p = record { i = band_of g.size p.x; j = band_of g.size p.y; k = band_of g.width t }
 
@@ -44,7 +44,7 @@ compare_tiles a b = ordering_then (int_cmp a.i b.i) (compare_later a b)
 
 -- ---- ranges
 
--- a stands in the range, by each of its numbers
+-- a is in the range, in each of its numbers
 pub record InRange (r : TileRange) (a : Tile) : Type 0 where
   pub from_i : r.low.i ≤ℤ a.i
   pub to_i : a.i ≤ℤ r.high.i
@@ -69,7 +69,7 @@ range_parts g a s = (a.xmin /ℚ g.size) ∷ (a.ymin /ℚ g.size) ∷ (s.lower /
 abbrev pub OnSides : BoxOf → (Area → SpanOf → Type 0) → Type 0
 OnSides b P = (a : Area) (s : SpanOf) → b.space ≡ Some a → b.time ≡ Some s → P a s
 
--- how many numbers there are from one to another, both with them
+-- how many numbers there are from one to another, both included
 abbrev pub side_of : ℤ → ℤ → ℤ
 side_of low high = (high -ℤ low) +ℤ pos 1
 
@@ -92,14 +92,14 @@ HasMany r = pos 10000 <ℤ tiles_in r
 abbrev pub greater_number : ℤ → ℤ → ℤ
 greater_number a b = cond (int_lt a b) b a
 
--- where two ranges share a tile, this one is the least of those that they share
+-- if two ranges share a tile, this is the least one that they share
 abbrev pub least_shared : TileRange → TileRange → Tile
 least_shared r s = record { i = greater_number r.low.i s.low.i; j = greater_number r.low.j s.low.j; k = greater_number r.low.k s.low.k }
 
 abbrev pub is_least_shared : Tile → TileRange → TileRange → Bool
 is_least_shared a r s = is_eq (compare_tiles a (least_shared r s))
 
--- a stands in both ranges, and no tile that does comes before it
+-- a is in both ranges, and no tile in both comes before it
 pub record IsLeastShared (r s : TileRange) (a : Tile) : Type 0 where
   pub first : InRange r a
   pub second : InRange s a

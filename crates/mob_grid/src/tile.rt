@@ -1,32 +1,32 @@
-//! Tiles, by their three numbers.
+//! Tiles, by their three numbers, and ranges of tiles.
 ghost use Rattle.std.specs.Prelude.{◌≡◌, ◌↔◌, pos, true, ◌<ℤ◌, ◌≤ℤ◌, ◌*ℤ◌, ℤ, nat_abs, ◌<◌, ◌^◌};
 ghost use Rattle.mob_grid.specs.Tiles.{compare_tiles, compare_later, greater_number, least_shared, is_least_shared, side_of, HasMany, IsRange};
 
 use std::cmp::Ordering;
 
-/// A tile of a grid: from `i` to `i + 1` by x, from `j` to `j + 1` by y and from `k` to `k + 1` by
-/// time, each counted in sides of a tile and without its end.
+/// A tile of a grid: from `i` to `i + 1` in x, from `j` to `j + 1` in y and from `k` to `k + 1` in
+/// time, each counted in sides of a tile, as half-open intervals.
 #[derive(Clone, Copy, Debug, Drop)]
 pub struct Tile {
-    /// By x.
+    /// The number in x.
     pub i: i64,
-    /// By y.
+    /// The number in y.
     pub j: i64,
-    /// By time.
+    /// The number in time.
     pub k: i64,
 }
 
-/// All tiles between two of them by each number, both with them.
+/// All tiles between two tiles in each number, both included.
 #[derive(Clone, Copy, Debug, Drop)]
 pub struct TileRange {
-    /// The least by each number.
+    /// The least in each number.
     pub low: Tile,
-    /// The greatest by each number.
+    /// The greatest in each number.
     pub high: Tile,
 }
 
 impl Tile {
-    /// How the two stand: by i, then by j, then by k.
+    /// The order of the two: by i, then by j, then by k.
     pub fn compare(&self, other: &Tile) -> Ordering
         ensures order { result ≡ compare_tiles self.now other.now }
     {
@@ -47,7 +47,7 @@ fn compare_later(a: &Tile, b: &Tile) -> Ordering
     }
 }
 
-// How many numbers there are from one to another, both with them.
+// How many numbers there are from `low` to `high`, both included.
 fn side(low: i64, high: i64) -> i128
     requires order { low ≤ℤ high }
     ensures value { result ≡ side_of low high }
@@ -63,7 +63,7 @@ fn is_large(n: i128) -> bool
     n > 10_000
 }
 
-// The product of two sides that are not long.
+// The product of two short sides.
 fn area(a: i128, b: i128) -> i128
     requires left { nat_abs a < 2 ^ 14 }
     requires right { nat_abs b < 2 ^ 14 }
@@ -73,7 +73,7 @@ fn area(a: i128, b: i128) -> i128
     a * b
 }
 
-// The product of an area and a side that is not long.
+// The product of an area and a short side.
 fn volume(a: i128, b: i128) -> i128
     requires left { nat_abs a < 2 ^ 28 }
     requires right { nat_abs b < 2 ^ 14 }

@@ -1,4 +1,4 @@
--- How far a loop is that numbers groups by their keys.
+-- The invariant of a loop that numbers groups by their keys.
 use Rattle.std.specs.Prelude.{◌≡◌, Bool, true, false, cond, not, ℕ, ◌+◌, refl, List, [], ◌∷◌, ◌++◌, map, filter, if◌then◌else◌, ◌||◌}
 use Rattle.std.specs.List.{list_any, position_or_len}
 use Rattle.std.specs.Cmp.{IsEquivalence}
@@ -6,25 +6,25 @@ use Rattle.std.proofs.Common.{ap, ap₂, sym, ◌∙◌, true≢false, append_as
 use Rattle.mob_groups.specs.Groups.{first_keys, group_number}
 
 module _ {K : Type 0} (same : K → K → Bool) where
-  -- the keys so far with one more, where it is new
+  -- the keys so far with one more, if it is new
   abbrev pub with_key : List K → K → List K
   with_key ks k = if list_any (same k) ks then ks else ks ++ k ∷ []
 
-  -- the keys so far with all that are still to come
+  -- the keys so far with all that follow
   abbrev pub with_keys : List K → List K → List K
   with_keys ks [] = ks
   with_keys ks (k ∷ rest) = with_keys (with_key ks k) rest
 
-  -- the number that each of those still to come gets
+  -- the numbers of those that follow
   abbrev pub numbers_on : List K → List K → List ℕ
   numbers_on ks [] = []
   numbers_on ks (k ∷ rest) = position_or_len (same k) ks ∷ numbers_on (with_key ks k) rest
 
-  -- those that are none of these keys
+  -- those that are not among these keys
   abbrev pub others : List K → List K → List K
   others ks js = filter (λ j. not (list_any (same j) ks)) js
 
--- where something is found in a list it is found there in a longer one
+-- what is found in a list is found at the same place in a longer one
 found_before : {K : Type 0} (p : K → Bool) (ks js : List K) → list_any p ks ≡ true → position_or_len p (ks ++ js) ≡ position_or_len p ks
 found_before p [] js h = absurd (true≢false (sym h))
 found_before p (k ∷ ks) js h = by (p k) refl h (found_before p ks js)
@@ -33,7 +33,7 @@ found_before p (k ∷ ks) js h = by (p k) refl h (found_before p ks js)
     by true e h f = ap (λ b. cond (not b) (1 + position_or_len p (ks ++ js)) 0) e ∙ sym (ap (λ b. cond (not b) (1 + position_or_len p ks) 0) e)
     by false e h f = ap (λ n. cond (not (p k)) (1 + n) 0) (f h)
 
--- what is not found before is found next
+-- what is not found earlier is found next
 found_next : {K : Type 0} (p : K → Bool) (ks : List K) (k : K) (js : List K) → list_any p ks ≡ false → p k ≡ true → position_or_len p ((ks ++ k ∷ []) ++ js) ≡ position_or_len p ks
 found_next p [] k js h e = ap (λ b. cond (not b) (1 + position_or_len p js) 0) e
 found_next p (i ∷ ks) k js h e = by (p i) refl h (found_next p ks k js)
@@ -43,7 +43,7 @@ found_next p (i ∷ ks) k js h e = by (p i) refl h (found_next p ks k js)
     by false m h f = ap (λ n. cond (not (p i)) (1 + n) 0) (f h e)
 
 module _ {K : Type 0} (same : K → K → Bool) (equal : IsEquivalence same) where
-  -- keys that are equal are so to the same keys
+  -- equal keys are equal to the same keys
   any_same : (j k : K) (ks : List K) → same j k ≡ true → list_any (same j) ks ≡ list_any (same k) ks
   any_same j k [] e = refl
   any_same j k (l ∷ ks) e = ap₂ (λ a b. a || b) (equal.congr j k l e) (any_same j k ks e)
@@ -57,7 +57,7 @@ module _ {K : Type 0} (same : K → K → Bool) (equal : IsEquivalence same) whe
       turned true false c = refl
       turned false b c = refl
 
-  -- of those that are none of the keys, those that are not equal to one of the keys are all
+  -- of those that are not among the keys, those not equal to an old key are all
   others_old : (ks : List K) (k : K) (js : List K) → list_any (same k) ks ≡ true → others same ks (filter (λ j. not (same k j)) js) ≡ others same ks js
   others_old ks k [] h = refl
   others_old ks k (j ∷ js) h = by (same k j) refl (others_old ks k js h)
@@ -81,7 +81,7 @@ module _ {K : Type 0} (same : K → K → Bool) (equal : IsEquivalence same) whe
           ∙ ap (λ z. cond (not (list_any (same j) ks)) (j ∷ z) z) f
           ∙ sym (ap (λ b. cond (not b) (j ∷ others same (ks ++ k ∷ []) js) (others same (ks ++ k ∷ []) js)) (more ∙ ap (λ b. b || list_any (same j) ks) e))
 
-  -- the keys so far with all that come: those so far, and the first ones of those that come
+  -- the keys so far with all that follow: those so far, then the first ones of those that follow
   keys_are : (ks rest : List K) → with_keys same ks rest ≡ ks ++ others same ks (first_keys same rest)
   keys_are ks [] = sym (append-nil ks)
   keys_are ks (k ∷ rest) = by (list_any (same k) ks) refl (keys_are ks rest) (keys_are (ks ++ k ∷ []) rest)
@@ -105,7 +105,7 @@ module _ {K : Type 0} (same : K → K → Bool) (equal : IsEquivalence same) whe
   pub keys_of_all : (keys : List K) → with_keys same [] keys ≡ first_keys same keys
   keys_of_all keys = keys_are [] keys ∙ all_others (first_keys same keys)
 
-  -- a key has the place that it gets at first in the end too
+  -- a key keeps the place that it gets at first
   placed : (ks : List K) (k : K) (rest : List K) → position_or_len (same k) (with_keys same (with_key same ks k) rest) ≡ position_or_len (same k) ks
   placed ks k rest = by (list_any (same k) ks) refl
     where

@@ -11,7 +11,7 @@ use Rattle.mob_knn.specs.Nearest.{Trip, AreBoxes, IsBoxPut}
 abbrev one : BoxOf → ℕ → List EntryOf
 one b n = (b, n) ∷ []
 
--- one more trip behind
+-- one more trip after
 more_none : (i : ℕ) (trips : List (Option Trip)) (es : List EntryOf) → AreBoxes i trips es → AreBoxes i (trips ++ None ∷ []) es
 more_none i [] es h = h
 more_none i (None ∷ trips) es h = more_none (i + 1) trips es h

@@ -1,4 +1,4 @@
--- What is known of trips, by the boxes of their entries.
+-- Facts about trips, from the boxes of their entries.
 use Rattle.std.proofs.Common.{◌≡◌, inl, inr, ℕ, zero, suc, ◌+◌, ◌<◌, ◌≤◌, Bool, true, false, List, [], ◌∷◌, Option, Some, None, arith, refl, sym, ap, ◌∙◌, subst}
 use Rattle.std.specs.Prelude.{cond, Contains, sum_by, ◌==◌, IfSome}
 use Rattle.std.proofs.lemmas.List.Sums.{sum_by-cons}
@@ -60,7 +60,7 @@ entry_there i (Some u ∷ trips) made h (suc place) trip t row e =
 abbrev at_row : ℕ → EntryOf → ℕ
 at_row row e = cond (e.1 == row) 1 0
 
--- of rows before i there is no entry, and of each row at most one
+-- rows before i have no entry, and each row has at most one
 few_at : (row i : ℕ) (trips : List (Option Trip)) (made : List EntryOf) → AreBoxes i trips made → (sum_by (at_row row) made ≤ 1) × (row < i → sum_by (at_row row) made ≡ 0)
 few_at row i [] made h = let e : ◌≡◌ {A = ℕ} (sum_by (at_row row) made) 0 = ap (λ l. sum_by (at_row row) l) h in (omega (arith, e), λ lt. e)
 few_at row i (None ∷ trips) made h = let k = few_at row (i + 1) trips made h in (k.0, λ lt. k.1 (omega (arith, lt)))
@@ -80,7 +80,7 @@ few_at row i (Some trip ∷ trips) made h = by_row (few_at row (i + 1) trips h.1
         let a = k.0 in
         (omega (arith, total, g, a), λ lt. (let z = k.1 (omega (arith, lt)) in omega (arith, total, g, z)))
 
--- ---- what is asked
+-- ---- what is asked for
 
 pub asked_once : (asked : Asked) (b c : BoxOf) → IsAskedBox asked b → IsAskedBox asked c → b ≡ c
 asked_once (Slices v) b c h k = one_value_box v b c h k

@@ -14,7 +14,7 @@ use Rattle.mob_list.proofs.Entries.{first_in, later_in, none_in, which_in}
 use Rattle.mob_rtree_nodes.specs.Removes.{hit}
 use Rattle.mob_rtree_nodes.specs.Tree.{AreSame, EntryOf}
 
--- ---- what is made of each
+-- ---- lists mapped and joined
 
 pub in_flat : {A B : Type 0} (f : A → List B) (xs : List A) (b : B) → Contains (flat_map f xs) b → (a : A) × Contains xs a × Contains (f a) b
 in_flat f [] b h = absurd (none_in b h)
@@ -34,7 +34,7 @@ pub flat_sum : {A B : Type 0} (g : B → ℕ) (f : A → List B) (xs : List A) �
 flat_sum g f [] = refl
 flat_sum g f (x ∷ xs) = sum_by-append g (f x) (flat_map f xs) ∙ ap (λ n. sum_by g (f x) + n) (flat_sum g f xs) ∙ sym (sum_by-cons (λ x. sum_by g (f x)) x xs)
 
--- of lists that are one another in another order
+-- mapped lists that are permutations of each other
 pub flat_permuted : {A B : Type 0} (g : B → ℕ) (f : A → List B) (xs ys : List A) → IsPermutation xs ys → sum_by g (flat_map f ys) ≡ sum_by g (flat_map f xs)
 flat_permuted g f xs ys h = flat_sum g f ys ∙ sum_by-IsPermutation (λ x. sum_by g (f x)) xs ys h ∙ sym (flat_sum g f xs)
 
@@ -107,7 +107,7 @@ sum_in p (y ∷ xs) x h = elim (which_in y xs x h) [
   | inr i ↦ let k = sum_in p xs x i in let c = sum_by-cons p y xs in omega (arith, k, c)
 ]
 
--- the box of the entry of a row, or another one where there is no entry
+-- the box of the entry of a row, or a given one if it has no entry
 pub box_in : BoxOf → List EntryOf → ℕ → BoxOf
 box_in other [] row = other
 box_in other (e ∷ es) row = cond (e.1 == row) e.0 (box_in other es row)
@@ -120,7 +120,7 @@ box_later : (other : BoxOf) (x : EntryOf) (xs : List EntryOf) (row : ℕ) → (x
 unfolding box_in
 box_later other x xs row h = ap (λ z. cond z x.0 (box_in other xs row)) h
 
--- where a row has one entry at most, that one has this box
+-- if a row has at most one entry, it has this box
 abbrev HasFew : List EntryOf → ℕ → Type 0
 HasFew es row = sum_by (λ (e : EntryOf). cond (e.1 == row) 1 0) es ≤ 1
 

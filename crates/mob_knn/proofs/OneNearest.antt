@@ -43,8 +43,7 @@ nearer_trans a b c h k = elim (nearer_cases a b h) [
 not_back : (a b : ℕ × Ratio) → nearer a b ≡ true → nearer b a ≡ true → ⊥
 not_back a b h k = not_itself a (nearer_trans a b a h k)
 
--- a list that rises and has all of another one that is not longer, of which each that it has more
--- is behind all, is that one
+-- two sorted lists with the same entries are equal
 same_list : (xs ys : List (ℕ × Ratio)) → IsRising xs → IsRising ys → ((x : ℕ × Ratio) → Contains xs x → Contains ys x) → ((y : ℕ × Ratio) → Contains ys y → Contains xs y) → xs ≡ ys
 same_list [] [] h k f g = refl
 same_list [] (y ∷ ys) h k f g = absurd (none_in y (g y (first_in y ys)))
@@ -69,9 +68,10 @@ same_list (x ∷ xs) (y ∷ ys) h k f g = by_head (heads (f x (first_in x xs)) (
       | inr i ↦ i
     ]
 
--- ---- lengths: of two lists that rise, one of which is in the other and as long, they are one
+-- ---- lengths: of two sorted lists of the same length, one of which contains the other, both are
+-- equal
 
--- what is left of a list where one entry is taken out of it
+-- the rest of a list without one of its entries
 record IsTaken (ys : List (ℕ × Ratio)) (a : ℕ × Ratio) : Type 0 where
   pub rest : List (ℕ × Ratio)
   pub count : length ys ≡ length rest + 1
@@ -98,7 +98,7 @@ taken (y ∷ ys) a c = elim (which_in y ys a c) [
   }
 ]
 
--- a list that rises is not longer than one that has all of it
+-- a sorted list is not longer than one that contains it
 not_longer : (xs ys : List (ℕ × Ratio)) → IsRising xs → ((x : ℕ × Ratio) → Contains xs x → Contains ys x) → length xs ≤ length ys
 not_longer [] ys h f = omega arith
 not_longer (x ∷ xs) ys h f =
@@ -108,7 +108,7 @@ not_longer (x ∷ xs) ys h f =
     omega (arith, n, k)
 
 module _ (has : ℕ → Ratio → Type 0) (k : ℕ) (rs os : List (ℕ × Ratio)) (first : AreFirstRows has k rs) (other : AreFirstRows has k os) where
-  -- what one has and the other has not would make the one longer than k
+  -- an entry of only one of them would make that one longer than k
   among : (x : ℕ × Ratio) → Contains rs x → Contains os x
   among x c = elim (other.full x.0 x.1 (each_of_all (λ r. has r.0 r.1) rs first.each x c)) [
     | inl i ↦ i

@@ -1,4 +1,4 @@
--- What comes first of what waits.
+-- The order of the items.
 use Rattle.std.proofs.Common.{◌≡◌, ◌⊎◌, inl, inr, ℕ, ◌<◌, ◌≤◌, Bool, true, false, List, arith, refl, sym, ap, subst, true≢false}
 use Rattle.std.specs.Prelude.{cond, not, Contains, nat_lt, ◌==◌}
 use Rattle.std.specs.BinaryHeap.{IsUpperBound}
@@ -56,12 +56,12 @@ up_to_greater_right a b = greater_second a b (before a b) refl
 pub greater_up_to : (a b m : Ratio) → up_to a m ≡ true → up_to b m ≡ true → up_to (greater a b) m ≡ true
 greater_up_to a b m h k = greater_to a b m (before a b) h k
 
--- a gap that reaches a number reaches each that is not less
+-- a gap that reaches a number reaches each greater one
 pub reaches_on : (g : Gap) (a b : Ratio) → gap_reaches g a ≡ true → up_to a b ≡ true → gap_reaches g b ≡ true
 reaches_on Apart a b h k = absurd (true≢false (sym h))
 reaches_on (AtLeast g) a b h k = up_to-trans g a b h k
 
--- ---- what comes first
+-- ---- the first item
 
 -- y is not taken before x
 abbrev pub IsNext : Waiting → Waiting → Type 0

@@ -13,7 +13,7 @@ use Rattle.mob_knn.specs.Nearest.{Trip, Asked, IsTrip, HasApproach}
 use Rattle.mob_knn.specs.Steps.{IsOnly, HasUnfitPart}
 use Rattle.mob_slice.specs.declared.formula.Formula.{Formula}
 
--- one trip stands in a row
+-- one trip is in a row
 inner : Option (Option Trip) → Option Trip
 inner None = None
 inner (Some o) = o

@@ -1,4 +1,4 @@
--- What holds all through a search, and what follows at its end.
+-- The invariant of a search, and its consequences at the end.
 use Rattle.std.proofs.Common.{length-append, map, ◌≡◌, ◌⊎◌, inl, inr, ℕ, suc, ◌+◌, ◌<◌, ◌≤◌, Bool, true, false, List, [], ◌∷◌, ◌++◌, length, Option, Some, None, arith, refl, sym, ap, ◌∙◌, subst, true≢false}
 use Rattle.std.specs.Prelude.{cond, not, Contains, sum_by, ◌==◌, ◌&&◌, ◌||◌, nat_lt, All}
 use Rattle.std.specs.List.{flat_map, AllByRecursion}
@@ -32,7 +32,7 @@ use Rattle.mob_knn.specs.Waits.{rank_of, waiting_number, what_of, waits_by, wait
 use Rattle.mob_knn.proofs.Lists.{box_in, in_box, sum_in, in_flat, flat_in, flat_permuted, flat_over, in_before, in_same, same_back, count_some}
 use Rattle.mob_knn.proofs.Orders.{up_to-trans, before_up_to, up_to_greater_left, up_to_greater_right, greater_up_to, reaches_on, IsNext, next_key}
 
--- what is known of the rows that have an approach, and of the entries of the tree
+-- facts about the rows that have an approach, and about the entries of the tree
 pub record IsKnown (bs : List Branch) (root : Option ℕ) (entries : List EntryOf) (has : ℕ → Ratio → Type 0) (q : BoxOf) : Type 0 where
   pub bound : (b : BoxOf) (e : EntryOf) → Contains entries e → contains b e.0 ≡ true → (m : Ratio) → has e.1 m → gap_reaches (gap_of b q) m ≡ true
   pub above : (row : ℕ) (m : Ratio) → has row m → up_to nil m ≡ true
@@ -40,7 +40,7 @@ pub record IsKnown (bs : List Branch) (root : Option ℕ) (entries : List EntryO
   pub every : (row : ℕ) (m : Ratio) → has row m → (b : BoxOf) × Contains entries (b, row)
   pub once : (row : ℕ) → sum_by (λ (e : EntryOf). cond (e.1 == row) 1 0) entries ≤ 1
 
--- ---- lists that rise
+-- ---- sorted lists
 
 rising_push : (xs : List (ℕ × Ratio)) (x : ℕ × Ratio) → IsRising xs → ((o : ℕ × Ratio) → Contains xs o → nearer o x ≡ true) → IsRising (xs ++ x ∷ [])
 rising_push [] x h k = (tt, tt)
@@ -101,13 +101,13 @@ module _ (bs : List Branch) (root : Option ℕ) (entries : List EntryOf) (has : 
   abbrev pub answers_of : List Waiting → List (ℕ × Ratio)
   answers_of ws = flat_map (λ w. answers_at w w.what) ws
 
-  -- nothing below it has an approach below its key
+  -- nothing below it has an approach less than its key
   abbrev pub IsHeld : Ratio → What → Type 0
   IsHeld key (Node n) = IsReachedNode bs root n × ((e : EntryOf) → Contains (entries_under bs n) e → (m : Ratio) → has e.1 m → up_to key m ≡ true)
   IsHeld key (Entry row) = (gap_reaches (gap_of (box_at row) q) key ≡ true) × ((m : Ratio) → has row m → up_to key m ≡ true)
   IsHeld key (Answer row) = has row key
 
-  -- it is behind an answer that was told
+  -- it comes after an answer that was added
   abbrev pub IsLater : ℕ × Ratio → Ratio → What → Type 0
   IsLater o key (Node n) = before o.1 key ≡ true
   IsLater o key (Entry row) = before o.1 key ≡ true
@@ -129,12 +129,12 @@ module _ (bs : List Branch) (root : Option ℕ) (entries : List EntryOf) (has : 
     pub few : length s.found < k
     pub steps : s.steps ≡ start + length tried
 
-  -- what came first, and what is left
+  -- the first item, and the rest
   pub record IsPopped (heap : List Waiting) (first : Waiting) (rest : List Waiting) : Type 0 where
     pub taken : IsPermutation heap (first ∷ rest)
     pub next : (w : Waiting) → Contains rest w → IsNext first w
 
-  -- what is promised at the end
+  -- the promises at the end
   pub record IsDone (k start : ℕ) (found : List (ℕ × Ratio)) (steps : ℕ) : Type 0 where
     pub first : AreFirstRows has k found
     pub cost : steps ≤ start + count_within (reach_of k found) q entries
@@ -171,7 +171,7 @@ module _ (bs : List Branch) (root : Option ℕ) (entries : List EntryOf) (has : 
     | inr i ↦ absurd (none_in x i)
   ]
 
-  -- what comes after an answer is behind it
+  -- what comes after an answer is greater
   next_later : (row : ℕ) (key wkey : Ratio) (what : What) → (before key wkey ≡ true) ⊎ ((wkey ≡ key) × ((2 < rank_of what) ⊎ ((rank_of what ≡ 2) × (row ≤ waiting_number what)))) → ((r : ℕ) → what ≡ Answer r → row ≡ r → ⊥) → IsLater (row, key) wkey what
   next_later row key wkey (Node n) (inl h) other = h
   next_later row key wkey (Node n) (inr (e, inl lt)) other = absurd (omega (arith, lt))
@@ -196,14 +196,14 @@ module _ (bs : List Branch) (root : Option ℕ) (entries : List EntryOf) (has : 
     first_held : IsHeld first.key first.what
     first_held = (old.held first first_there).1
 
-    -- what waits is of the tree
+    -- the waiting items are from the tree
     waits_there : (e : EntryOf) → Contains (entries_of s.heap) e → Contains entries e
     waits_there e c = in_same _ entries e old.same (Contains-append_right (old.gone ++ old.tried) (entries_of s.heap) e c)
 
     first_entries : (e : EntryOf) → Contains (entries_in bs box_at first.what) e → Contains entries e
     first_entries e c = waits_there e (flat_in (λ w. entries_in bs box_at w.what) s.heap first e first_there c)
 
-    -- the sums of what waits
+    -- sums over the waiting items
     entries_sum : (g : EntryOf → ℕ) → sum_by g (entries_of s.heap) ≡ sum_by g (entries_in bs box_at first.what) + sum_by g (entries_of rest)
     entries_sum g = sym (flat_permuted g (λ w. entries_in bs box_at w.what) s.heap (first ∷ rest) pop.taken) ∙ sum_by-append g (entries_in bs box_at first.what) (entries_of rest)
 
@@ -216,21 +216,21 @@ module _ (bs : List Branch) (root : Option ℕ) (entries : List EntryOf) (has : 
     rest_held : (w : Waiting) → Contains rest w → (up_to first.key w.key ≡ true) × IsHeld w.key w.what
     rest_held w c = (next_key first w (pop.next w c), (old.held w (rest_there w c)).1)
 
-    -- an answer that waited is the first one, or is left
+    -- a waiting answer is the first item, or remains
     answer_left : (x : ℕ × Ratio) → Contains (answers_of s.heap) x → Contains (answers_at first first.what) x ⊎ Contains (answers_of rest) x
     answer_left x c = let w = in_flat (λ w. answers_at w w.what) s.heap x c in elim (which w.0 w.1) [
       | inl e ↦ inl (subst (λ (z : Waiting). Contains (answers_at z z.what) x) (sym e) w.2)
       | inr i ↦ inr (flat_in (λ w. answers_at w w.what) rest w.0 x i w.2)
     ]
 
-    -- an entry that waited is the first one's, or is left
+    -- a waiting entry is below the first item, or remains
     entry_left : (e : EntryOf) → Contains (entries_of s.heap) e → Contains (entries_in bs box_at first.what) e ⊎ Contains (entries_of rest) e
     entry_left e c = let w = in_flat (λ w. entries_in bs box_at w.what) s.heap e c in elim (which w.0 w.1) [
       | inl i ↦ inl (subst (λ (z : Waiting). Contains (entries_in bs box_at z.what) e) (sym i) w.2)
       | inr i ↦ inr (flat_in (λ w. entries_in bs box_at w.what) rest w.0 e i w.2)
     ]
 
-    -- where each entry is
+    -- the place of each entry
     where_is : (e : EntryOf) → Contains entries e → (Contains old.gone e ⊎ Contains old.tried e) ⊎ Contains (entries_of s.heap) e
     where_is e c = elim (Contains-append_cases (old.gone ++ old.tried) (entries_of s.heap) e (in_same entries ((old.gone ++ old.tried) ++ entries_of s.heap) e (same_back ((old.gone ++ old.tried) ++ entries_of s.heap) entries old.same) c)) [
       | inl i ↦ inl (Contains-append_cases old.gone old.tried e i)
@@ -250,7 +250,7 @@ module _ (bs : List Branch) (root : Option ℕ) (entries : List EntryOf) (has : 
     apart_of : List Kid → List EntryOf
     apart_of kids = flat_map (λ (kd : Kid). apart_at kd (gap_of kd.0 q)) kids
 
-    -- its box is the one that stands there
+    -- its box is the one in the tree
     at_box : (b : BoxOf) (row : ℕ) → Contains entries (b, row) → box_at row ≡ b
     at_box b row c = in_box q entries known.once (b, row) c
 
@@ -378,7 +378,7 @@ module _ (bs : List Branch) (root : Option ℕ) (entries : List EntryOf) (has : 
           let v = apart_in i.0 (gap_of i.0.0 q) e i.2 in
           true≢false (sym (subst (λ z. gap_reaches z m ≡ true) v.0 (kid_reaches i.0 i.1 e v.1 m h)))
 
-      -- the answers that wait are the same
+      -- the waiting answers are the same
       opened_sum : (g : ℕ × Ratio → ℕ) → sum_by g (answers_of new.heap) ≡ sum_by g (answers_of s.heap)
       opened_sum g =
           let a = flat_permuted g (λ w. answers_at w w.what) (waits ++ rest) new.heap how.heap in
@@ -432,7 +432,7 @@ module _ (bs : List Branch) (root : Option ℕ) (entries : List EntryOf) (has : 
         steps = how.steps ∙ old.steps;
       }
 
-    -- ---- an entry is looked at
+    -- ---- an entry is evaluated
 
     module _ (row : ℕ) (is : first.what ≡ Entry row) (new : State) (how : IsMeasured has row rest_state new) where
       entry_held : IsHeld first.key (Entry row)
@@ -555,7 +555,7 @@ module _ (bs : List Branch) (root : Option ℕ) (entries : List EntryOf) (has : 
         steps = let a = how.steps in let b = old.steps in let c = length-append old.tried (here ∷ []) in omega (arith, a, b, c);
       }
 
-    -- ---- an answer is told
+    -- ---- an answer is added
 
     module _ (row : ℕ) (is : first.what ≡ Answer row) (new : State) (how : IsRowAnswered first.key row rest_state new) where
       abbrev told_here : ℕ × Ratio
@@ -564,7 +564,7 @@ module _ (bs : List Branch) (root : Option ℕ) (entries : List EntryOf) (has : 
       answer_held : has row first.key
       answer_held = subst (λ z. IsHeld first.key z) is first_held
 
-      -- no other answer of this row waits
+      -- no other answer for this row waits
       no_other : (w : Waiting) → Contains rest w → (r : ℕ) → w.what ≡ Answer r → row ≡ r → ⊥
       no_other w c r e f =
           let t : ℕ → ℕ = λ n. cond (n == row) 1 0 in
@@ -613,7 +613,7 @@ module _ (bs : List Branch) (root : Option ℕ) (entries : List EntryOf) (has : 
         | inr i ↦ absurd (none_in x i)
       ]
 
-      -- an answer that was found or waited is found, or is left
+      -- an answer that was found or waiting is found, or remains
       told_all : (x : ℕ × Ratio) → Contains (s.found ++ answers_of s.heap) x → Contains new.found x ⊎ Contains (answers_of rest) x
       told_all x c = elim (Contains-append_cases s.found (answers_of s.heap) x c) [
         | inl i ↦ inl (told_found x (Contains-append_left s.found (told_here ∷ []) x i))
@@ -741,7 +741,7 @@ module _ (bs : List Branch) (root : Option ℕ) (entries : List EntryOf) (has : 
       pub unfit_entry : Contains entries (box_at row, row)
       unfit_entry = first_entries (box_at row, row) (subst (λ z. Contains (entries_in bs box_at z) (box_at row, row)) (sym is) (first_in (box_at row, row) []))
 
-  -- ---- nothing is left
+  -- ---- nothing remains
 
   pub nothing_left : (known : IsKnown bs root entries has q) (k start : ℕ) (s : State) → IsSearching k start s → s.heap ≡ [] → IsDone k start s.found s.steps
   nothing_left known k start s old empty = record {

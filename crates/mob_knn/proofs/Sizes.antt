@@ -1,4 +1,4 @@
--- How much is left of a search: a number that falls with each step.
+-- The size of a search: a number that decreases with each step.
 use Rattle.std.proofs.Common.{◌≡◌, ℕ, zero, suc, ◌+◌, ◌<◌, ◌≤◌, true, List, [], ◌∷◌, ◌++◌, length, Option, Some, None, arith, refl, sym, ap, ◌∙◌, subst}
 use Rattle.std.specs.Prelude.{Contains, sum_by, get_or, All}
 use Rattle.std.specs.List.Sorted.{IsPermutation}
@@ -78,7 +78,7 @@ module _ (bs : List Branch) where
   answer_size row None = omega arith
   answer_size row (Some m) = let c = sum_by-cons (λ (w : Waiting). what_size bs w.what) (record { key = m; what = Answer row }) [] in omega (arith, c)
 
-  -- each step leaves less
+  -- each step decreases it
   pub falls : (q : BoxOf) (has : ℕ → Ratio → Type 0) (first : Waiting) (heap rest : List Waiting) (found : List (ℕ × Ratio)) (ticks : ℕ) (new : State) → IsPermutation heap (first ∷ rest)
       → ((n : ℕ) → first.what ≡ Node n → IsSpread bs n) → IsAdvanced bs q has first.key first.what (record { heap = rest; found = found; steps = ticks }) new → size bs new.heap < size bs heap
   falls q has first heap rest found ticks new pop spread how = by_what first.what refl spread how

@@ -1,4 +1,4 @@
--- The nearest rows of a list of trips, and what is promised of a search for them.
+-- The nearest rows of a list of trips, and the promises of a search for them.
 use Rattle.std.specs.Prelude.{◌≡◌, ◌⊎◌, ℕ, ◌+◌, ◌<◌, ◌≤◌, ◌==◌, Bool, true, false, cond, ◌&&◌, ◌||◌, List, [], ◌∷◌, ◌++◌, Option, Some, None, Contains, length, nat_lt, slice_get, count_by}
 use Rattle.std.specs.List.{AllByRecursion, flat_map}
 use Rattle.mob_ratio.specs.Ratio.{Ratio}
@@ -20,32 +20,33 @@ use Rattle.mob_gaps.specs.Gaps.{gap_of}
 use Rattle.mob_gaps.specs.declared.kind.Gap.{Gap}
 use Rattle.mob_gaps.specs.declared.kind.Gap.TheVariants.{Apart, AtLeast}
 
--- trips by their rows, of which each may be missing, and what is asked: a moving point or a point
+-- a trip; a row may have none
 abbrev pub Trip : Type 0
 Trip = List (Slice PlaneLine)
 
 abbrev pub Asked : Type 0
 Asked = OperandOf PlaneLine Point
 
--- the trip of this row is there
+-- the row has this trip
 abbrev pub IsTrip : List (Option Trip) → ℕ → Trip → Type 0
 IsTrip trips row trip = slice_get trips row ≡ Some (Some trip)
 
--- it is there, and the square of its nearest approach to what is asked is m
+-- it has one, and the square of its nearest approach to what is asked for is m
 abbrev pub HasApproach : List (Option Trip) → Asked → ℕ → Ratio → Type 0
 HasApproach trips asked row m = (trip : Trip) × IsTrip trips row trip × IsApproach (given_at plane_value_of (Slices trip)) (given_at plane_value_of asked) (Some m)
 
--- a row with its approach is before another one: by the approach, then by the row
+-- a row with its approach is before another: by the approach, then by the row
 abbrev pub nearer : ℕ × Ratio → ℕ × Ratio → Bool
 nearer a b = before a.1 b.1 || (same a.1 b.1 && nat_lt a.0 b.0)
 
--- each is before all that follow
+-- each is before all later ones
 abbrev pub IsRising : List (ℕ × Ratio) → Type 0
 IsRising [] = Unit {0}
 IsRising (r ∷ rs) = AllByRecursion (λ s. nearer r s ≡ true) rs × IsRising rs
 
--- The first k of all rows that have an approach, in this order: each has its approach, they rise,
--- and each row that has one is among them, unless there are k, which are all before it.
+-- The first k of all rows that have an approach, in this order: each has its approach, they are
+-- sorted, and each row with an approach is among them, unless there are k, which all come before
+-- it.
 pub record AreFirstRows (has : ℕ → Ratio → Type 0) (k : ℕ) (rs : List (ℕ × Ratio)) : Type 0 where
   pub each : AllByRecursion (λ r. has r.0 r.1) rs
   pub rising : IsRising rs
@@ -63,14 +64,13 @@ AreNearest trips asked k rs = AreFirstRows (HasApproach trips asked) k rs
 
 -- ---- the index
 
--- an entry for each trip that is there: its box, with the number of its row; the first trip has the
--- number i
+-- an entry for each trip: its box, with the number of its row; the first row has the number i
 abbrev pub AreBoxes : ℕ → List (Option Trip) → List EntryOf → Type 0
 AreBoxes i [] entries = entries ≡ []
 AreBoxes i (None ∷ trips) entries = AreBoxes (i + 1) trips entries
 AreBoxes i (Some trip ∷ trips) entries = (b : BoxOf) × (rest : List EntryOf) × IsBoxOf trip b × (entries ≡ (b, i) ∷ rest) × AreBoxes (i + 1) trips rest
 
--- the entry of one trip stands behind the others, if the trip is there
+-- the entry of one trip is added at the end, if the row has one
 abbrev pub IsBoxPut : Option Trip → ℕ → List EntryOf → List EntryOf → Type 0
 IsBoxPut None row old new = new ≡ old
 IsBoxPut (Some trip) row old new = (b : BoxOf) × IsBoxOf trip b × (new ≡ old ++ (b, row) ∷ [])
@@ -79,15 +79,14 @@ IsBoxPut (Some trip) row old new = (b : BoxOf) × IsBoxOf trip b × (new ≡ old
 abbrev pub AreOfTrips : List (Option Trip) → List EntryOf → Type 0
 AreOfTrips trips held = (entries : List EntryOf) × AreBoxes 0 trips entries × AreSame held entries
 
--- the box of what is asked: of a moving point its own, of a point the point itself, at all times
+-- the box of what is asked for: a moving point's own, or the point itself, at all times
 abbrev pub IsAskedBox : Asked → BoxOf → Type 0
 IsAskedBox (Slices v) b = IsBoxOf v b
 IsAskedBox (Base p) b = b ≡ box_between p p
 
 -- ---- what a search may cost
 
--- how far an answer reaches: to the approach of its last row where it has k rows, else as far as
--- there are any
+-- how far an answer reaches: to the approach of its last row if it has k rows, else without bound
 abbrev pub last_approach : List (ℕ × Ratio) → Option Ratio
 last_approach [] = None
 last_approach (r ∷ []) = Some r.1
@@ -112,9 +111,9 @@ count_within reach q entries = count_by (λ e. lies_within reach (gap_of e.0 q))
 abbrev pub HasFewBelow : (ℕ → Ratio → Type 0) → ℕ → Ratio → Type 0
 HasFewBelow has k g = (near : List ℕ) × (length near < k) × ((row : ℕ) (m : Ratio) → has row m → before m g ≡ true → Contains near row)
 
--- The trip of the row is there, and the first formula of its nearest approach with a part that does
--- not fit is this one. The gap of its box and the box of what is asked is some g, and fewer than k
--- rows have an approach below g.
+-- The row has a trip, and this is the first formula of its nearest approach with a part that does
+-- not fit. The gap between its box and the asked box is some g, and fewer than k rows have an
+-- approach below g.
 pub record IsPassed (trips : List (Option Trip)) (asked : Asked) (k row : ℕ) (formula : Formula) : Type 0 where
   pub trip : Trip
   pub there : IsTrip trips row trip

@@ -15,11 +15,11 @@ use Rattle.mob_knn.specs.declared.waiting.What.TheVariants.{Node, Entry, Answer}
 use Rattle.mob_knn.specs.Nearest.{Trip, Asked, IsTrip}
 use Rattle.mob_knn.specs.Waits.{waits_of}
 
--- what there is, if there is one
+-- the value, if there is one
 abbrev pub IsOnly : (Ratio → Type 0) → Option Ratio → Type 0
 IsOnly has o = MatchOption o ((m : Ratio) → has m → ⊥) has
 
--- a node that waits is reached
+-- a waiting node is reached from the root
 abbrev pub IsReachedIn : List Branch → Option ℕ → What → Type 0
 IsReachedIn bs root (Node n) = IsReachedNode bs root n
 IsReachedIn bs root (Entry row) = Unit {0}
@@ -29,14 +29,14 @@ abbrev pub found_answer : ℕ → Option Ratio → List Waiting
 found_answer row None = []
 found_answer row (Some m) = record { key = m; what = Answer row } ∷ []
 
--- what waits, what was found and how many steps were taken
+-- the waiting items, the rows found, and the number of steps taken
 pub record State : Type 0 where
   pub heap : List Waiting
   pub found : List (ℕ × Ratio)
   pub steps : ℕ
 
--- Such a state comes of another one where `first` was taken out of what waits: a node is opened, an
--- entry looked at, an answer told.
+-- The next state, after `first` is taken: a node is opened, an entry is evaluated, or an answer is
+-- added.
 pub record IsOpened (bs : List Branch) (q : BoxOf) (key : Ratio) (n : ℕ) (old new : State) : Type 0 where
   pub heap : IsPermutation (waits_of key q (children bs n) ++ old.heap) new.heap
   pub found : new.found ≡ old.found

@@ -1,4 +1,4 @@
--- What waits in a search, and in which order it is taken.
+-- The items of a search, and the order in which they are taken.
 use Rattle.std.specs.Prelude.{ℕ, List, [], ◌∷◌}
 use Rattle.std.specs.Cmp.{IsTotalOrder, nat_cmp_total, on_total, back_total, then_total}
 use Rattle.std.specs.List.{flat_map}
@@ -34,20 +34,20 @@ waiting_number (Answer row) = row
 abbrev pub first_cmp : Waiting → Waiting → Ordering
 first_cmp = then_cmp (on (λ w. w.key) compare_ratio) (then_cmp (on (λ w. rank_of w.what) nat_cmp) (on (λ w. waiting_number w.what) nat_cmp))
 
--- the greatest is what is taken first
+-- the greatest is taken first
 abbrev pub waiting_cmp : Waiting → Waiting → Ordering
 waiting_cmp = flip_args first_cmp
 
 pub waiting_total : IsTotalOrder waiting_cmp
 waiting_total = back_total (then_total (on_total (λ w. w.key) ranking_ratio.total) (then_total (on_total (λ w. rank_of w.what) nat_cmp_total) (on_total (λ w. waiting_number w.what) nat_cmp_total)))
 
--- a child of a node as what waits
+-- a child of a node as an item
 abbrev pub what_of : Child → What
 what_of (NodeChild n) = Node n
 what_of (EntryChild row) = Entry row
 
--- what waits for a child of a node of which no approach is below floor: nothing where it is apart
--- from what is asked
+-- the item for a child of a node, below which no approach is less than floor: none if the child is
+-- apart from what is asked for
 abbrev pub waits_by : Ratio → Kid → Gap → List Waiting
 waits_by floor kid Apart = []
 waits_by floor kid (AtLeast g) = record { key = greater floor g; what = what_of kid.1 } ∷ []
@@ -58,13 +58,13 @@ waits_at floor q kid = waits_by floor kid (gap_of kid.0 q)
 abbrev pub waits_of : Ratio → BoxOf → List Kid → List Waiting
 waits_of floor q kids = flat_map (waits_at floor q) kids
 
--- the entries that wait, where these are the boxes of the rows
+-- the waiting entries, if these are the boxes of the rows
 abbrev pub entries_in : List Branch → (ℕ → BoxOf) → What → List EntryOf
 entries_in bs box_at (Node n) = entries_under bs n
 entries_in bs box_at (Entry row) = (box_at row, row) ∷ []
 entries_in bs box_at (Answer row) = []
 
--- the answers that wait
+-- the waiting answers
 abbrev pub answers_at : Waiting → What → List (ℕ × Ratio)
 answers_at w (Node n) = []
 answers_at w (Entry row) = []

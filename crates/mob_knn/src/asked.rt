@@ -1,4 +1,4 @@
-// What is asked: a moving point or a point.
+//! What a search asks for: a moving point or a point.
 ghost use Rattle.std.specs.Prelude.{◌≡◌, true, is_some};
 ghost use Rattle.mob_slice.specs.Sides.{operand_of};
 ghost use Rattle.mob_knn.specs.Nearest.{IsAskedBox};
@@ -17,7 +17,7 @@ pub fn again<'a>(asked: &Operand<'a, PlaneLine>) -> Operand<'a, PlaneLine>
     }
 }
 
-/// The box of an operand; that of a point has no time.
+/// The box of an operand; a point's box has no time.
 pub fn box_of_asked(asked: &Operand<'_, PlaneLine>) -> StBox
     ensures its { IsAskedBox (operand_of asked.now) result }
     ensures space { is_some result.space ≡ true }

@@ -1,4 +1,4 @@
-// The index of trips.
+//! The index of trips.
 ghost use Rattle.std.specs.Prelude.{◌≤◌, IfOk, OnOk, length};
 ghost use Rattle.mob_knn.specs.Nearest.{AreBoxes, AreOfTrips, IsBoxPut};
 
@@ -8,7 +8,7 @@ use mob_stbox::StBox;
 use mob_value::box_of;
 use std::alloc::{AllocError, Global};
 
-// Adds the entry of a trip, if it is there.
+// Adds the entry of a trip, if the row has one.
 fn put_box(
     entries: &mut Vec<(StBox, u32)>,
     trip: &Option<Moving<PlaneLine>>,
@@ -25,7 +25,7 @@ fn put_box(
     }
 }
 
-// An entry for each trip that is there.
+// An entry for each trip.
 fn entries_of(
     alloc: Global,
     trips: &[Option<Moving<PlaneLine>>],
@@ -42,7 +42,8 @@ fn entries_of(
     Ok(entries)
 }
 
-/// The R-tree of the boxes of all trips that are there, each with the number of its row, from 0.
+/// The R-tree of the boxes of all trips, each with the number of its row, from 0. The only error is
+/// a failed allocation.
 pub fn index_of(alloc: Global, trips: &[Option<Moving<PlaneLine>>]) -> Result<RTree, AllocError>
     requires few { length trips.now ≤ 1000000 }
     ensures entries { IfOk result (λ tree. AreOfTrips trips.now tree.entries) }

@@ -1,9 +1,9 @@
 //! The trips that come nearest to a point or a moving point, by a best-first search of an R-tree.
 //!
 //! The search is that of Hjaltason and Samet, "Distance Browsing in Spatial Databases" (TODS 1999).
-//! A heap holds nodes, entries and found rows by a lower bound of their approach. The least is
-//! taken first, so the approach of a trip is computed only where its gap is not above the last
-//! answer's approach.
+//! A heap holds nodes, entries and found rows by a lower bound of their approach, and the least is
+//! taken first. So the approach of a trip is computed only if its gap is at most the approach of
+//! the last answer.
 #![tactic(auto)]
 
 mod asked;

@@ -1,4 +1,4 @@
-// The search.
+//! The search.
 ghost use Rattle.std.specs.Prelude.{◌≡◌, ℕ, ◌<◌, ◌+◌, ◌≤◌, ◌++◌, ◌∷◌, [], IfOk, IfErr, OnOk, Option};
 ghost use Rattle.std.specs.List.Sorted.{IsPermutation};
 ghost use Rattle.mob_list.specs.Faults.{OnCause};
@@ -58,7 +58,7 @@ fn tell(found: &mut Vec<(u32, Frac)>, row: u32, approach: Frac) -> Result<(), Ne
     Ok(found.push((row, approach))?)
 }
 
-// One step for what the heap gave first: opens a node, computes the approach of an entry, or adds
+// One step for the first item of the heap: opens a node, computes the approach of an entry, or adds
 // an answer.
 fn advance<L: Ledger>(
     alloc: Global,
@@ -84,7 +84,7 @@ fn advance<L: Ledger>(
     }
 }
 
-// The nearest rows, with the box of what is asked.
+// The nearest rows, given the box of what is asked for.
 fn search<L: Ledger>(
     alloc: Global,
     tree: &RTree,
@@ -124,15 +124,15 @@ fn search<L: Ledger>(
     Ok(found)
 }
 
-/// The `k` rows whose trips come nearest to what is asked, from 0, each with the square of its
-/// nearest approach, ordered by approach and then by row. Rows without an approach are left out, so
-/// there may be fewer than `k`. The entries of the tree are the boxes of the trips that are there,
-/// with their rows, as `index_of` makes them.
+/// The `k` rows whose trips come nearest to `asked`, by their numbers from 0, each with the square
+/// of its nearest approach, ordered by approach and then by row. Rows without an approach are left
+/// out, so there may be fewer than `k`. The entries of the tree are the boxes of the trips with
+/// their rows, as `index_of` makes them.
 ///
-/// A step is one call of `approach_squared`. There is at most one for each row whose gap is not
-/// above the last answer's approach, or for each row that is not apart from what is asked where
-/// there are fewer than `k` answers. `Passed` comes only from a row with a part that does not fit,
-/// where fewer than `k` rows have an approach below that row's gap.
+/// A step is one call of `approach_squared`. There is at most one for each row whose gap is at most
+/// the last answer's approach, or, if there are fewer than `k` answers, for each row that is not
+/// apart from `asked`. `Passed` comes only from a row with a part that does not fit, if fewer than
+/// `k` rows have an approach below that row's gap. `NoMemory` comes if an allocation fails.
 pub fn nearest<L: Ledger>(
     alloc: Global,
     tree: &RTree,

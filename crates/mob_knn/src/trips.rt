@@ -1,4 +1,4 @@
-// The approach of one row.
+//! The approach of one row.
 ghost use Rattle.std.specs.Prelude.{IfOk, IfErr, Some, MatchOption};
 ghost use Rattle.std.specs.List.{flat_map};
 ghost use Rattle.mob_slice.specs.Entries.{IsFirst};
@@ -27,7 +27,7 @@ fn trip_approach(
     approach_squared(alloc, Operand::Moving(trip), again(asked))
 }
 
-// The trip of a row, if it is there.
+// The trip of a row, if it has one.
 fn trip_at(trips: &[Option<Moving<PlaneLine>>], row: u32) -> Option<&Moving<PlaneLine>>
     ensures there { MatchOption result ((trip : Trip) → IsTrip trips.now row trip → ⊥) (λ trip. IsTrip trips.now row trip.now) }
 {
@@ -41,7 +41,8 @@ fn trip_at(trips: &[Option<Moving<PlaneLine>>], row: u32) -> Option<&Moving<Plan
     }
 }
 
-/// The square of the nearest approach of the trip of a row, if there is one.
+/// The square of the nearest approach of the trip of a row, if there is one. `Passed` has its first
+/// formula with a part that does not fit.
 pub fn row_approach(
     alloc: Global,
     trips: &[Option<Moving<PlaneLine>>],

@@ -1,4 +1,4 @@
-// What waits in the heap of a search, and the order in which it is taken.
+//! The items in the heap of a search, and the order in which they are taken.
 ghost use Rattle.std.specs.Prelude.{◌≡◌, ◌∷◌, ◌++◌, OnOk, IfErr};
 ghost use Rattle.std.proofs.Common.{rules};
 ghost use Rattle.std.specs.BinaryHeap.{heap_items, KeepsHeap};
@@ -22,7 +22,7 @@ use std::alloc::Global;
 use std::cmp::Ordering;
 use std::collections::BinaryHeap;
 
-/// What waits.
+/// The kind of an item.
 #[derive(Clone, Copy, Drop)]
 pub enum What {
     /// A node of the tree.
@@ -33,18 +33,18 @@ pub enum What {
     Answer(u32),
 }
 
-/// What waits, with its key.
+/// An item with its key.
 #[derive(Clone, Copy, Drop)]
 pub struct Waiting {
     /// A lower bound of all approaches below a node or of an entry; the approach of an answer.
     pub key: Frac,
-    /// What waits.
+    /// Its kind.
     pub what: What,
 }
 
 impl What {
-    // Of what has the same key answers come last, so every row that may have the same approach is
-    // known by then.
+    // Among equal keys answers come last, so every row that may have the same approach is known by
+    // then.
     fn rank(&self) -> u8
         ensures value { result ≡ rank_of self.now }
     {
@@ -102,7 +102,7 @@ impl Ord for Waiting {
 
     ghost matches_eq = { Prim.search (comparing, rules) };
 
-    /// A heap takes the greatest first: here the one with the least key.
+    /// A heap takes the greatest first, so the least key compares as greatest.
     fn cmp(&self, other: &Waiting) -> Ordering {
         let by_rank = other.what.rank().cmp(&self.what.rank());
         let by_number = other.what.number().cmp(&self.what.number());
@@ -120,7 +120,7 @@ impl PartialOrd for Waiting {
     }
 }
 
-// A child of a node as what waits.
+// A child of a node as an item.
 fn what_of(child: &Child) -> What
     ensures value { result ≡ what_of child.now }
 {
@@ -130,7 +130,7 @@ fn what_of(child: &Child) -> What
     }
 }
 
-/// Pushes one more onto the heap.
+/// Pushes one more item onto the heap.
 pub fn wait(heap: &mut BinaryHeap<Waiting>, key: Frac, what: What) -> Result<(), NearFault>
     ensures more { OnOk result (IsPermutation (record { key = key; what = what } ∷ heap_items heap.old) (heap_items heap.new)) }
     ensures order { OnOk result (KeepsHeap waiting_cmp (heap_items heap.old) (heap_items heap.new)) }

@@ -1,4 +1,4 @@
--- What an aggregate makes of values of the type that it takes.
+-- The result of an aggregate on values of the type that it takes.
 use Rattle.std.proofs.Common.{◌≡◌, ◌∙◌, refl, sym, ap, subst, inl, inr, arith, true≢false, ℕ, ℤ, suc, ◌+◌, pos, nat_abs, List, [], ◌∷◌, length, map, Bool, true, false, not, cond, Option, Some, None, Ok}
 use Rattle.std.specs.Prelude.{◌⊎◌, ◌↔◌, ◌++◌, MatchOption, is_some, nat_eq, option_and_then, option_map, slice_get}
 use Rattle.std.specs.List.{AllByRecursion, AllZip, flat_map}
@@ -48,7 +48,7 @@ use Rattle.mob_laws.specs.ExpressionTypes.{HasItsType, TypedExpressionsHaveTheir
 use Rattle.mob_laws.proofs.ExpressionTypes.{leaf_of_type, null_of}
 
 -- ---- lists of values
--- what holds of each value that is not NULL holds of those that are left
+-- what holds for each value that is not NULL holds for those that are left
 known_all : (P : Value → Type 0) (vs : List Value) → AllByRecursion (λ v. (v ≡ Null) ⊎ P v) vs → AllByRecursion P (known_of vs)
 known_all P [] h = tt
 known_all P (v ∷ vs) (inl e, h) = subst (λ w. AllByRecursion P (known_of (w ∷ vs))) (sym e) (known_all P vs h)
@@ -67,7 +67,7 @@ numbers_known [] h = refl
 numbers_known (v ∷ vs) (inl e, h) = subst (λ w. map Number (numbers_of (w ∷ vs)) ≡ known_of (w ∷ vs)) (sym e) (numbers_known vs h)
 numbers_known (v ∷ vs) (inr n, h) = subst (λ w. map Number (numbers_of (w ∷ vs)) ≡ known_of (w ∷ vs)) (sym n.1) (ap (λ z. Number n.0 ∷ z) (numbers_known vs h))
 
--- there is no number exactly where each value is NULL
+-- there are no numbers exactly if each value is NULL
 none_null : (vs : List Value) → AllByRecursion IsNumber vs → numbers_of vs ≡ [] → AllByRecursion (λ v. v ≡ Null) vs
 none_null [] h e = tt
 none_null (v ∷ vs) (inl n, h) e = (n, none_null vs h (subst (λ w. numbers_of (w ∷ vs) ≡ []) n e))
@@ -109,7 +109,7 @@ one_seen None = refl
 one_seen (Some x) = refl
 
 module _ {B : Type 0} (there : Value → Ratio → Option B) where
-  -- at an instant there is nothing exactly where no value is there
+  -- at an instant there is nothing exactly if no value exists there
   missing_none : (vs : List Value) (t : Ratio) → AllByRecursion (IsThereBy there) vs → AllByRecursion (λ v. is_there t v ≡ false) vs → values_at there vs t ≡ []
   missing_none [] t h k = refl
   missing_none (v ∷ vs) t h k = ap (λ o. put_there o (values_at there vs t)) (nothing_there (there v t) (h.0 t ∙ k.0)) ∙ missing_none vs t h.1 k.1
@@ -122,7 +122,7 @@ module _ {B : Type 0} (there : Value → Ratio → Option B) where
       by None s k rest = (sym s, rest k)
       by (Some x) s k rest = absurd (cc)
 
-  -- what holds of what each value has holds of all that is there at an instant
+  -- what holds for each value there holds for all that exists at an instant
   each_there : (Q : B → Type 0) (vs : List Value) (t : Ratio) → AllByRecursion (λ v. (x : B) → there v t ≡ Some x → Q x) vs → AllByRecursion Q (values_at there vs t)
   each_there Q [] t h = tt
   each_there Q (v ∷ vs) t h = by (there v t) refl (each_there Q vs t h.1)
@@ -132,7 +132,7 @@ module _ {B : Type 0} (there : Value → Ratio → Option B) where
       by (Some x) e rest = (h.0 x e, rest)
 
   module _ {C Z : Type 0} (course : CourseOf C Z) (make : List (Slice C) → Value) (f : List B → Z) (makes : (m : List (Slice C)) → make m ≡ Null → ⊥) where
-    -- a normal value has something at some instant
+    -- a normal value is defined at some instant
     instant_of : (m : List (Slice C)) → AreNormalBy course m → (t : Ratio) × (x : Z) × (value_at course.value m t ≡ Some x)
     instant_of [] n = absurd (n.some refl)
     instant_of (s ∷ m) n =
@@ -156,7 +156,7 @@ module _ {B : Type 0} (there : Value → Ratio → Option B) where
 
 -- ---- the values of a type
 module _ (vs : List Value) where
-  -- what holds of NULL and of each form of a type holds of each value
+  -- what holds for NULL and for each form of a type holds for each value
   each_of : (a : SqlType) (P : Value → Type 0) → P Null → OnForms a P → AllByRecursion (IsValueOf a) vs → AllByRecursion P vs
   each_of a P null forms h = each_on (IsValueOf a) P (by_type a P null forms) vs h
 

@@ -1,4 +1,4 @@
--- Scripts that differ in CREATE INDEX statements alone load the same program.
+-- Scripts that differ only in CREATE INDEX statements load the same program.
 use Rattle.std.proofs.Common.{◌≡◌, ◌∙◌, refl, sym, ap, ap₂, subst, ℕ, ℤ, ◌+◌, Bool, true, false, List, [], ◌∷◌, ◌++◌, append_assoc, append-nil, map, Option, Some, None, Ok, Err, nat_lt}
 use Rattle.std.specs.Prelude.{Result}
 use Rattle.std.specs.List.{AllZip, flat_map}
@@ -28,7 +28,7 @@ bare_checks cs = flat_map bare_check cs
 abbrev bare_points : List Checkpoint → List CheckParts
 bare_points ms = flat_map (λ (m : Checkpoint). bare_check m.check) ms
 
--- what the checks of a statement are, its number and its places aside
+-- the checks of a statement, without its number and its places
 abbrev checks_in : StatementOut → List CheckParts
 checks_in s = bare_points (checkpoints_of 0 s)
 
@@ -81,7 +81,7 @@ statements_same n (s ∷ ss) =
 checks_bare : (out : ScriptOut) → bare_checks (checks_of out) ≡ flat_map checks_in (without_indexes out.statements)
 checks_bare out = order_bare (checkpoints_from 1 out.statements) out.consts ∙ statements_same 1 out.statements
 
--- ---- what is loaded beside the literals
+-- ---- what is loaded besides the literals
 
 abbrev unread : Loaded → Loaded
 unread l = record l { values = [] }
@@ -112,7 +112,7 @@ module _ (day : ℤ) (files : Contents) where
   loads_bare [] l m h = let same : m ≡ l = cc h in ap (λ (k : Loaded). Ok (unread k)) same
   loads_bare (c ∷ cs) l m h = check_bare c cs l m h.0 h.1 h.2 (λ k goes. loads_bare cs k m goes)
 
-  -- what is loaded of two scripts beside the literals
+  -- what is loaded from two scripts besides the literals
   files_alike : HasOneLoading → (out others : ScriptOut) (l m : Loaded) → without_indexes out.statements ≡ without_indexes others.statements → Loads day files (checks_of out) nothing_loaded (Ok l) → Loads day files (checks_of others) nothing_loaded (Ok m) → l.files ≡ m.files
   files_alike one out others l m same h k =
       let checks : bare_checks (checks_of others) ≡ bare_checks (checks_of out) = checks_bare others ∙ ap (λ (ss : List StatementOut). flat_map checks_in ss) (sym same) ∙ sym (checks_bare out) in

@@ -1,4 +1,4 @@
--- Runs that differ in indexes alone, statement by statement.
+-- Runs that differ only in indexes, statement by statement.
 use Rattle.std.proofs.Common.{◌≡◌, ◌∙◌, refl, sym, ap, ap₂, subst, ℕ, ℤ, List, [], ◌∷◌, ◌++◌, map, Ok}
 use Rattle.mob_value.specs.declared.value.Value.{Value}
 use Rattle.mob_typed.specs.Selects.{TypedSelectParts}
@@ -17,7 +17,7 @@ use Rattle.mob_laws.specs.IndexScripts.{Answered, answer_in, unplaced_select, un
 use Rattle.mob_laws.proofs.Unplaced.{kept_alike}
 use Rattle.mob_laws.proofs.UnplacedAnswers.{answers_alike, names_same}
 
--- ---- where a run stands, its indexes aside
+-- ---- the state of a run, without its indexes
 
 abbrev bare_catalogue : Catalogue → Catalogue
 bare_catalogue c = record c { indexed = []; index_names = [] }
@@ -32,9 +32,9 @@ rows_bare : (n : ℕ) (rows : List (List Value)) (c : Catalogue) → bare_catalo
 rows_bare n [] c = refl
 rows_bare n (row ∷ rows) c = rows_bare n rows (with_row n row c)
 
--- ---- a statement, its places and the indexes aside
+-- ---- a statement, without its places and the indexes
 
--- some query that is this one but for places keeps these tuples on a catalogue that is this one but
+-- some query that is equal except for places keeps these tuples on a catalogue that is equal except
 -- for indexes
 record SomeKept (day : ℤ) (bare : Catalogue) (q : TypedSelectParts) (kept : List (List ℕ)) : Type 0 where
   own : TypedSelectParts
@@ -43,7 +43,7 @@ record SomeKept (day : ℤ) (bare : Catalogue) (q : TypedSelectParts) (kept : Li
   indexed : bare_catalogue catalogue ≡ bare
   keeps : IsKept own catalogue day (Ok kept)
 
--- and so it has these rows for its answer
+-- and so it has the answer with these rows
 record SomeAnswer (day : ℤ) (bare : Catalogue) (q : TypedSelectParts) (rows : List (List (List ℕ))) : Type 0 where
   own : TypedSelectParts
   catalogue : Catalogue
@@ -89,7 +89,7 @@ abbrev BareRun : ℤ → RunState → List StatementOut → List (List ℕ) → 
 BareRun day s [] answers = answers ≡ []
 BareRun day s (x ∷ xs) answers = (t : RunState) × (here : List (List ℕ)) × (rest : List (List ℕ)) × BareStep day s x t here × BareRun day t xs rest × (answers ≡ here ++ rest)
 
--- a statement that leaves a run where it was, but for indexes, and has no answer
+-- a statement that changes only indexes in a run, and has no answer
 passed : (day : ℤ) (s t : RunState) (xs : List StatementOut) (rest answers : List (List ℕ)) → bare_state t ≡ bare_state s → answers ≡ rest → BareRun day (bare_state t) xs rest → BareRun day (bare_state s) xs answers
 passed day s t xs rest answers left is h = subst (λ (u : RunState). BareRun day u xs answers) left (subst (BareRun day (bare_state t) xs) (sym is) h)
 
@@ -122,7 +122,7 @@ module _ (one : HasOneQueryAnswer) (day : ℤ) where
       let rest = one_run xs k.0 h.2 k.2 (subst (λ (t : RunState). BareRun day t xs h.2) first.0 h.4) k.4 in
       h.5 ∙ ap₂ (λ (c d : List (List ℕ)). c ++ d) first.1 rest ∙ sym k.5
 
-  -- runs of statements that differ in CREATE INDEX alone have the same answers
+  -- runs of statements that differ only in CREATE INDEX have the same answers
   pub answered_alike : (xs ys : List StatementOut) (s : RunState) (a b : List (List ℕ)) → without_indexes xs ≡ without_indexes ys → Answered day s xs a → Answered day s ys b → a ≡ b
   answered_alike xs ys s a b same h k =
       let other : BareRun day (bare_state s) (without_indexes xs) b = subst (λ (zs : List StatementOut). BareRun day (bare_state s) zs b) (sym same) (run_bare day ys s b k) in

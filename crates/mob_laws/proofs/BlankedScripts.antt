@@ -1,4 +1,4 @@
--- A script without its CREATE INDEX statements is typed as it is with them.
+-- A script is typed without its CREATE INDEX statements as it is with them.
 use Rattle.std.proofs.Common.{◌≡◌, ◌∙◌, refl, ap, subst, ℕ, ◌+◌, List, [], ◌∷◌, ◌++◌, map, not, length, nat_le, Ok, Err}
 use Rattle.std.specs.Prelude.{Option, Result}
 use Rattle.mob_ast.specs.declared.refusal.Kind.TheVariants as kind
@@ -22,7 +22,7 @@ use Rattle.mob_typing.specs.Statements.{Made, asked, copied, in_statement, good_
 use Rattle.mob_laws.specs.IndexScripts.{beside_indexes, unplaced_literal, without_indexes}
 use Rattle.mob_laws.specs.BlankedScripts.{BlankedScriptsAreAccepted, blanked}
 
--- ---- one after the other
+-- ---- one after another
 
 abbrev mapped : {A B E : Type 0} → (A → B) → Result A E → Result B E
 mapped f (Ok x) = Ok (f x)
@@ -32,7 +32,7 @@ goes_on : {A B : Type 0} (h : B → B) (r : Result A Mistake) (f g : A → Resul
 goes_on h (Ok x) f g each = each x
 goes_on h (Err e) f g each = refl
 
--- what came before an answer
+-- what comes before an answer
 record Behind {A B : Type 0} (r : Result A Mistake) (f : A → Result B Mistake) (y : B) : Type 0 where
   x : A
   here : r ≡ Ok x
@@ -109,14 +109,14 @@ module _ (indexes : List (List ℕ)) (names : NameLists) where
 
 -- ---- scripts
 
--- the script of the statements without those that make indexes
+-- the script of the statements that do not make indexes
 record IsAlike (n : ℕ) (names : NameLists) (ss : List StatementParts) (cs : List ConstText) (out : ScriptOut) : Type 0 where
   others : ScriptOut
   typed : typed_from n names (map blanked ss) cs ≡ Ok others
   statements : without_indexes out.statements ≡ without_indexes others.statements
   literals : out.consts ≡ others.consts
 
--- what a statement and the others behind it are
+-- the parts of a statement and the later ones
 record Parts (n : ℕ) (names : NameLists) (s : StatementParts) (ss : List StatementParts) (cs : List ConstText) (out : ScriptOut) : Type 0 where
   first : Made × List ConstText
   rest : ScriptOut

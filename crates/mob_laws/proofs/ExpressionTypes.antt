@@ -51,8 +51,8 @@ use Rattle.mob_shell.specs.StoredTypes.{QueriesAreTyped}
 use Rattle.mob_laws.specs.ExpressionTypes.{HasItsType, RunExpressionsHaveTheirTypes, TypedExpressionsHaveTheirTypes}
 
 -- ---- the line that answers
--- what holds of each operator of each line, on the types that the line takes, holds of what the
--- table answers
+-- what holds for each operator of each line, on the types that the line takes, holds for the
+-- answers of the table
 module _ (P : Op → SqlType → List SqlType → Type 0) (form : Form) (name : List ℕ) (ts : List SqlType) (literal : Bool) (o : Op) (ty : SqlType) where
   abbrev LineHas : Line → Type 0
   LineHas l = (us : List SqlType) (lit : Bool) (t : SqlType) → takes l us lit ≡ true → given l.gives us ≡ Some t → AllByRecursion (λ (n : List ℕ × Op). P n.1 t us) l.names
@@ -167,7 +167,7 @@ read_of ty v h = by (is_of_type ty v)
     by true = h
     by false = null_of ty
 
--- where there is a value, it is of the type
+-- if there is a value, it is of the type
 abbrev HoldsOf : SqlType → Option Value → Type 0
 HoldsOf ty o = (v : Value) → o ≡ Some v → IsValueOf ty v
 
@@ -217,7 +217,7 @@ module _ (k : ℕ) (ty : SqlType) where
   in_place heads tables None o h is = absurd (cc)
   in_place heads tables (Some t) o h is = in_tables heads tables t o h is
 
--- a leaf, on whatever tuple
+-- a leaf, on any tuple
 module _ (c : Catalogue) (typed_rows : HoldsTypedTables c) (from tuple : List ℕ) (day : ℤ) where
   pub leaf_of_type : (o : Op) (ty : SqlType) → HasStoredType c from o ty → IsValueOf ty (leaf_value (scene c.store from tuple day) o ty)
   leaf_of_type (op.Const k) ty h = stored_of ty (slice_get c.store.consts k) (λ v e. let value : h.0 ≡ v = cc (sym h.1 ∙ e) in subst (IsValueOf ty) value h.2)
@@ -282,7 +282,7 @@ module _ (rows : RowsHaveMeanings) (casts : CastsHaveMeanings) (settled : Settle
     divides (more a none) vs d has = absurd d
     divides (more a (more b (more e ts))) vs d has = absurd d
 
-    -- AND and OR: one operand that settles them, or two
+    -- AND and OR: one operand that decides them, or two
     module _ (o : Op) (stop : Bool) (is : stop_of o ≡ Some stop) where
       by_two : (ty : SqlType) (a b : TypedTree) → ty ≡ sql.Bool → type_of a ≡ sql.Bool → type_of b ≡ sql.Bool → HasMeaning o ty (type_of a ∷ type_of b ∷ []) → ((vs : List Value) → DividesByOther o vs) → HasItsType here a → HasItsType here b
           → (vs : List Value) (v : Value) → OperandsHaveValues here (stop_of o) (more a (more b none)) vs → OperatorGives here o ty (type_of a ∷ type_of b ∷ []) vs v → IsValueOf ty v

@@ -1,4 +1,4 @@
--- Two scripts of which the second makes an index.
+-- Two scripts, the second of which makes an index.
 use Rattle.std.proofs.Common.{refl, codes, false, ℕ, [], ◌∷◌, None, Some}
 use Rattle.mob_ast.specs.declared.types.SqlType.TheVariants.{Int, TPoint}
 use Rattle.mob_operators.specs.declared.operator.Op.TheVariants as op
@@ -7,7 +7,7 @@ use Rattle.mob_typed.specs.Selects.{TypedSelectParts}
 use Rattle.mob_typed.specs.Statements.{ScriptOut, new_index, new_rows, new_table, nothing, query}
 use Rattle.mob_laws.specs.IndexScripts.{DifferInIndexStatements}
 
--- SELECT id FROM t, where `id` stands at this place
+-- SELECT id FROM t, with `id` at this place
 abbrev selects : ℕ → TypedSelectParts
 selects place = record {
   distinct = false;

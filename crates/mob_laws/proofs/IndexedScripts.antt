@@ -1,4 +1,4 @@
--- Scripts that differ in CREATE INDEX statements alone have the same answers.
+-- Scripts that differ only in CREATE INDEX statements have the same answers.
 use Rattle.std.proofs.Common.{◌≡◌, ◌∙◌, refl, sym, ap, subst, ℕ, ℤ, List, [], ◌∷◌, ◌++◌, map, Ok}
 use Rattle.std.specs.List.{AllByRecursion, concat}
 use Rattle.mob_typed.specs.Statements.{ScriptOut, StatementOut, nothing, new_index, deletion, query, plan_of}
@@ -16,16 +16,16 @@ use Rattle.mob_laws.specs.IndexScripts.{Answered, DifferInIndexStatements, HasNo
 use Rattle.mob_laws.proofs.BareLoads.{program_alike}
 use Rattle.mob_laws.proofs.BareRuns.{answered_alike}
 
--- ---- the answers in what is written
+-- ---- the answers in the text
 
--- what a statement writes that is no EXPLAIN
+-- the text of a statement that is not an EXPLAIN
 written_in : (day : ℤ) (s : RunState) (x : StatementOut) (text : List ℕ) → IsNoExplain x → StatementWrites day s x text → (rest : List (List ℕ)) → text ++ concat rest ≡ concat (answer_in x text ++ rest)
 written_in day s (query q) text none h rest = refl
 written_in day s (plan_of q) text none h rest = absurd none
 written_in day s (deletion q) text none h rest = ap (λ (t : List ℕ). t ++ concat rest) h
 written_in day s _ text none h rest = ap (λ (t : List ℕ). t ++ concat rest) h
 
--- the answers of statements that ran, and their text where none of them is an EXPLAIN
+-- the answers of statements that ran, and their text if none of them is an EXPLAIN
 record HasAnswers (day : ℤ) (s : RunState) (xs : List StatementOut) (text : List ℕ) : Type 0 where
   answers : List (List ℕ)
   answered : Answered day s xs answers
@@ -41,7 +41,7 @@ answers_of day (x ∷ xs) s t text h =
       whole = λ none. h.5 ∙ ap (λ (r : List ℕ). h.1 ++ r) (rest.whole none.1) ∙ written_in day s x h.1 none.0 h.3.writes rest.answers;
     }
 
--- without EXPLAIN, also with other CREATE INDEX statements
+-- without EXPLAIN, also for other CREATE INDEX statements
 none_bare : (xs : List StatementOut) → AllByRecursion IsNoExplain xs → AllByRecursion IsNoExplain (without_indexes xs)
 none_bare [] h = h
 none_bare (nothing ∷ xs) h = none_bare xs h.1
@@ -69,7 +69,7 @@ module _ (script : HasOneScript) where
       )
 
   module _ (meaning : ConstantsHaveOneMeaning) (read : LoadedIsRead) (values : ProgramHasValues) (loading : HasOneLoading) (one : HasOneQueryAnswer) where
-    -- on one day, of accepted scripts over the same files
+    -- for one day, accepted scripts and the same files
     scripts_alike : (day : ℤ) (files : Contents) (out others : ScriptOut) (p q : Program) (a b : List (List ℕ)) → DifferInIndexStatements out others → LoadsScript day files out (Ok p) → LoadsScript day files others (Ok q) → Answered day (begin p) out.statements a → Answered day (begin q) others.statements b → a ≡ b
     scripts_alike day files out others p q a b differ loads loaded h k =
         let same : p ≡ q = program_alike meaning read values loading day files out others p q differ loads loaded in

@@ -1,7 +1,7 @@
--- A worked example of what a query keeps. Two tables have two rows each, and the second is
--- left-joined. ON is true of the row 1 of the first table with the row 0 of the second, and of no
--- others; WHERE is true where the row of the first table is 0. The tuples are (0, no row) and
--- (1, 0), and the first of them is kept.
+-- A worked example of the tuples that a query keeps. Two tables have two rows each, and the second
+-- is left-joined. ON is true for the row 1 of the first table with the row 0 of the second, and for
+-- no others; WHERE is true if the row of the first table is 0. The tuples are (0, no row) and (1,
+-- 0), and the first of them is kept.
 use Rattle.std.proofs.Common.{◌≡◌, ◌∙◌, ◌==◌, ◌&&◌, arith, inl, inr, refl, sym, ap, subst, get_or, zero, suc, ℕ, true, Option, Some, None, List, [], ◌∷◌, ◌++◌, slice_get, take}
 use Rattle.mob_tuples.specs.Tuples.{StandsIn, no_row}
 use Rattle.mob_tuples.specs.Visits.{Conditions, Meeting, on_at}
@@ -24,7 +24,7 @@ two table = 0 ∷ 1 ∷ []
 abbrev IsPair : List ℕ → Type 0
 IsPair tuple = IsTupleOfFrom second_joined met two (7 ∷ 8 ∷ []) tuple
 
--- the row 0 of the first table stands with no row of the second
+-- the row 0 of the first table has no row of the second
 alone : IsPair (0 ∷ no_row ∷ [])
 alone = record { count = refl; entries = entries }
   where

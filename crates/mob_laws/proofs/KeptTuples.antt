@@ -1,4 +1,4 @@
--- Tuples that are kept are of rows that are there.
+-- Kept tuples consist of live rows.
 use Rattle.std.proofs.Common.{◌≡◌, ◌+◌, arith, inl, inr, refl, subst, suc, ℕ, ℤ, Bool, true, false, List, [], ◌∷◌, Some, length, slice_get}
 use Rattle.std.specs.Prelude.{Option, is_some}
 use Rattle.mob_typed.specs.Selects.{TypedSelectParts, on_of}
@@ -10,7 +10,7 @@ use Rattle.mob_join.proofs.Members.{each_standing}
 use Rattle.mob_shell.specs.ReadAsStored.{AreLiveRows, IsLiveRow, IsLiveTuple}
 use Rattle.mob_laws.specs.KeptTuples.{KeptTuplesAreLive}
 
--- an entry of a tuple is a row that is there, or no row of a left-joined table
+-- an entry of a tuple is a live row, or no row of a left-joined table
 entry_live : (c : Catalogue) (joins : List (Option TypedTree)) (place table entry : ℕ) (OnIsTrue : ℕ → Type 0) → IsEntryOf (is_some (on_of joins place)) OnIsTrue (live_rows c table) entry → IsLiveRow c joins place table entry
 entry_live c joins place table entry OnIsTrue h = by (is_some (on_of joins place)) refl h
   where

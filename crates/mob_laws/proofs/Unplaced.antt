@@ -1,4 +1,4 @@
--- Places change no value of an expression, and none of what a query keeps.
+-- Places change no value of an expression, and none of the tuples that a query keeps.
 use Rattle.std.proofs.Common.{◌≡◌, ◌∙◌, ◌⊎◌, refl, sym, ap, ap₂, subst, ℕ, zero, suc, ℤ, Bool, true, false, List, [], ◌∷◌, map, Option, Some, None, Ok}
 use Rattle.std.specs.Prelude.{is_some, option_and_then, option_map, slice_get}
 use mathlib.Core.Path.{transport}
@@ -53,7 +53,7 @@ evaluated_bare s e v h = transport (evaluated_same s e v) h
 
 -- ---- conditions
 
--- of optional things, the one of a number is changed as each is
+-- the entry of this number, of optional things, changes as each does
 pub picked_same : {A B : Type 0} (f : A → B) (os : List (Option A)) (n : ℕ) → option_map f (option_and_then (λ o. o) (slice_get os n)) ≡ option_and_then (λ o. o) (slice_get (map (option_map f) os) n)
 picked_same f [] n = refl
 picked_same f (o ∷ os) zero = refl
@@ -77,9 +77,9 @@ joined_same q place = there_same unplaced (on_of q.joins place) ∙ ap (λ (o : 
 conditions_same : (q : TypedSelectParts) → conditions q ≡ conditions (unplaced_select q)
 conditions_same q = λ i. record { joined = λ place. joined_same q place i; filtered = there_same unplaced q.cond i }
 
--- ---- what is kept
+-- ---- the kept tuples
 
--- of which visits the condition is true, on a store
+-- the visits for which the condition is true, on a store
 abbrev meets : TypedSelectParts → Store → ℤ → Meeting
 meets q store day visit = IsMet (condition_at q visit.on) (scene store q.from visit.tuple day)
 
@@ -88,7 +88,7 @@ meets_same q store day visit =
     let s : Scene = scene store q.from visit.tuple day in
     met_same (condition_at q visit.on) s ∙ ap (λ (e : Option TypedTree). IsMet e s) (condition_same q visit.on)
 
--- the tuples on which WHERE is true, by the rows of the tables that are there
+-- the tuples for which WHERE is true, by the live rows of the tables
 abbrev MeetBy : Conditions → Meeting → List ℕ → List TableHead → List (List ℕ) → Type 0
 MeetBy c M from heads kept = AreThoseThatMeet c M (live_of heads) from kept
 
@@ -98,8 +98,8 @@ MeetOn day kept q store heads = MeetBy (conditions q) (meets q store day) q.from
 kept_same : (day : ℤ) (kept : List (List ℕ)) (q : TypedSelectParts) (store : Store) (heads : List TableHead) → MeetOn day kept q store heads ≡ MeetOn day kept (unplaced_select q) store heads
 kept_same day kept q store heads = λ i. MeetBy (conditions_same q i) (λ visit. meets_same q store day visit i) q.from heads kept
 
--- queries that differ in places, over catalogues that differ in indexes, keep the same where both
--- have no fault
+-- queries that differ in places, over catalogues that differ in indexes, keep the same tuples if
+-- neither has a fault
 pub kept_alike : (day : ℤ) (p q : TypedSelectParts) (c d : Catalogue) (kept others : List (List ℕ)) → unplaced_select p ≡ unplaced_select q → DifferInIndexes c d → IsKept p c day (Ok kept) → IsKept q d day (Ok others) → kept ≡ others
 kept_alike day p q c d kept others same differ h k =
     let bare : MeetOn day others (unplaced_select q) d.store d.heads = transport (kept_same day others q d.store d.heads) k.1 in

@@ -70,7 +70,7 @@ module _ (q : TypedSelectParts) (store : Store) (day : ℤ) where
   answer_bare : (kept : List (List ℕ)) (answer : List (List (List ℕ))) → IsAnswerOnKept q store day kept (Ok answer) → IsAnswerOnKept bare store day kept (Ok answer)
   answer_bare kept answer h = answer_by q.grouped kept answer h
 
--- queries that differ in places, over catalogues that differ in indexes, have the same answer where
+-- queries that differ in places, over catalogues that differ in indexes, have the same answer if
 -- both have one
 pub answers_alike : HasOneQueryAnswer → (day : ℤ) (p q : TypedSelectParts) (c d : Catalogue) (rows others : List (List (List ℕ))) → unplaced_select p ≡ unplaced_select q → DifferInIndexes c d → QueryAnswers p c day (Ok rows) → QueryAnswers q d day (Ok others) → rows ≡ others
 answers_alike one day p q c d rows others same differ h k =

@@ -76,7 +76,7 @@ argument_kind _ s e v h = evaluated_bare s e v h
 abbrev at_place : ℕ → Formula → Fault
 at_place place formula = (place, formula)
 
--- what is added without a fault has none at another place
+-- adding without a fault has none at another place
 no_fault : (place : ℕ) (g : Option Formula) → None ≡ option_map (at_place place) g → None ≡ option_map (at_place 0) g
 no_fault place None h = refl
 no_fault place (Some x) h = absurd cc

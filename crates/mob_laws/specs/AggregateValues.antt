@@ -1,7 +1,7 @@
--- What the aggregates of a grouped query make of the values of their arguments.
+-- The results of the aggregates of a grouped query on the values of their arguments.
 --
--- `IsAggregated` of `mob_tail` leaves out a value of a form that it does not name, as it leaves out
--- NULL. In a typed query there is none but NULL.
+-- `IsAggregated` of `mob_tail` ignores a value of a form that it does not name, as it ignores NULL.
+-- In a typed query only NULL is such a value.
 use Rattle.std.specs.Prelude.{◌≡◌, ◌⊎◌, ◌↔◌, ℕ, ℤ, Bool, false, List, Option, Some, Ok, is_some, map, slice_get}
 use Rattle.std.specs.List.{AllByRecursion, AllZip}
 use Rattle.mob_ratio.specs.Ratio.{Ratio}
@@ -40,12 +40,12 @@ GivesType TSum ty = (ty ≡ sql.TInt) ⊎ (ty ≡ sql.TFrac)
 GivesType TAnd ty = ty ≡ sql.TBool
 GivesType TOr ty = ty ≡ sql.TBool
 
--- `there` gives something of a value at exactly the instants at which the value is there
+-- `there` gives something for a value at exactly the instants at which the value exists
 abbrev pub IsThereBy : {B : Type 0} → (Value → Ratio → Option B) → Value → Type 0
 IsThereBy there v = (t : Ratio) → is_some (there v t) ≡ is_there t v
 
--- An aggregate of this type takes a value that is not NULL: a sum its number, and an aggregate over
--- time what the value has at each instant at which it is there. A count asks for no more than the
+-- An aggregate of this type takes a value that is not NULL: a sum takes its number, and an
+-- aggregate over time its value at each instant at which it is defined. A count needs only the
 -- value.
 abbrev pub TakesValue : AggKind → SqlType → Value → Type 0
 TakesValue CountAll ty v = Unit {0}
@@ -62,30 +62,29 @@ TakesValue TOr ty v = (m : StepSlices Bool) × (truths_of v ≡ Some m) × IsThe
 abbrev pub TakesEachValue : AggKind → SqlType → List Value → Type 0
 TakesEachValue kind ty vs = AllByRecursion (TakesValue kind ty) (known_of vs)
 
--- Where NULL is due: for a count never, for a sum where each value is NULL, and for an aggregate
--- over time where no value is there at any instant.
+-- When NULL is due: for a count never, for a sum if each value is NULL, and for an aggregate over
+-- time if no value is defined at any instant.
 abbrev pub IsNullDue : AggKind → List Value → Type 0
 IsNullDue CountAll vs = ⊥
 IsNullDue Count vs = ⊥
 IsNullDue Sum vs = AllByRecursion (λ v. v ≡ Null) vs
 IsNullDue _ vs = (t : Ratio) → AllByRecursion (λ v. is_there t v ≡ false) vs
 
--- what an aggregate of this type makes of values is one of the type, and NULL exactly where that is
--- due
+-- the result of an aggregate of this type on values is of the type, and NULL exactly if that is due
 pub record IsResult (kind : AggKind) (ty : SqlType) (vs : List Value) (v : Value) : Type 0 where
   pub own : IsValueOf ty v
   pub null : (v ≡ Null) ↔ IsNullDue kind vs
 
--- An aggregate of this type has a meaning on these values: the type is one that it may give, it
--- takes each value but NULL, the numbers of a sum are those of these values in order, and what it
--- makes of the values is such a result.
+-- An aggregate of this type has a meaning on these values: it may give this type, it takes each
+-- value but NULL, the numbers of a sum are those of these values in order, and its result on the
+-- values is such a result.
 pub record HasMeaningOn (kind : AggKind) (ty : SqlType) (vs : List Value) : Type 0 where
   pub gives : GivesType kind ty
   pub taken : TakesEachValue kind ty vs
   pub numbers : kind ≡ Sum → map Number (numbers_of vs) ≡ known_of vs
   pub result : (v : Value) → IsAggregated kind ty vs v → IsResult kind ty vs v
 
--- So it is with each row of the table of aggregates, on whatever values of the type that it takes.
+-- This holds for each row of the table of aggregates, on any values of the type that it takes.
 abbrev pub AggregateRowsHaveMeanings : Type 0
 AggregateRowsHaveMeanings = (e : TypedTree) (agg : Agg) (vs : List Value) → IsAggregateOf e agg → AllByRecursion (IsValueOf (type_of e)) vs → HasMeaningOn agg.kind agg.ty vs
 
@@ -95,18 +94,18 @@ pub record ArgumentsHaveMeaning (e : TypedTree) (agg : Agg) (vs : List Value) : 
   pub own : AllByRecursion (IsValueOf (type_of e)) vs
   pub meant : HasMeaningOn agg.kind agg.ty vs
 
--- A column of a grouped query has a meaning on a group of tuples: each value of it is NULL or of the
--- type that typing gives it, and an aggregate has one on whatever values its argument has there.
+-- A column of a grouped query has a meaning on a group of tuples: each value of it is NULL or of
+-- the type that typing gives it, and an aggregate has one on any values of its argument there.
 pub record ColumnHasMeaning (c : Catalogue) (q : TypedSelectParts) (day : ℤ) (group : List (List ℕ)) (column : Column) : Type 0 where
   pub own : (v : Value) → IsColumnValue q c.store day group column v → IsValueOf (value_type column.0 column.1) v
   pub arguments : (agg : Agg) (vs : List Value) → column.1 ≡ Some agg → AllZip (λ t w. IsArgumentOn q c.store day t column (Ok w)) group vs → ArgumentsHaveMeaning column.0 agg vs
 
--- So has each column of a query that is typed for a catalogue, on whatever tuples. A query that is
--- not grouped has no aggregate.
+-- So does each column of a query that is typed for a catalogue, on any tuples. A query that is not
+-- grouped has no aggregate.
 abbrev pub TypedColumnsHaveMeanings : Type 0
 TypedColumnsHaveMeanings = (c : Catalogue) (q : TypedSelectParts) (day : ℤ) (group : List (List ℕ)) → IsTypedFor c q → AllByRecursion (ColumnHasMeaning c q day group) (columns_of q)
 
--- So has each column of a query that is next in a run.
+-- So does each column of the next query of a run.
 abbrev pub RunColumnsHaveMeanings : Type 0
 RunColumnsHaveMeanings = (settings : Settings) (input : Input) (count : ℕ) (text : List ℕ) (run : WritesFirst settings input count text) (q : TypedSelectParts) (group : List (List ℕ))
     → slice_get run.out.statements count ≡ Some (query q) → AllByRecursion (ColumnHasMeaning run.stands.catalogue q settings.epoch group) (columns_of q)

@@ -19,12 +19,12 @@ use Rattle.mob_shell.specs.Program.{WritesFirst}
 abbrev pub HasItsType : Scene → TypedTree → Type 0
 HasItsType s e = (v : Value) → TreeHasValue s e v → IsValueOf (type_of e) v
 
--- So it is with each expression of a query that is typed for a catalogue, on whatever rows of its
+-- This holds for each expression of a query that is typed for a catalogue, on any rows of its
 -- tables.
 abbrev pub TypedExpressionsHaveTheirTypes : Type 0
 TypedExpressionsHaveTheirTypes = (c : Catalogue) (q : TypedSelectParts) (day : ℤ) (tuple : List ℕ) → IsTypedFor c q → AllByRecursion (HasItsType (scene c.store q.from tuple day)) (expressions_of q)
 
--- So it is with each expression of a query, and of a DELETE, that is next in a run.
+-- This holds for each expression of the next query, or the next DELETE, of a run.
 abbrev pub RunExpressionsHaveTheirTypes : Type 0
 RunExpressionsHaveTheirTypes = (settings : Settings) (input : Input) (count : ℕ) (text : List ℕ) (run : WritesFirst settings input count text) (q : TypedSelectParts) (tuple : List ℕ)
     → (slice_get run.out.statements count ≡ Some (query q)) ⊎ (slice_get run.out.statements count ≡ Some (deletion q))

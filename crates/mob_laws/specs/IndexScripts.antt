@@ -1,4 +1,4 @@
--- Scripts that differ in CREATE INDEX statements, and what they answer.
+-- Scripts that differ in CREATE INDEX statements, and their answers.
 use Rattle.std.specs.Prelude.{◌≡◌, ℕ, ℤ, List, [], ◌∷◌, ◌++◌, Bool, map, option_map}
 use Rattle.std.specs.List.{AllByRecursion, concat, flat_map}
 use Rattle.mob_typed.specs.declared.typed.Agg.{Agg}
@@ -56,19 +56,19 @@ unplaced_statement (deletion q) = deletion (unplaced_select q)
 unplaced_statement (query q) = query (unplaced_select q)
 unplaced_statement (plan_of q) = plan_of (unplaced_select q)
 
--- a literal without where it is written: its type and its text
+-- a literal without its place: its type and its text
 abbrev pub unplaced_literal : ConstText → ConstText
 unplaced_literal c = record c { statement = 0; place = 0 }
 
 -- ---- scripts that differ in their indexes
 
--- a statement without its places, or none where it makes an index or is empty
+-- a statement without its places; none if it makes an index or is empty
 abbrev pub beside_indexes : StatementOut → List StatementOut
 beside_indexes nothing = []
 beside_indexes (new_index t c name) = []
 beside_indexes s = unplaced_statement s ∷ []
 
--- the statements of a script but for CREATE INDEX and for empty ones, without their places
+-- the statements of a script without CREATE INDEX and empty ones, and without their places
 abbrev pub without_indexes : List StatementOut → List StatementOut
 without_indexes ss = flat_map beside_indexes ss
 
@@ -88,7 +88,7 @@ pub record DifferInIndexStatements (one other : ScriptOut) : Type 0 where
   pub statements : without_indexes one.statements ≡ without_indexes other.statements
   pub literals : map unplaced_literal one.consts ≡ map unplaced_literal other.consts
 
--- Inputs whose scripts are accepted and differ so, over the same files.
+-- Inputs whose scripts are accepted and differ like this, over the same files.
 pub record DifferInIndexesOnly (one other : Input) : Type 0 where
   pub out : ScriptOut
   pub others : ScriptOut
@@ -97,7 +97,7 @@ pub record DifferInIndexesOnly (one other : Input) : Type 0 where
   pub scripts : DifferInIndexStatements out others
   pub files : one.files ≡ other.files
 
--- ---- what they answer
+-- ---- their answers
 
 -- the answer of a statement that writes this text: that of a SELECT is the text, and no other
 -- statement has one
@@ -105,7 +105,7 @@ abbrev pub answer_in : StatementOut → List ℕ → List (List ℕ)
 answer_in (query q) text = text ∷ []
 answer_in _ text = []
 
--- The statements run one after another from where a run stands, and these are the texts of the
+-- The statements run one after another from the state of a run, and these are the texts of the
 -- answers of their SELECTs, in order.
 abbrev pub Answered : ℤ → RunState → List StatementOut → List (List ℕ) → Type 0
 Answered day s [] answers = answers ≡ []
@@ -118,12 +118,12 @@ pub record ProgramAnswers (settings : Settings) (input : Input) (answers : List 
   pub is : IsProgram settings input out program
   pub answered : Answered settings.epoch (begin program) out.statements answers
 
--- a statement that is no EXPLAIN
+-- a statement that is not an EXPLAIN
 abbrev pub IsNoExplain : StatementOut → Type 0
 IsNoExplain (plan_of q) = ⊥
 IsNoExplain _ = Unit {0}
 
--- a script that is accepted and has no EXPLAIN
+-- an accepted script without EXPLAIN
 pub record HasNoExplain (script : List ℕ) : Type 0 where
   pub out : ScriptOut
   pub accepted : IsAccepted script out
@@ -131,19 +131,19 @@ pub record HasNoExplain (script : List ℕ) : Type 0 where
 
 -- ---- the laws
 
--- A program that writes a text has answers of its SELECTs. Where its script has no EXPLAIN, the text
+-- A program that writes a text has answers of its SELECTs. If its script has no EXPLAIN, the text
 -- is these, one after another.
 abbrev pub WrittenIsAnswered : Type 0
 WrittenIsAnswered = (settings : Settings) (input : Input) (text : List ℕ) → ProgramWrites settings input text
     → (answers : List (List ℕ)) × ProgramAnswers settings input answers × (HasNoExplain input.script → text ≡ concat answers)
 
--- Programs that differ in CREATE INDEX statements alone, and perhaps in the number of workers, give
--- the same answers, one by one, where all statements of both run.
+-- Programs that differ only in CREATE INDEX statements, and perhaps in the number of workers, give
+-- the same answers, one by one, if all statements of both run.
 abbrev pub IndexesChangeNoAnswer : Type 0
 IndexesChangeNoAnswer = (settings others : Settings) → DifferInWorkers settings others → (one other : Input) → DifferInIndexesOnly one other
     → (answers more : List (List ℕ)) → ProgramAnswers settings one answers → ProgramAnswers others other more → answers ≡ more
 
--- So they write the same text, where one of them, and so the other, has no EXPLAIN.
+-- So they write the same text if one of them, and so the other, has no EXPLAIN.
 abbrev pub IndexesWriteTheSame : Type 0
 IndexesWriteTheSame = (settings others : Settings) → DifferInWorkers settings others → (one other : Input) → DifferInIndexesOnly one other → HasNoExplain one.script
     → (text more : List ℕ) → ProgramWrites settings one text → ProgramWrites others other more → text ≡ more

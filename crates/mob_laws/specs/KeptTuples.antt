@@ -1,5 +1,5 @@
--- What a query keeps, and what the SELECTs and the DELETEs of a run are answered on: the tuples of
--- rows on which WHERE is true.
+-- The tuples that a query keeps, on which the SELECTs and the DELETEs of a run work: the tuples of
+-- rows for which WHERE is true.
 use Rattle.std.specs.Prelude.{◌≡◌, ℤ, ℕ, List, Some, Ok, slice_get}
 use Rattle.std.specs.List.{AllByRecursion}
 use Rattle.mob_typed.specs.Selects.{TypedSelectParts}
@@ -22,13 +22,13 @@ use Rattle.mob_shell.specs.Program.{WritesFirst}
 use Rattle.mob_shell.specs.ReadAsStored.{IsLiveTuple}
 use Rattle.mob_shell.specs.Runs.{StatementWrites}
 
--- What a query keeps are exactly the tuples of its tables on which WHERE is true, each once, in
--- order: `AreThoseThatMeet` of mob_join says it tuple by tuple, and entry by entry.
+-- A query keeps exactly the tuples of its tables for which WHERE is true, each once, in order:
+-- `AreThoseThatMeet` of mob_join says it tuple by tuple, and entry by entry.
 abbrev pub KeptTuplesMeet : Type 0
 KeptTuplesMeet = (q : TypedSelectParts) (c : Catalogue) (day : ℤ) (kept : List (List ℕ)) → IsKept q c day (Ok kept) → AreTuplesThatMeet q c day kept
 
--- And these are what a query keeps that is typed for the tables, as each query of a run is, where no
--- visit of its plan has a fault.
+-- And a query that is typed for the tables, as each query of a run is, keeps these if no visit of
+-- its plan has a fault.
 abbrev pub TuplesThatMeetAreKept : Type 0
 TuplesThatMeetAreKept = (q : TypedSelectParts) (c : Catalogue) (day : ℤ) (kept : List (List ℕ)) → IsTypedFor c q → AreTuplesThatMeet q c day kept
     → AreClean (FailsOn q c day) (AreAllVisits (conditions q) (IsMetAt q c day) (StepGives c q.from day) (planned q c.indexed)) → IsKept q c day (Ok kept)
@@ -37,20 +37,20 @@ TuplesThatMeetAreKept = (q : TypedSelectParts) (c : Catalogue) (day : ℤ) (kept
 abbrev pub TuplesThatMeetAreOneList : Type 0
 TuplesThatMeetAreOneList = (q : TypedSelectParts) (c : Catalogue) (day : ℤ) (kept others : List (List ℕ)) → AreTuplesThatMeet q c day kept → AreTuplesThatMeet q c day others → kept ≡ others
 
--- Each of them is of rows that are there. So what is known of the expressions of a query on such
--- tuples, as that they read each value as it is stored, is known of them on each kept tuple.
+-- Each of them consists of live rows. So what holds for the expressions of a query on such tuples,
+-- for example that they read each value as it is stored, holds for them on each kept tuple.
 abbrev pub KeptTuplesAreLive : Type 0
 KeptTuplesAreLive = (q : TypedSelectParts) (c : Catalogue) (day : ℤ) (kept : List (List ℕ)) → IsKept q c day (Ok kept) → AllByRecursion (IsLiveTuple c q.joins q.from) kept
 
--- What a SELECT writes that is next in a run is its answer on the tuples of its tables, as they are
--- there then, on which WHERE is true.
+-- The next SELECT of a run writes its answer on the tuples of its tables, as they are then, for
+-- which WHERE is true.
 abbrev pub SelectsAnswerOnTuples : Type 0
 SelectsAnswerOnTuples = (settings : Settings) (input : Input) (count : ℕ) (text : List ℕ) (run : WritesFirst settings input count text) (q : TypedSelectParts) (answer : List ℕ)
     → slice_get run.out.statements count ≡ Some (query q) → StatementWrites settings.epoch run.stands (query q) answer
     → (kept : List (List ℕ)) × (rows : List (List (List ℕ))) × AreTuplesThatMeet q run.stands.catalogue settings.epoch kept × IsAnswerOnKept q run.stands.catalogue.store settings.epoch kept (Ok rows)
     × (answer ≡ answer_text (answer_names q) rows)
 
--- A DELETE that is next takes the rows of such tuples away, and changes nothing else.
+-- The next DELETE of a run removes the rows of such tuples, and changes nothing else.
 abbrev pub DeletesTakeTuples : Type 0
 DeletesTakeTuples = (settings : Settings) (input : Input) (count : ℕ) (text : List ℕ) (run : WritesFirst settings input count text) (q : TypedSelectParts) (left : Catalogue)
     → slice_get run.out.statements count ≡ Some (deletion q) → IsDeleted q run.stands.catalogue settings.epoch left

@@ -2,10 +2,10 @@
 ghost use Rattle.mob_laws.specs.BlankedScripts.{BlankedScriptsAreAccepted};
 ghost use Rattle.mob_laws.specs.IndexScripts.{IndexesChangeNoAnswer, IndexesWriteTheSame, WrittenIsAnswered};
 
-/// Two scripts that differ in CREATE INDEX statements alone, run on the same files, give the same
-/// answers of their SELECTs, one by one, where both runs end with all statements done. Without
-/// EXPLAIN, whose text names the indexes, they write the same text. A fault is not among what is
-/// compared: an index may spare a query one that it has without.
+/// Take two scripts that differ only in CREATE INDEX statements, run on the same files. If all
+/// statements of both run, their SELECTs give the same answers, one by one. Without EXPLAIN, whose
+/// text names the indexes, they write the same text. Faults are not compared: an index may avoid
+/// one that a query has without it.
 pub fn indexes_change_no_answer()
     ensures answered { WrittenIsAnswered }
     ensures answers { IndexesChangeNoAnswer }
@@ -20,8 +20,8 @@ pub fn indexes_change_no_answer()
 }
 
 /// Take an accepted script, and a text with the same statements at the same places, but an empty
-/// one for each CREATE INDEX. That text is accepted too, and the two scripts differ in their CREATE
-/// INDEX statements alone. So the law above speaks of them.
+/// one for each CREATE INDEX. That text is accepted too, and the two scripts differ only in their
+/// CREATE INDEX statements. So the law above applies to them.
 pub fn blanked_scripts_are_accepted()
     ensures accepted { BlankedScriptsAreAccepted }
 {}

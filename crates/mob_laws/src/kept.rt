@@ -1,10 +1,9 @@
-//! What a query keeps are the tuples on which WHERE is true. No code runs here.
+//! A query keeps the tuples for which WHERE is true. No code runs here.
 ghost use Rattle.mob_laws.specs.KeptTuples.{DeletesTakeTuples, KeptTuplesAreLive, KeptTuplesMeet, SelectsAnswerOnTuples, TuplesThatMeetAreKept, TuplesThatMeetAreOneList};
 
-/// What a query keeps are exactly the tuples of its tables on which WHERE is true, each once, in
-/// the order of their row numbers. A tuple has a row that is there for each table of FROM, and no
-/// row where a LEFT JOIN has none. There is one such list. So it is with each SELECT and each
-/// DELETE of a run.
+/// A query keeps exactly the tuples of its tables for which WHERE is true, each once, in the order
+/// of their row numbers. A tuple has a live row for each table of FROM, or no row if a LEFT JOIN
+/// has none. There is one such list. This holds for each SELECT and each DELETE of a run.
 pub fn kept_rows_are_rows()
     ensures kept { KeptTuplesMeet }
     ensures met { TuplesThatMeetAreKept }

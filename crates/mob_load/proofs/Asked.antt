@@ -62,7 +62,7 @@ asks_both ns ms (Some old) b c first next =
     let more : c ≡ Some ((old ++ ns) ++ ms) = subst (λ (o : Option (List (List ℕ))). AsksForAll ms o c) first next in
     more ∙ ap (λ (w : List (List ℕ)). Some w) (append_assoc old ns ms)
 
--- a part of no names is none
+-- a part of an empty list is empty
 middle_none : (xs ys zs : List (List ℕ)) → xs ++ (ys ++ zs) ≡ [] → ys ≡ []
 middle_none [] [] zs none = refl
 middle_none [] (y ∷ ys) zs none = cc
@@ -78,7 +78,7 @@ next_of : (first rest : List (List ℕ)) (name : List ℕ) → slice_get (first 
 next_of [] rest name = refl
 next_of (x ∷ first) rest name = next_of first rest name
 
--- told names that grew by the first of these names, and then perhaps by the next one
+-- the names asked for grew by the first of these names, and then perhaps by the next one
 module _ (first rest : List (List ℕ)) (name : List ℕ) (a b d : Option (List (List ℕ))) (so_far : AsksForAll first a b) where
   last_of : (k : ℕ) → k ≤ 1 → AsksForAll (take k (name ∷ [])) b d → IsAskedLast (first ++ name ∷ rest) (length first) (length first + k) a d name
   last_of k le next = record {
@@ -98,11 +98,11 @@ module _ (first rest : List (List ℕ)) (name : List ℕ) (a b d : Option (List 
   pub opened_last : AsksForSome (name ∷ []) b d → IsAskedLast (first ++ name ∷ rest) (length first) (length first) a d name ⊎ IsAskedLast (first ++ name ∷ rest) (length first) (length first + 1) a d name
   opened_last some = none_or_one some.0 some.1 some.2
 
--- the names of the checks up to one of them, and those behind
+-- the names of the checks up to one of them, and those after it
 pub names_around : (first : List CheckParts) (c : CheckParts) (others : List CheckParts) → names_in (first ++ c ∷ others) ≡ names_in first ++ (names_of c ++ names_in others)
 names_around first c others = flat_map-append names_of first (c ∷ others)
 
--- the checks of a list, one after the other: the i-th is c
+-- the checks of a list in order: the i-th is c
 module _ (all : List Check) (i : ℕ) (c : Check) (lt : i < length all) (is : c ≡ get_or all i c) where
   abbrev first : List (List ℕ)
   first = names_in (map check_seen (take i all))

@@ -1,4 +1,4 @@
--- The checkpoints of a script among what is looked at.
+-- The checkpoints of a script among its checks.
 use Rattle.std.proofs.Common.{◌≡◌, ◌∙◌, refl, ap, Bool, true, false, List, [], ◌∷◌, ◌++◌, map}
 use Rattle.mob_typed.specs.declared.typed.ConstText.{ConstText}
 use Rattle.mob_load.specs.Checks.{CheckParts, literal, table, room, file, Checkpoint, checkpoints_from, stands_before, checks_up_to, in_order}
@@ -6,7 +6,7 @@ use Rattle.mob_load.specs.Loads.{literal_of}
 use Rattle.mob_load.specs.Order.{checkpoint_in, checkpoints_in, LooksAtCheckpoints}
 use Rattle.mob_load.proofs.Values.{NoLiterals, no_all}
 
--- what is no literal is a checkpoint
+-- a check that is not a literal is a checkpoint
 pub own_checkpoint : (check : CheckParts) → literal_of check ≡ [] → checkpoint_in check ≡ check ∷ []
 own_checkpoint (literal c) none = cc
 own_checkpoint (table columns) none = refl

@@ -1,4 +1,4 @@
--- What holds of each literal and of what is looked at beside them holds of all that is looked at.
+-- What holds of each literal and of each checkpoint holds of each check.
 use Rattle.std.proofs.Common.{◌≡◌, refl, Bool, true, false, List, [], ◌∷◌}
 use Rattle.std.specs.List.{AllByRecursion}
 use Rattle.mob_typed.specs.declared.typed.ConstText.{ConstText}

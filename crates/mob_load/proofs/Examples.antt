@@ -1,4 +1,4 @@
--- Rows: what is looked at, in written order.
+-- Example checks, in written order.
 use Rattle.std.proofs.Common.{◌≡◌, refl, arith, inl, inr, ℕ, [], ◌∷◌, Some}
 use Rattle.std.specs.Prelude.{codes}
 use Rattle.mob_ast.specs.declared.types.SqlType.TheVariants.{Int}
@@ -22,7 +22,7 @@ written_order : checks_of script
 unfolding script constant
 written_order = refl
 
--- the script stands in written order
+-- the script is in written order
 written : IsWritten script
 unfolding script constant
 written = record {

@@ -1,4 +1,4 @@
--- A literal that is refused.
+-- A refused literal.
 use Rattle.std.proofs.Common.{◌≡◌, ◌≢◌, ◌⊎◌, refl, inl, inr, ap, ℤ, Err}
 use Rattle.mob_ast.specs.Kinds.{no_memory}
 use Rattle.mob_ast.specs.declared.refusal.Kind.{Kind}

@@ -52,26 +52,26 @@ all_checkpoints_narrow n (s ∷ ss) all = each_both IsNarrowCheckpoint (checkpoi
 pub script_narrow : (ss : List StatementParts) (out : ScriptOut) → typed_script ss ≡ Ok out → AreNarrow (checks_of out)
 script_narrow ss out is = order_narrow (checkpoints_from 1 out.statements) (all_checkpoints_narrow 1 out.statements (statements_narrow [] out.consts out.statements (typing_gives_well_typed ss out is))) out.consts
 
--- one of narrow checks
+-- a check of a list of narrow checks
 pub check_narrow : (all : List Check) (i : ℕ) (d : Check) → AreNarrow (map check_seen all) → i < length all → IsNarrow (check_seen (get_or all i d))
 check_narrow [] i d narrow lt = absurd (omega arith)
 check_narrow (c ∷ all) zero d narrow lt = narrow.0
 check_narrow (c ∷ all) (suc i) d narrow lt = check_narrow all i d narrow.1 (omega arith)
 
--- one of narrow tables
+-- a table of a list of narrow tables
 pub columns_narrow : (tables : List ColumnList) (t : ℕ) → HasNarrow tables → length (columns_or_none (slice_get tables t)) ≤ 64
 columns_narrow [] t all = omega arith
 columns_narrow (columns ∷ others) zero all = all.0
 columns_narrow (columns ∷ others) (suc t) all = columns_narrow others t all.1
 
--- a narrow table more
+-- one more narrow table
 pub tables_more : (tables : List ColumnList) (columns : ColumnList) → length columns ≤ 64 → HasNarrow tables → HasNarrow (tables ++ columns ∷ [])
 tables_more tables columns narrow all = each_both (λ (c : ColumnList). length c ≤ 64) tables (columns ∷ []) all (narrow, tt)
 
 pub made_narrow : (l m : Loaded) (columns : ColumnList) → m ≡ add_table l columns → length columns ≤ 64 → HasNarrow l.tables → HasNarrow m.tables
 made_narrow l m columns is narrow all = subst (λ (x : Loaded). HasNarrow x.tables) (sym is) (tables_more l.tables columns narrow all)
 
--- what follows where an answer is good
+-- a consequence for a good result
 pub ok_on : {A E P Q : Type 0} (r : Result A E) → (P → Q) → OnOk r P → OnOk r Q
 ok_on (Ok x) f p = f p
 ok_on (Err e) f p = tt

@@ -1,4 +1,4 @@
--- What a script has read, whatever its files.
+-- What a script has read, whatever its files are.
 use Rattle.std.proofs.Common.{◌≡◌, refl, sym, subst, ℕ, ℤ, List, [], ◌∷◌, Option, Some, Result, Ok, Err}
 use Rattle.std.specs.Prelude.{OnOk}
 use Rattle.std.proofs.lemmas.Slice.Eq.{bytes_eq-Decides}
@@ -10,12 +10,12 @@ use Rattle.mob_load.specs.declared.program.LoadEnd.{LoadEnd}
 use Rattle.mob_load.specs.declared.program.LoadEnd.TheVariants.{Refused, TableRefused, ReadFault, NoMemory}
 use Rattle.mob_load.specs.declared.program.Program.{Program}
 
--- what an answer says, where it is good
+-- the meaning of a good result
 pub on_loads : {A : Type 0} (P : Result Loaded Halt → Type 0) (r : Result A LoadEnd) (after : Loaded) → LoadsTo r after P → OnOk r (P (Ok after))
 on_loads P (Ok x) after h = h
 on_loads P (Err e) after h = tt
 
--- what holds where a file was read, whatever came of it
+-- what holds if a file was read, whatever its result
 pub on_read : {A P : Type 0} (r : Result A LoadEnd) → P → OnRead r P
 on_read (Ok x) p = p
 on_read (Err (Refused e)) p = tt
@@ -30,7 +30,7 @@ read_on (Err (TableRefused name k rec field)) f p = f p
 read_on (Err (ReadFault name)) f p = tt
 read_on (Err NoMemory) f p = tt
 
--- What is left of the checks reads on what was read.
+-- The remaining checks continue from what was read.
 pub record ReadsOn (day : ℤ) (all rest : List CheckParts) (l : Loaded) : Type 0 where
   pub reads : (m : Loaded) → ReadsChecks day rest l m → ReadsChecks day all nothing_loaded m
 
@@ -61,7 +61,7 @@ bytes_read day t name bytes l m h =
     let found : file_of name ((name, bytes) ∷ []) ≡ Some bytes = rw own refl in
     ((name, bytes) ∷ [], subst (λ (o : Option (List ℕ)). LoadsFile day t name l o (Ok m)) (sym found) h)
 
--- what is read of files that are told
+-- what is read of visible files
 module _ (day : ℤ) (files : Contents) where
   goes_read : (c : CheckParts) (cs : List CheckParts) (l m : Loaded) → ((k : Loaded) → Loads day files cs k (Ok m) → ReadsChecks day cs k m)
       → (s : Result Loaded Halt) → LoadsCheck day files c l s → ContinuesBy (Loads day files cs) s (Ok m) → ReadsChecks day (c ∷ cs) l m

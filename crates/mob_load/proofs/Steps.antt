@@ -1,4 +1,4 @@
--- One check after the other.
+-- One check after another.
 use Rattle.std.proofs.Common.{◌≡◌, ◌∙◌, inl, inr, refl, sym, ap, subst, arith, ℕ, ℤ, ◌-◌, ◌+◌, ◌≤◌, rules, List, [], ◌∷◌, ◌++◌, take, Option, Some, None, Result, Ok, Err}
 use Rattle.std.specs.Prelude.{IfSome}
 use Rattle.std.proofs.lemmas.List.{append-nil}
@@ -17,7 +17,7 @@ use Rattle.mob_load.specs.Loads.{LoadsTo, Halt, HasFaultCause, IsLoadOutcome, re
 use Rattle.mob_load.specs.declared.program.LoadEnd.{LoadEnd}
 use Rattle.mob_load.specs.declared.program.LoadEnd.TheVariants.{Refused, TableRefused, ReadFault, NoMemory}
 
--- a file that is refused
+-- a refused file
 pub file_refused : (day : ℤ) (t : ℕ) (name copy bytes : List ℕ) (l : Loaded) (columns : ColumnList) (room rec field : ℕ) (k : Kind)
     → FileFails columns day room bytes (file_fault k rec field) → columns ≡ loaded_columns l t → room ≡ greatest_rows - loaded_row_count l t → copy ≡ name
     → LoadsFile day t name l (Some bytes) (Err (table_refused copy k rec field))
@@ -27,7 +27,7 @@ file_refused day t name copy bytes l columns room rec field k fails p q same = (
   ap (λ (n : List ℕ). table_refused n k rec field) same,
 )
 
--- what holds of an answer, by what holds of what it says
+-- a consequence for a result
 pub loads_on : {A : Type 0} (P Q : Result Loaded Halt → Type 0) → ((x : Result Loaded Halt) → P x → Q x) → (r : Result A LoadEnd) (after : Loaded) → LoadsTo r after P → LoadsTo r after Q
 loads_on P Q f (Ok x) after h = f (Ok after) h
 loads_on P Q f (Err (Refused e)) after h = f (Err (refused e)) h
@@ -35,13 +35,13 @@ loads_on P Q f (Err (TableRefused n k rec field)) after h = f (Err (table_refuse
 loads_on P Q f (Err (ReadFault n)) after h = tt
 loads_on P Q f (Err NoMemory) after h = tt
 
--- what the front of a file says, the file says
+-- the front of a file has the result of the file
 whole_loads : (day : ℤ) (t : ℕ) (name whole : List ℕ) (l : Loaded) (x : Result Loaded Halt)
     → LoadsFile day t name l (Some (take (file_limit + 1) whole)) x → LoadsFile day t name l (Some whole) x
 whole_loads day t name whole l (Ok m) h = (h.0, table_front (loaded_columns l t) day (greatest_rows - loaded_row_count l t) whole h.0 h.1, h.2)
 whole_loads day t name whole l (Err e) h = (h.0, fails_front (loaded_columns l t) day (greatest_rows - loaded_row_count l t) whole h.0 h.1, h.2)
 
--- what is told of the file that a check asks for
+-- what is visible of the file that a check asks for
 pub of_told : (name : List ℕ) (names : List (List ℕ)) (told : Option Contents) (P : Contents → Type 0) → IfSome told P → OnFiles (name ∷ names) told P
 of_told name names None P h files (inl is) = cc
 of_told name names (Some m) P h files (inl is) = let same : m ≡ files = cc is in subst P same h
@@ -68,17 +68,17 @@ module _ (day : ℤ) (files : Contents) where
   goes_behind cs rest m r on (Ok k) passes = on k passes
   goes_behind cs rest m r on (Err h) passes = absurd (cc)
 
-  -- checks behind some that all pass
+  -- checks after some that all pass
   pub loads_behind : (first rest : List CheckParts) (l m : Loaded) (r : Result Loaded Halt) → Loads day files first l (Ok m) → Loads day files rest m r → Loads day files (first ++ rest) l r
   loads_behind [] rest l m r is loads = let same : m ≡ l = cc in subst (λ (x : Loaded). Loads day files rest x r) same loads
   loads_behind (c ∷ cs) rest l m r passes loads = (passes.0, passes.1, goes_behind cs rest m r (λ k passed. loads_behind cs rest k m r passed loads) passes.0 passes.2)
 
-  -- one check more that passes, of the checks that come first
+  -- one more check that passes, after those that come first
   pub passes_more : (first more : List CheckParts) (c : CheckParts) (l m : Loaded) → more ≡ first ++ c ∷ [] → Loads day files first nothing_loaded (Ok l) → LoadsCheck day files c l (Ok m) → Loads day files more nothing_loaded (Ok m)
   passes_more first more c l m is passed passes =
       subst (λ (cs : List CheckParts). Loads day files cs nothing_loaded (Ok m)) (sym is) (loads_behind first (c ∷ []) nothing_loaded l (Ok m) passed (Ok m, passes, refl))
 
-  -- a file that is refused decides
+  -- a refused file decides
   pub refused_loads : (checks : List CheckParts) (number : ℕ) (name : List ℕ) (kind : Kind) (rec field : ℕ) → RefusesFile day files checks number name kind rec field
       → Loads day files checks nothing_loaded (Err (table_refused name kind rec field))
   refused_loads checks number name kind rec field h =
@@ -105,7 +105,7 @@ pub program_loaded : (day : ℤ) (files : Contents) (cs : List CheckParts) (out 
     → Loads day files cs nothing_loaded (Ok l) → LoadsScript day files out (Ok p)
 program_loaded day files cs out l p same is loads = (l, subst (λ (x : List CheckParts). Loads day files x nothing_loaded (Ok l)) same loads, is)
 
--- where no count rose, the answer is what loading gives
+-- if no count rose, the result is that of loading
 pub stopped_outcome : (day : ℤ) (out : ScriptOut) (told : Option Contents) (old new : Option (List (List ℕ))) (files : Contents) → AreFilesFor (copied_files out.statements) told files → (e : LoadEnd) (before now : ℕ)
     → (Rose before now → ⊥) → HasFaultCause before now e → ChecksStopBy day (checks_of out) (copied_files out.statements) told old new e → IsLoadOutcome day files out (Err e)
 stopped_outcome day out told old new files are (Refused e) before now steady cause stops = stops files are

@@ -16,7 +16,7 @@ module _ (day : ℤ) (first others : List CheckParts) (told : Option Contents) (
   abbrev Passed : CheckParts → Type 0
   Passed c = OnFiles (names_in (first ++ c ∷ others)) told (λ m. Loads day m first nothing_loaded (Ok l))
 
-  -- it fails so
+  -- it fails like this
   abbrev Fails : CheckParts → LoadEnd → Type 0
   Fails c e = OnFiles (names_in (first ++ c ∷ others)) told (λ m. LoadsTo {A = Unit {0}} (Err e) after (LoadsCheck day m c l))
 

@@ -13,7 +13,7 @@ use Rattle.mob_load.specs.Loads.{Loaded, LoadsFile, ReadsCheck, ReadsChecks, lit
 use Rattle.mob_load.proofs.EachCheckpoint.{each_checkpoint}
 use Rattle.mob_list.proofs.Each.{each_both}
 
--- checkpoints that are no literals
+-- checkpoints that are not literals
 abbrev IsNoLiteral : Checkpoint → Type 0
 IsNoLiteral m = literal_of m.check ≡ []
 
@@ -50,7 +50,7 @@ no_all n (s ∷ ss) = each_both IsNoLiteral (checkpoints_of n s) (checkpoints_fr
 pub looked_at : LooksAtLiterals
 looked_at out = order_literals (checkpoints_from 1 out.statements) (no_all 1 out.statements) out.consts
 
--- a row leaves the values as they were
+-- a row leaves the values unchanged
 row_values : (b : Bool) (t n p : ℕ) (l k : Loaded) → nat_lt (loaded_row_count l t) greatest_rows ≡ b → Ok k ≡ one_row t n p l → k.values ≡ l.values
 row_values true t n p l k test is = let same = rw test at is in cc
 row_values false t n p l k test is = let same = rw test at is in cc

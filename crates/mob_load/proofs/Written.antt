@@ -1,4 +1,4 @@
--- A script that is written in order is looked at in that order.
+-- A script in written order is checked in that order.
 use Rattle.std.proofs.Common.{◌≡◌, ◌∙◌, refl, sym, ap, subst, arith, eq-eqb, inl, inr, Bool, true, false, ℕ, ◌+◌, ◌<◌, ◌≤◌, List, [], ◌∷◌, ◌++◌, map}
 use Rattle.std.specs.Prelude.{◌⊎◌, ◌==◌, ◌&&◌, ◌||◌, filter, nat_lt}
 use Rattle.std.specs.List.{AllByRecursion}
@@ -18,14 +18,14 @@ use Rattle.mob_load.proofs.Values.{NoLiterals, no_all}
 abbrev CheckpointUpTo : Checkpoint → Checkpoint → Type 0
 CheckpointUpTo m k = IsUpTo m.statement m.place k.statement k.place
 
--- a place that is not behind another stands before all that the other stands before
+-- a place that is not after another is before everything that the other is before
 stands_too : (a n p : ℕ) (b k q : ℕ) → IsUpTo a b k q → ((k < n) ⊎ ((k ≡ n) × (q < p))) → (a < n) ⊎ ((a ≡ n) × (b < p))
 stands_too a n p b k q (inl h) (inl g) = inl (omega arith)
 stands_too a n p b k q (inl h) (inr g) = let same = g.0 in inl (omega arith)
 stands_too a n p b k q (inr h) (inl g) = let same = h.0 in inl (omega arith)
 stands_too a n p b k q (inr h) (inr g) = let less = h.1 in let below = g.1 in inr (h.0 ∙ g.0, omega arith)
 
--- the test whether a literal stands before a place, and what it says
+-- the test whether a literal is before a place, and its meaning
 test_says : (x y z : Bool) → (x || (y && z)) ≡ true → (x ≡ true) ⊎ ((y ≡ true) × (z ≡ true))
 test_says true y z h = inl refl
 test_says false true true h = inr (refl, refl)
@@ -50,11 +50,11 @@ stands_test : (k q n p : ℕ) → (k < n) ⊎ ((k ≡ n) × (q < p)) → (nat_lt
 stands_test k q n p (inl less) = test_holds (nat_lt k n) (k == n) (nat_lt q p) (inl (lt-ltb k n less))
 stands_test k q n p (inr both) = test_holds (nat_lt k n) (k == n) (nat_lt q p) (inr (eq-eqb k n both.0, lt-ltb q p both.1))
 
--- a literal that stands no later than one that stands before a place stands before it
+-- a literal that is no later than one before a place is before it
 earlier_stands : (c d : ConstText) (n p : ℕ) → LiteralUpTo c d → stands_before d n p ≡ true → stands_before c n p ≡ true
 earlier_stands c d n p h is = stands_test c.statement c.place n p (stands_too c.statement n p c.place d.statement d.place h (stands_says d.statement d.place n p is))
 
--- what stands before a checkpoint stands before each that is not behind it
+-- what is before a checkpoint is before each that is not after it
 checkpoint_stands : (c : ConstText) (m k : Checkpoint) → CheckpointUpTo m k → stands_before c m.statement m.place ≡ true → stands_before c k.statement k.place ≡ true
 checkpoint_stands c m k h is = stands_test c.statement c.place k.statement k.place (later c.statement c.place (stands_says c.statement c.place m.statement m.place is))
   where
@@ -73,7 +73,7 @@ module _ (m : Checkpoint) where
   choice_none true c d cs h not rest is = let there = earlier_stands c d m.statement m.place h is in absurd (cc (not, there))
   choice_none false c d cs h not rest is = rw is rest
 
-  -- where a literal does not stand before the checkpoint, none that follows does
+  -- if a literal is not before the checkpoint, none that follows is
   none_stands : (c : ConstText) (cs : List ConstText) → AllByRecursion (LiteralUpTo c) cs → stands_before c m.statement m.place ≡ false → filter (λ x. stands_before x m.statement m.place) cs ≡ []
   none_stands c [] later not = refl
   none_stands c (d ∷ cs) later not = choice_none (stands_before d m.statement m.place) c d cs later.0 not (none_stands c cs later.1 not) refl
@@ -133,7 +133,7 @@ cut_at [] after m none rises cs written = cut_here m (in_order after) cs written
 cut_at (k ∷ before) after m none rises cs written =
     cut_later m (in_order (before ++ m ∷ after)) k none.0 (one_of (CheckpointUpTo k) before after m rises.0) before (λ ds later. cut_at before after m none.1 rises.1 ds later) cs written
 
--- the checkpoints of a script that is written in order rise
+-- the checkpoints of a script in written order are sorted
 brackets_rise : (t n : ℕ) (places : List ℕ) → Rises (λ p q. p ≤ q) places → Rises CheckpointUpTo (map (bracket t n) places)
 brackets_rise t n [] h = tt
 brackets_rise t n (p ∷ ps) h = (each_map (λ q. p ≤ q) (CheckpointUpTo (bracket t n p)) (bracket t n) (λ q le. inr (refl, le)) ps h.0, brackets_rise t n ps h.1)
@@ -148,7 +148,7 @@ own_rise n (deletion s) h = tt
 own_rise n (query s) h = tt
 own_rise n (plan_of s) h = tt
 
--- the checkpoints of a statement stand in it
+-- the checkpoints of a statement are in it
 abbrev StandsIn : ℕ → Checkpoint → Type 0
 StandsIn n m = m.statement ≡ n
 

@@ -1,4 +1,4 @@
--- What is looked at before a script runs, in written order.
+-- The checks of a script before it runs, in written order.
 use Rattle.std.specs.Prelude.{◌==◌, ◌&&◌, ◌||◌, ◌+◌, ℕ, List, [], ◌∷◌, ◌++◌, Bool, map, nat_lt, if◌then◌else◌}
 use Rattle.mob_typed.specs.declared.typed.ConstText.{ConstText}
 use Rattle.mob_typed.specs.Statements.{ColumnList}
@@ -6,9 +6,8 @@ use Rattle.mob_typed.specs.Statements.{StatementOut, nothing, new_table, new_ind
 use Rattle.mob_load.specs.declared.check.Check.{Check}
 use Rattle.mob_load.specs.declared.check.Check.TheVariants.{Literal, Table, Room, File}
 
--- What is looked at: a literal; a new table of these columns; whether a table takes one more row,
--- for a row of an INSERT (the table, the statement, and the place of the row's bracket); a file
--- whose rows go into a table.
+-- A check: a literal; a new table with these columns; room for one more row of an INSERT (the
+-- table, the statement, and the place of the row's bracket); a file whose rows go into a table.
 pub data CheckParts : Type 0 where
   literal : ConstText → CheckParts
   table : ColumnList → CheckParts
@@ -21,8 +20,7 @@ check_seen (Table cs) = table cs.now
 check_seen (Room t n p) = room t n p
 check_seen (File t name) = file t name.now
 
--- what is looked at beside the literals, and where it stands: the number of its statement, and its
--- place there
+-- a check other than a literal, and its place: the number of its statement, and its place there
 pub record Checkpoint : Type 0 where
   pub statement : ℕ
   pub place : ℕ
@@ -47,16 +45,16 @@ checkpoints_of n (deletion s) = []
 checkpoints_of n (query s) = []
 checkpoints_of n (plan_of s) = []
 
--- the checkpoints of the statements from the one of number n on
+-- the checkpoints of the statements, from the statement of number n on
 abbrev pub checkpoints_from : ℕ → List StatementOut → List Checkpoint
 checkpoints_from n [] = []
 checkpoints_from n (s ∷ ss) = checkpoints_of n s ++ checkpoints_from (n + 1) ss
 
--- whether a literal stands before this place of this statement
+-- whether a literal is before this place of this statement
 abbrev pub stands_before : ConstText → ℕ → ℕ → Bool
 stands_before c n p = nat_lt c.statement n || (c.statement == n && nat_lt c.place p)
 
--- the literals that stand before a checkpoint, the checkpoint, and what comes next
+-- the literals before a checkpoint, the checkpoint, and what comes next
 abbrev pub checks_up_to : (List ConstText → List CheckParts) → Checkpoint → List ConstText → List CheckParts
 checks_up_to next m [] = m.check ∷ next []
 checks_up_to next m (c ∷ cs) = if stands_before c m.statement m.place then literal c ∷ checks_up_to next m cs else m.check ∷ next (c ∷ cs)
@@ -66,8 +64,7 @@ abbrev pub in_order : List Checkpoint → List ConstText → List CheckParts
 in_order [] cs = map literal cs
 in_order (m ∷ ms) cs = checks_up_to (in_order ms) m cs
 
--- What is looked at before a script runs, in written order: statement by statement the new tables,
--- the files, the brackets of rows and the literals, each literal behind the bracket that stands
--- before it.
+-- The checks of a script before it runs, in written order: the new tables, the files, the brackets
+-- of rows and the literals of each statement, each literal after the bracket before it.
 abbrev pub checks_of : ScriptOut → List CheckParts
 checks_of out = in_order (checkpoints_from 1 out.statements) out.consts

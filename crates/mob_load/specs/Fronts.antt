@@ -1,19 +1,19 @@
--- What reading a table file takes, and which names it asks for.
+-- What reading a table file consumes, and the names that it asks for.
 use Rattle.std.specs.Prelude.{◌≡◌, ◌⊎◌, ◌≤◌, ◌+◌, ◌++◌, ⊤, ℕ, List, [], take, length, slice_get, Option, Some, None}
 use Rattle.mob_catalog.specs.TableFile.{file_limit}
 use Rattle.mob_outside.specs.Told.{Contents, file_of}
 use Rattle.mob_outside.specs.Streams.{ReadsPart}
 
--- the front of the file with this name, up to one byte past the most
+-- the front of the file with this name, up to one byte past the limit
 abbrev pub IsFront : List ℕ → Contents → List ℕ → Type 0
 IsFront name files bytes = (whole : List ℕ) × (file_of name files ≡ Some whole) × (bytes ≡ take (file_limit + 1) whole)
 
--- this is left of the file with this name: at most one byte past the most was taken from its front
+-- the rest of the file with this name: at most one byte past the limit was read from its front
 abbrev pub IsLeftOf : List ℕ → Contents → Option (List ℕ) → Type 0
 IsLeftOf name files left = (whole : List ℕ) × (file_of name files ≡ Some whole) × ReadsPart file_limit (Some whole) left
 
--- These are the files of a script that copies the files of these names: what the files tell; or
--- any, where it copies none.
+-- The files of a script that copies the files of these names: those that are visible; or any, if it
+-- copies none.
 abbrev pub AreFilesFor : List (List ℕ) → Option Contents → Contents → Type 0
 AreFilesFor names told files = (told ≡ Some files) ⊎ (names ≡ [])
 
@@ -21,17 +21,17 @@ AreFilesFor names told files = (told ≡ Some files) ⊎ (names ≡ [])
 abbrev pub OnFiles : List (List ℕ) → Option Contents → (Contents → Type 0) → Type 0
 OnFiles names told P = (files : Contents) → AreFilesFor names told files → P files
 
--- told names grow by these, at their end
+-- the names asked for, if they are visible, grow by these at their end
 abbrev pub AsksForAll : List (List ℕ) → Option (List (List ℕ)) → Option (List (List ℕ)) → Type 0
 AsksForAll names None new = ⊤
 AsksForAll names (Some old) new = new ≡ Some (old ++ names)
 
--- told names grow by the first few of these
+-- the names asked for grow by the first few of these
 abbrev pub AsksForSome : List (List ℕ) → Option (List (List ℕ)) → Option (List (List ℕ)) → Type 0
 AsksForSome names old new = (k : ℕ) × (k ≤ length names) × AsksForAll (take k names) old new
 
--- This is the name of this number, counted from 0, and told names grow by the first `count` of the
--- names.
+-- This is the name of this number, counted from 0, and the names asked for grow by the first
+-- `count` of the names.
 pub record IsAskedLast (names : List (List ℕ)) (number count : ℕ) (old new : Option (List (List ℕ))) (name : List ℕ) : Type 0 where
   pub there : slice_get names number ≡ Some name
   pub asked : AsksForAll (take count names) old new

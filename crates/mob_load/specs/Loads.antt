@@ -1,4 +1,4 @@
--- What a script reads before it runs, in written order; the first check that fails decides.
+-- What a script reads before it runs, in written order. The first check that fails decides.
 use Rattle.std.specs.Prelude.{◌≡◌, ◌≤◌, ◌⊎◌, ◌+◌, ◌-◌, ℤ, ℕ, List, [], ◌∷◌, ◌++◌, length, map, nat_lt, slice_get, slice_index, slice_set, Option, Some, None, Result, Ok, Err, if◌then◌else◌}
 use Rattle.std.specs.List.{AllByRecursion, flat_map, AllZip}
 use Rattle.mob_ast.specs.declared.refusal.Kind.{Kind}
@@ -22,8 +22,8 @@ use Rattle.mob_load.specs.declared.program.Program.{Program}
 use Rattle.mob_load.specs.declared.program.LoadEnd.{LoadEnd}
 use Rattle.mob_load.specs.declared.program.LoadEnd.TheVariants.{Refused, TableRefused, ReadFault, NoMemory as OutOfMemory}
 
--- what was read so far: the values of the literals, the columns of the tables and how many rows
--- were put into each, and the rows of the files
+-- what was read so far: the values of the literals, the columns of the tables with their numbers of
+-- rows, and the rows of the files
 pub record Loaded : Type 0 where
   pub values : List Value
   pub tables : List ColumnList
@@ -34,13 +34,13 @@ abbrev pub nothing_loaded : Loaded
 nothing_loaded = record { values = []; tables = []; rows = []; files = [] }
 
 -- why loading stops: a refusal in the script; one in a file of this name, with its record and its
--- field; a file that is not there
+-- field; a missing file
 pub data Halt : Type 0 where
   refused : Refusal → Halt
   table_refused : List ℕ → Kind → ℕ → ℕ → Halt
   missing : List ℕ → Halt
 
--- the most rows that a script puts into one table
+-- the most rows that a script may put into one table
 abbrev pub greatest_rows : ℕ
 greatest_rows = 1000000
 
@@ -62,24 +62,24 @@ with_value l v = record l { values = l.values ++ v ∷ [] }
 abbrev pub with_made_table : Loaded → ColumnList → Loaded
 with_made_table l columns = record l { tables = l.tables ++ columns ∷ []; rows = l.rows ++ 0 ∷ [] }
 
--- so many rows more in the table of this number
+-- this many more rows in the table of this number
 abbrev pub with_rows : Loaded → ℕ → ℕ → Loaded
 with_rows l t n = record l { rows = slice_set l.rows t (loaded_row_count l t + n) }
 
 abbrev pub with_file : Loaded → ℕ → List (List Value) → Loaded
 with_file l t rows = record (with_rows l t (length rows)) { files = l.files ++ rows ∷ [] }
 
--- a literal has the value of its text, or it is refused for what is wrong with that
+-- a literal has the value of its text, or is refused for the fault of the text
 abbrev pub LoadsLiteral : ℤ → ConstText → Loaded → Result Loaded Halt → Type 0
 LoadsLiteral day c l (Ok m) = (v : Value) × IsConstant day c v × (m ≡ with_value l v)
 LoadsLiteral day c l (Err h) = (e : Refusal) × ConstantFails day c e × (h ≡ refused e)
 
--- a table takes one row more as long as it has fewer than the most; else the row is refused at its
+-- a table takes one more row as long as it has fewer than the limit; else the row is refused at its
 -- bracket
 abbrev pub one_row : ℕ → ℕ → ℕ → Loaded → Result Loaded Halt
 one_row t n p l = if nat_lt (loaded_row_count l t) greatest_rows then Ok (with_rows l t 1) else Err (refused (record { kind = kind.Limit; statement = n; place = p }))
 
--- a file has the rows of its bytes or their first refusal; a file that is not there has none
+-- a file has the rows of its bytes or their first refusal; a missing file has none
 abbrev pub LoadsFile : ℤ → ℕ → List ℕ → Loaded → Option (List ℕ) → Result Loaded Halt → Type 0
 LoadsFile day t name l None r = r ≡ Err (missing name)
 LoadsFile day t name l (Some bytes) (Ok m) = (rows : List (List Value)) × IsTable (loaded_columns l t) day (greatest_rows - loaded_row_count l t) bytes rows × (m ≡ with_file l t rows)
@@ -103,12 +103,12 @@ LoadsCheck day files (table columns) l r = r ≡ Ok (with_made_table l columns)
 LoadsCheck day files (room t n p) l r = r ≡ one_row t n p l
 LoadsCheck day files (file t name) l r = LoadsFile day t name l (file_of name files) r
 
--- what comes after a check: the others, or nothing
+-- what comes after a check: the others, or nothing if it fails
 abbrev pub ContinuesBy : (Loaded → Result Loaded Halt → Type 0) → Result Loaded Halt → Result Loaded Halt → Type 0
 ContinuesBy others (Ok m) r = others m r
 ContinuesBy others (Err h) r = r ≡ Err h
 
--- the checks one after the other; the first that fails decides
+-- the checks in order; the first that fails decides
 abbrev pub Loads : ℤ → Contents → List CheckParts → Loaded → Result Loaded Halt → Type 0
 Loads day files [] l r = r ≡ Ok l
 Loads day files (c ∷ cs) l r = (s : Result Loaded Halt) × LoadsCheck day files c l s × ContinuesBy (Loads day files cs) s r
@@ -122,7 +122,7 @@ abbrev pub names_in : List CheckParts → List (List ℕ)
 names_in cs = flat_map names_of cs
 
 -- The file of this number, counted from 0, is reached: it has this name, the checks before its own
--- all pass, and they ask for as many files.
+-- all pass, and they ask for that many files.
 pub record IsFileReached (day : ℤ) (files : Contents) (checks : List CheckParts) (number : ℕ) (name : List ℕ) : Type 0 where
   pub first : List CheckParts
   pub target : ℕ
@@ -137,21 +137,21 @@ pub record RefusesFile (day : ℤ) (files : Contents) (checks : List CheckParts)
   pub reached : IsFileReached day files checks number name
   pub refused : LoadsFile day reached.target name reached.read (file_of name files) (Err (table_refused name kind rec field))
 
--- What a check adds to what was read, whatever the files are: what it loads of some files.
+-- What a check adds to what was read, for some files.
 abbrev pub ReadsCheck : ℤ → CheckParts → Loaded → Loaded → Type 0
 ReadsCheck day c l m = (files : Contents) × LoadsCheck day files c l (Ok m)
 
--- what the checks add one after the other, each of files of its own
+-- what the checks add in order, each for files of its own
 abbrev pub ReadsChecks : ℤ → List CheckParts → Loaded → Loaded → Type 0
 ReadsChecks day [] l m = m ≡ l
 ReadsChecks day (c ∷ cs) l m = (k : Loaded) × ReadsCheck day c l k × ReadsChecks day cs k m
 
--- the program's state of loading as such a value
+-- the program's state of loading, as the definitions have it
 abbrev pub loaded_of : Loading → Loaded
 loaded_of l = record { values = l.values; tables = map (λ t. t.now) l.tables.items; rows = l.rows.items; files = l.files }
 
--- the program answers as the definition says; a fault of the files and a failed allocation are told
--- elsewhere
+-- the program's result is that of the definition; faults of the files and failed allocations are
+-- covered elsewhere
 abbrev pub LoadsTo : {A : Type 0} → Result A LoadEnd → Loaded → (Result Loaded Halt → Type 0) → Type 0
 LoadsTo (Ok x) after says = says (Ok after)
 LoadsTo (Err (Refused e)) after says = says (Err (refused e))
@@ -164,7 +164,7 @@ abbrev pub IsRead : LoadEnd → Type 0
 IsRead (ReadFault name) = ⊥
 IsRead _ = Unit {0}
 
--- what holds where a file was read: it was loaded, or it is refused
+-- what holds if a file was read: it was loaded, or it is refused
 abbrev pub OnRead : {A : Type 0} → Result A LoadEnd → Type 0 → Type 0
 OnRead (Ok x) P = P
 OnRead (Err (TableRefused name k rec field)) P = P
@@ -189,27 +189,28 @@ IsFaultAt c (TableRefused name k rec field) = IsFile c name
 IsFaultAt c (ReadFault name) = IsFile c name
 IsFaultAt c _ = Unit {0}
 
--- reading it failed only where the count of faults rose
+-- a failure to read a file comes with a higher count of faults
 abbrev pub HasFaultCause : ℕ → ℕ → LoadEnd → Type 0
 HasFaultCause before now (ReadFault name) = Rose before now
 HasFaultCause before now _ = Unit {0}
 
--- A file of these names is refused, which was asked for last: of the file of one number, the checks
--- before it pass, it has this refusal, and told names grow by those before it and by it.
+-- A file with one of these names is refused, and was asked for last: for the file of some number,
+-- the checks before it pass, it has this refusal, and the names asked for grow by those before it
+-- and by its own.
 pub record StopsAtRefused (day : ℤ) (checks : List CheckParts) (names : List (List ℕ)) (told : Option Contents) (old new : Option (List (List ℕ))) (name : List ℕ) (kind : Kind) (rec field : ℕ) : Type 0 where
   pub number : ℕ
   pub last : IsAskedLast names number (number + 1) old new name
   pub refused : OnFiles names told (λ m. RefusesFile day m checks number name kind rec field)
 
--- A file of these names could not be read: of the file of one number, the checks before it pass,
--- and told names grow by those before it, and by it where it could be opened.
+-- A file with one of these names could not be read: for the file of some number, the checks before
+-- it pass, and the names asked for grow by those before it, and by its own if it could be opened.
 pub record StopsAtUnread (day : ℤ) (checks : List CheckParts) (names : List (List ℕ)) (told : Option Contents) (old new : Option (List (List ℕ))) (name : List ℕ) : Type 0 where
   pub number : ℕ
   pub last : IsAskedLast names number number old new name ⊎ IsAskedLast names number (number + 1) old new name
   pub reached : OnFiles names told (λ m. IsFileReached day m checks number name)
 
--- Why the checks stop, which ask for these names: at the first that is refused, or at a file that
--- could not be read, before which all pass. A failed allocation is free.
+-- Why the checks, which ask for these names, stop: at the first that is refused, or at a file that
+-- could not be read, before which all pass. Nothing is asked of a failed allocation.
 abbrev pub ChecksStopBy : ℤ → List CheckParts → List (List ℕ) → Option Contents → Option (List (List ℕ)) → Option (List (List ℕ)) → LoadEnd → Type 0
 ChecksStopBy day checks names told old new (Refused e) = OnFiles names told (λ m. Loads day m checks nothing_loaded (Err (refused e)))
 ChecksStopBy day checks names told old new (TableRefused name k rec field) = StopsAtRefused day checks names told old new name k rec field
@@ -217,22 +218,21 @@ ChecksStopBy day checks names told old new (ReadFault name) = StopsAtUnread day 
 ChecksStopBy day checks names told old new OutOfMemory = Unit {0}
 
 -- What a script reads before it runs: the values of its literals and the rows of its files, each in
--- written order; or why it is refused first, in the script or in a file, or the first file that is
--- not there.
+-- written order; or its first refusal, in the script or in a file, or its first missing file.
 abbrev pub LoadsScript : ℤ → Contents → ScriptOut → Result Program Halt → Type 0
 LoadsScript day files out (Ok p) = (l : Loaded) × Loads day files (checks_of out) nothing_loaded (Ok l) × (p ≡ record { values = l.values; files = l.files })
 LoadsScript day files out (Err h) = Loads day files (checks_of out) nothing_loaded (Err h)
 
--- What a script has read, whatever its files: the values of its literals and, for each COPY, the
--- rows of some bytes.
+-- What a script may read, whatever its files are: the values of its literals and, for each COPY,
+-- the rows of some bytes.
 abbrev pub ReadsScript : ℤ → ScriptOut → Program → Type 0
 ReadsScript day out p = (l : Loaded) × ReadsChecks day (checks_of out) nothing_loaded l × (p ≡ record { values = l.values; files = l.files })
 
--- what a script reads of files that are told, it has read
+-- what a script loads from visible files is something that it reads
 abbrev pub LoadedIsRead : Type 0
 LoadedIsRead = (day : ℤ) (files : Contents) (out : ScriptOut) (p : Program) → LoadsScript day files out (Ok p) → ReadsScript day out p
 
--- the program's answer is what a script reads or its first refusal, or memory was wanted
+-- the program's result is what a script reads, or its first refusal, or out of memory
 abbrev pub IsLoadOutcome : ℤ → Contents → ScriptOut → Result Program LoadEnd → Type 0
 IsLoadOutcome day files out (Ok p) = LoadsScript day files out (Ok p)
 IsLoadOutcome day files out (Err (Refused e)) = LoadsScript day files out (Err (refused e))
@@ -260,10 +260,10 @@ literal_of _ = []
 abbrev pub literals_in : List CheckParts → List ConstText
 literals_in cs = flat_map literal_of cs
 
--- each literal of a script is looked at once, in written order
+-- each literal of a script is checked once, in written order
 abbrev pub LooksAtLiterals : Type 0
 LooksAtLiterals = (out : ScriptOut) → literals_in (checks_of out) ≡ out.consts
 
--- the values of a program are those of the script's literals, one by one, whatever its files
+-- the values of a program are those of the script's literals, one by one, whatever its files are
 abbrev pub ProgramHasValues : Type 0
 ProgramHasValues = (day : ℤ) (out : ScriptOut) (p : Program) → ReadsScript day out p → AllZip (IsConstant day) out.consts p.values

@@ -6,10 +6,10 @@ use Rattle.mob_load.specs.Checks.{CheckParts}
 use Rattle.mob_load.specs.Loads.{Halt, Loaded, Loads, LoadsScript}
 use Rattle.mob_load.specs.declared.program.Program.{Program}
 
--- what checks read from a start is one, and so is the first that fails
+-- checks read one thing from a start, or have one first failure
 abbrev pub HasOneLoading : Type 0
 HasOneLoading = (day : ℤ) (files : Contents) (checks : List CheckParts) (start : Loaded) (r q : Result Loaded Halt) → Loads day files checks start r → Loads day files checks start q → r ≡ q
 
--- a script has one program, or one refusal
+-- a script has one program or one refusal
 abbrev pub LoadsOneProgram : Type 0
 LoadsOneProgram = (day : ℤ) (files : Contents) (out : ScriptOut) (r q : Result Program Halt) → LoadsScript day files out r → LoadsScript day files out q → r ≡ q

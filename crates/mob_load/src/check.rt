@@ -1,23 +1,23 @@
-// The checks that are made before a script runs.
+//! The checks of a script before it runs.
 
 use mob_ast::SqlType;
 use mob_list::text::Text;
 use mob_typed::ConstText;
 
-/// What is looked at before a script runs.
+/// A check before a script runs.
 #[derive(Clone, Copy)]
 pub enum Check<'a> {
-    /// A literal, which is read as its type.
+    /// A literal, read as its type.
     Literal(&'a ConstText),
-    /// A new table of these columns.
+    /// A new table with these columns.
     Table(&'a [(Text, SqlType)]),
-    /// A row of an INSERT into the table of this number: the table may still take one.
+    /// A row of an INSERT into the table of this number, which must have room for one more.
     Room {
         /// The table.
         table: u32,
         /// The number of the statement, from 1.
         statement: u32,
-        /// The place of the row's opening bracket.
+        /// The place of the row's opening bracket, in bytes from 0.
         place: u32,
     },
     /// A file whose rows go into the table of this number.

@@ -1,4 +1,4 @@
-// One check: a literal, a new table, a row of an INSERT, or a file.
+//! One check: a literal, a new table, a row of an INSERT, or a file.
 ghost use Rattle.std.specs.Prelude.{◌≡◌, ◌≢◌, ◌+◌, ◌^◌, ◌<◌, ◌≤◌, IfErr, IfOk, IfSome, OnOk, length, map, option_map, slice_get, slice_index, slice_set, Some};
 ghost use Rattle.mob_outside.specs.Told.{AsksFor, KeepsFiles, MayAskFor, file_of};
 ghost use Rattle.mob_list.specs.Faults.{OnCause};
@@ -22,10 +22,10 @@ use mob_typed::ConstText;
 use mob_value::{Rows, Value};
 use std::alloc::Global;
 
-// The most rows that a script puts into one table.
+// The most rows that a script may put into one table.
 const GREATEST_ROWS: u32 = 1_000_000;
 
-// Why loading ends at a literal that is refused.
+// The end of loading for a refused literal.
 fn end_of(refusal: Refusal) -> LoadEnd
     ensures memory { refusal.kind ≡ Kind.NoMemory → result ≡ NoMemory }
     ensures refused { refusal.kind ≢ Kind.NoMemory → result ≡ Refused refusal }
@@ -56,7 +56,7 @@ fn read_literal(
     }
 }
 
-// Adds a table of these columns, which has no row yet.
+// Adds a table with these columns, without rows.
 fn make_table<'a>(loading: &mut Loading<'a>, columns: &'a [(Text, SqlType)]) -> Result<(), LoadEnd>
     ensures made { OnOk result (loaded_of loading.new ≡ with_made_table (loaded_of loading.old) columns.now) }
     ensures memory { IfErr result (λ e. e ≡ NoMemory) }
@@ -66,7 +66,7 @@ fn make_table<'a>(loading: &mut Loading<'a>, columns: &'a [(Text, SqlType)]) -> 
     Ok(())
 }
 
-// How many rows were put into the table of this number.
+// How many rows the table of this number has so far.
 fn row_count(rows: &[u32], table: u32) -> u32
     ensures count { result ≡ slice_index rows.now table }
 {
@@ -76,7 +76,7 @@ fn row_count(rows: &[u32], table: u32) -> u32
     }
 }
 
-// Counts rows that were put into the table of this number.
+// Counts rows of the table of this number.
 fn add_rows(rows: &mut Vec<u32>, table: u32, count: u32)
     requires fits { slice_index rows.old.items table + count < 2 ^ 32 }
     ensures counted { rows.new.items ≡ slice_set rows.old.items table (slice_index rows.old.items table + count) }
@@ -87,7 +87,7 @@ fn add_rows(rows: &mut Vec<u32>, table: u32, count: u32)
     }
 }
 
-// Counts a row of an INSERT. It is refused where its table is full.
+// Counts a row of an INSERT, or refuses it if its table is full.
 fn take_row(
     loading: &mut Loading<'_>,
     table: u32,
@@ -122,7 +122,7 @@ fn columns_of_table<'a>(
     }
 }
 
-// The rows of a file. A table that is not there has no columns; no statement names one.
+// The rows of a file. A table that does not exist has no columns; no statement names one.
 fn rows_of_bytes(
     alloc: Global,
     bytes: &[u8],
@@ -154,7 +154,7 @@ fn put_rows(loading: &mut Loading<'_>, table: u32, rows: Rows<Value>) -> Result<
     Ok(())
 }
 
-// Reads the bytes of a file as rows, and puts them into the table of this number.
+// Reads the bytes of a file as rows of the table of this number.
 fn load_bytes(
     alloc: Global,
     loading: &mut Loading<'_>,
@@ -183,7 +183,7 @@ fn load_bytes(
     }
 }
 
-// Reads a file, and puts its rows into the table of this number.
+// Reads a file as rows of the table of this number.
 fn load_file<F: Files>(
     alloc: Global,
     loading: &mut Loading<'_>,
@@ -212,7 +212,7 @@ fn load_file<F: Files>(
     }
 }
 
-/// One check, and what was read so far. A script is refused at the first check that fails.
+/// Runs one check, which adds to what was read. A script is refused at the first check that fails.
 pub fn run_check<'a, F: Files>(
     alloc: Global,
     check: Check<'a>,

@@ -1,4 +1,4 @@
-// A table file, read to its end or to one byte past the limit.
+//! A table file, read to its end or to one byte past the limit.
 ghost use Rattle.std.specs.Prelude.{◌≡◌, ◌⊎◌, ◌≤◌, IfOk, IfErr, IfSome, Err};
 ghost use Rattle.mob_outside.specs.Faults.{Rose};
 ghost use Rattle.mob_outside.specs.Told.{AsksFor, KeepsFiles, MayAskFor};
@@ -19,8 +19,9 @@ pub enum FileEnd {
     NoMemory,
 }
 
-/// The bytes of the file with this name, up to one byte past 16,777,216, and however it ends, no
-/// more are taken of it. `NotOpened` and `Fault` come only where the files failed.
+/// The bytes of the file with this name, or the first 16,777,217 of them if it is longer. No more
+/// are read of it, however the call ends. `NotOpened` and `Fault` come only if the files failed;
+/// else the error is a failed allocation.
 pub fn read_file<F: Files>(alloc: Global, files: &mut F, name: &str) -> Result<Vec<u8>, FileEnd>
     ensures bytes { IfOk result (λ v. IfSome (F.files files.old) (λ m. IsFront name.now m v.items)) }
     ensures part { (result ≡ Err NotOpened) ⊎ IfSome (F.files files.old) (λ m. IsLeftOf name.now m (F.left files.new)) }

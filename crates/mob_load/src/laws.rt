@@ -2,23 +2,23 @@
 ghost use Rattle.mob_load.specs.Loads.{LoadedIsRead, LooksAtLiterals, ProgramHasValues};
 ghost use Rattle.mob_load.specs.Outcomes.{HasOneLoading, LoadsOneProgram};
 
-/// Each literal of a script is looked at once, in written order.
+/// Each literal of a script is checked once, in written order.
 pub fn literals_are_looked_at()
     ensures once { LooksAtLiterals }
 {}
 
-/// What a script reads of files that are told, it has read; so what holds of all that it reads,
-/// whatever its files, holds of that.
+/// What a script loads from visible files is something that it reads. So what holds of everything
+/// that it may read, whatever its files, holds of that.
 pub fn loaded_is_read()
     ensures read { LoadedIsRead }
 {}
 
-/// The values of a program are those of the script's literals, one by one, whatever its files.
+/// The values of a program are those of the script's literals, one by one, whatever its files are.
 pub fn literals_have_their_values()
     ensures values { ProgramHasValues }
 {}
 
-/// Loading has one outcome: a script's literals and files give one program, or one refusal.
+/// Loading has one outcome: a script's literals and files give one program or one refusal.
 pub fn one_loading()
     ensures loading { HasOneLoading }
     ensures program { LoadsOneProgram }

@@ -1,4 +1,4 @@
-// How far loading has come.
+//! The state of loading.
 
 use mob_ast::SqlType;
 use mob_list::items::Items;
@@ -12,7 +12,7 @@ pub struct Loading<'a> {
     pub values: Items<Value>,
     /// The columns of the tables.
     pub tables: Vec<&'a [(Text, SqlType)]>,
-    /// How many rows were put into each table.
+    /// How many rows each table has.
     pub rows: Vec<u32>,
     /// The rows of the files.
     pub files: Items<Rows<Value>>,

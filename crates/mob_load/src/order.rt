@@ -1,4 +1,4 @@
-// What is looked at before a script runs, in written order.
+//! The checks of a script, in written order.
 ghost use Rattle.std.specs.Prelude.{◌≡◌, ◌++◌, ◌∷◌, [], List, IfOk, drop, map};
 ghost use Rattle.mob_typed.specs.declared.typed.ConstText.{ConstText};
 ghost use Rattle.mob_typed.specs.Statements.{script_seen, statement_seen};
@@ -8,15 +8,14 @@ use crate::check::Check;
 use mob_typed::{ConstText, Typed, TypedStatement};
 use std::alloc::{AllocError, Global};
 
-// Whether a literal stands before this place of this statement.
+// Whether a literal is before this place of this statement.
 fn stands_before(literal: &ConstText, statement: u32, place: u32) -> bool
     ensures before { result ≡ stands_before literal.now statement place }
 {
     literal.statement < statement || (literal.statement == statement && literal.place < place)
 }
 
-// Puts the literals from number `put` on that stand before this place. Answers the number of the
-// next one.
+// Appends the literals from number `put` on before this place. Returns the number of the next one.
 fn push_literals<'a>(
     done: &mut Vec<Check<'a>>,
     literals: &'a [ConstText],
@@ -38,8 +37,8 @@ fn push_literals<'a>(
     Ok(at)
 }
 
-// Puts the literals from number `put` on that stand before this place, and then the check of this
-// place. Answers the number of the next literal.
+// Appends the literals from number `put` on before this place, then the check of this place.
+// Returns the number of the next literal.
 fn push_checkpoint<'a>(
     done: &mut Vec<Check<'a>>,
     literals: &'a [ConstText],
@@ -56,7 +55,7 @@ fn push_checkpoint<'a>(
     Ok(at)
 }
 
-// Puts the brackets of an INSERT, each behind the literals that stand before it.
+// Appends the brackets of an INSERT, each after the literals before it.
 fn push_brackets<'a>(
     done: &mut Vec<Check<'a>>,
     literals: &'a [ConstText],
@@ -80,7 +79,7 @@ fn push_brackets<'a>(
     Ok(at)
 }
 
-// Puts the checkpoints of a statement, each behind the literals that stand before it.
+// Appends the checkpoints of a statement, each after the literals before it.
 fn push_statement<'a>(
     done: &mut Vec<Check<'a>>,
     literals: &'a [ConstText],
@@ -114,7 +113,7 @@ fn push_statement<'a>(
     }
 }
 
-// Puts the literals that are left.
+// Appends the remaining literals.
 fn push_rest<'a>(
     done: &mut Vec<Check<'a>>,
     literals: &'a [ConstText],
@@ -130,7 +129,8 @@ fn push_rest<'a>(
     Ok(())
 }
 
-/// What is looked at before this script runs, in written order.
+/// The checks of this script before it runs, in written order. The only error is a failed
+/// allocation.
 pub fn checks_of(alloc: Global, typed: &Typed) -> Result<Vec<Check<'_>>, AllocError>
     ensures in_order { IfOk result (λ checks. map check_seen checks.items ≡ checks_of (script_seen typed.now)) }
 {

@@ -1,4 +1,4 @@
-// What was loaded, and why it was not.
+//! The result of loading: a program, or why there is none.
 ghost use Rattle.std.specs.Prelude.{◌≡◌};
 
 use mob_ast::{Kind, Refusal};
@@ -19,7 +19,7 @@ pub struct Program {
 /// Why a script is not loaded.
 #[derive(Drop)]
 pub enum LoadEnd {
-    /// A literal has no value, or a row of an INSERT is one too many for its table.
+    /// A literal has no value, or a row of an INSERT exceeds the limit of its table.
     Refused(Refusal),
     /// A file is refused.
     TableRefused {
@@ -32,12 +32,12 @@ pub enum LoadEnd {
         /// The number of the field, from 1; 0 for the record as a whole.
         field: u32,
     },
-    /// A file is not there, or reading it failed. The files' count of faults rose.
+    /// A file does not exist, or reading it failed. The files' count of faults rose.
     ReadFault {
         /// The name of the file.
         file: Text,
     },
-    /// There was no memory.
+    /// An allocation failed.
     NoMemory,
 }
 

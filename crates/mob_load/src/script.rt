@@ -18,7 +18,7 @@ use mob_scalar::Epoch;
 use mob_typed::Typed;
 use std::alloc::Global;
 
-// What was read before the first check.
+// The state before the first check.
 fn nothing_loaded<'a>(alloc: Global) -> Loading<'a>
     ensures nothing { loaded_of result ≡ nothing_loaded }
 {
@@ -30,7 +30,7 @@ fn nothing_loaded<'a>(alloc: Global) -> Loading<'a>
     }
 }
 
-// The checks one after the other, up to the first that fails.
+// Runs the checks in order, up to the first that fails.
 fn load_checks<'a, F: Files>(
     alloc: Global,
     checks: &[Check<'a>],
@@ -57,7 +57,7 @@ fn load_checks<'a, F: Files>(
     Ok(loading)
 }
 
-// What was read is the program.
+// The program that was read.
 fn program_of(loading: Loading<'_>) -> Program
     ensures read { result ≡ record { values = (loaded_of loading.entry).values; files = (loaded_of loading.entry).files } }
 {
@@ -65,10 +65,10 @@ fn program_of(loading: Loading<'_>) -> Program
     Program { values, files }
 }
 
-/// The values of a script's literals and the rows of its files; or its first refusal, statement by
-/// statement: of a literal without a value, of a row behind the millionth of its table, or of a
+/// The values of a script's literals and the rows of its files; or the first refusal in written
+/// order: of a literal without a value, of a row beyond the first million of its table, or of a
 /// file. Each file is read when its statement is reached, to its end or to one byte past
-/// 16,777,216.
+/// 16,777,216. `ReadFault` comes only if the files failed, and `NoMemory` if an allocation fails.
 pub fn load<F: Files>(
     alloc: Global,
     typed: &Typed,

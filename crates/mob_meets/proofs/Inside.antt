@@ -1,4 +1,4 @@
--- A point inside closed rings lies in each area that has their corners.
+-- A point inside closed rings is in each area that contains their corners.
 use Rattle.std.proofs.Common.{◌≡◌, Bool, true, false, not, ◌&&◌, ◌||◌, List, [], ◌∷◌, ◌++◌, Option, Some, arith, refl, sym, ap, ◌∙◌, subst, inl, inr, true≢false}
 use Rattle.std.proofs.lemmas.Bool.{or_parts}
 use Rattle.std.specs.Prelude.{All, suc, length, slice_get, ◌-◌}
@@ -26,8 +26,8 @@ use Rattle.mob_stbox.specs.declared.area.Area.{Area}
 
 -- ---- edges on one side of a point
 
--- the turn by what a and b are from p: p below a and not below b, to the left and to the right of
--- both
+-- the turn, from the positions of a and b relative to p: p is below a and not below b, to the left
+-- or to the right of both
 turn_left : (ax ay bx by px py : Ratio) → (bx -ℚ ax) *ℚ (py -ℚ ay) -ℚ (by -ℚ ay) *ℚ (px -ℚ ax) ≡ neg_ℚ ((bx -ℚ px) *ℚ (ay -ℚ py) +ℚ (py -ℚ by) *ℚ (ax -ℚ px))
 turn_left = clear6 _ (λ D a b c d e f z. simp cleared (omega (arith, linear)))
 
@@ -82,7 +82,7 @@ never_far true false far h k = h refl refl
 never_far false true far h k = k refl refl
 never_far false false far h k = refl
 
--- an edge to the right of p passes where it passes the height of p
+-- an edge to the right of p passes if it crosses the height of p
 cross_right : (p a b : Point) → before p.x a.x ≡ true → before p.x b.x ≡ true → passes_right p (a, b) ≡ is_one_alone (above p a) (above p b)
 cross_right p a b la lb =
     by_height (above p a) (above p b) (before p.x (crossing_at (a, b) p.y))
@@ -105,7 +105,7 @@ alone_same false false far e = refl
 cross_level : (p a b : Point) → above p a ≡ above p b → passes_right p (a, b) ≡ false
 cross_level p a b e = alone_same (above p a) (above p b) (before p.x (crossing_at (a, b) p.y)) e
 
--- on no edge where both ends are on one side
+-- p is on no edge whose ends are both on one side
 between_above : (t s u : Ratio) → before t s ≡ true → before t u ≡ true → lies_between s u t ≡ false
 between_above t s u h k = rw (h, k) refl
 
@@ -173,7 +173,7 @@ odd_both : (es fs : List (Point × Point)) (p : Point) → odd_cross (signs_to (
 odd_both [] fs p = refl
 odd_both (e ∷ es) fs p = ap (λ z. is_one_alone (crosses (signs_at p e.0 e.1)) z) (odd_both es fs p) ∙ alone_assoc (crosses (signs_at p e.0 e.1)) (odd_cross (signs_to es p)) (odd_cross (signs_to fs p))
 
--- Off: on which side p is of each corner
+-- Off: the side of p on which a corner is
 module _ (p : Point) (Off : Point → Type 0) (on : (a b : Point) → Off a → Off b → lies_on p (a, b) ≡ false) where
   on_none : (ring : List Point) → AllByRecursion Off ring → some_on (signs_to (edges ring) p) ≡ false
   on_none [] h = refl
@@ -186,7 +186,7 @@ module _ (p : Point) (Off : Point → Type 0) (on : (a b : Point) → Off a → 
   none_cross none (a ∷ []) h = refl
   none_cross none (a ∷ b ∷ rest) h = rw (sym (right_is a b p) ∙ none a b h.0 h.1.0) (none_cross none (b ∷ rest) h.1)
 
-  -- an edge passes where one end is above p and the other is not
+  -- an edge passes if one end is above p and the other is not
   all_cross : ((a b : Point) → Off a → Off b → passes_right p (a, b) ≡ is_one_alone (above p a) (above p b)) → (a : Point) (rest : List Point) → AllByRecursion Off (a ∷ rest) → odd_cross (signs_to (edges (a ∷ rest)) p) ≡ is_one_alone (above p a) (above p (last_from a rest))
   all_cross each a [] h = sym (alone_self (above p a))
   all_cross each a (b ∷ rest) h =
@@ -226,7 +226,7 @@ each_closed : (rings : List (List Point)) → has_open rings ≡ false → AllBy
 each_closed [] h = tt
 each_closed (r ∷ rs) h = let n = or_parts (is_open_ring r) (list_any is_open_ring rs) h in (n.0, each_closed rs n.1)
 
--- a number that cannot be before another is at or past it
+-- a number that cannot be before another is equal or greater
 never_before : (s t : Ratio) → (before t s ≡ true → ⊥) → s ≤ℚ t
 never_before s t f = elim (cases_lt t s) [
   | inl l ↦ absurd (f (lt-before t s l))

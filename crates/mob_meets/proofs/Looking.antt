@@ -1,4 +1,4 @@
--- Boxes of polygons, and the one box by which a value is looked for.
+-- Boxes of polygons, and the one box by which a value is searched for.
 use Rattle.std.proofs.Common.{◌≡◌, true, false, List, Option, Some, None, arith, refl, sym, ap, ◌∙◌, subst}
 use Rattle.std.specs.Prelude.{All, IfSome, is_some, ◌&&◌, ◌||◌}
 use Rattle.std.proofs.lemmas.List.Elements.{All-contains}
@@ -22,7 +22,7 @@ use Rattle.mob_meets.specs.Covers.{Covers, box_between, IsLookedForBy}
 use Rattle.mob_meets.proofs.Near.{area_of, there_in}
 use Rattle.mob_meets.proofs.Inside.{inside_in}
 
--- all points are in the rectangle between their corners
+-- all points are in the bounding rectangle of their corners
 corners_have : (ps : List PointOf) (least greatest : PointOf) → AreCorners ps least greatest → All (InArea (area_between least greatest)) ps
 corners_have ps least greatest h k d lt = record {
   from_west = le_trans _ least.x _ (not-up_to-le _ _ (smaller_left least.x greatest.x)) (not-up_to-le _ _ (h.least_x.none_less k d lt));
@@ -49,7 +49,7 @@ entered place b rings least greatest covers s closed corners t p e k =
     no_time None r e = tt
     no_time (Some s) r e = subst (λ w. IfSome w (λ z. (u : Ratio) × InSpan s u × InSpan z u)) (sym e) tt
 
--- ---- there is one
+-- ---- there is such a box
 
 least_up : (c : PointOf → Ratio) (ps : List PointOf) (x y : Ratio) → IsLeastAmong c ps x → IsLeastAmong c ps y → up_to y x ≡ true
 least_up c ps x y h k = subst (λ z. up_to y z ≡ true) h.some.4 (All-contains (λ p. up_to y (c p) ≡ true) ps h.some.1 k.none_less (h.some.0, h.some.2, h.some.3))

@@ -1,4 +1,4 @@
--- What is near in the plane is near by each coordinate; so boxes meet.
+-- Points that are near in the plane are near in each coordinate, so their boxes meet.
 use Rattle.std.proofs.Common.{◌≡◌, true, inl, inr, Option, Some, None, arith, refl, sym, ap, ◌∙◌, subst}
 use Rattle.std.proofs.lemmas.Bool.{and_parts}
 use Rattle.std.specs.Prelude.{IfSome, is_some, cond, ◌||◌, ◌&&◌}
@@ -21,7 +21,7 @@ use Rattle.mob_lift.specs.Sometime.{IsSometime}
 use Rattle.mob_near.specs.Distances.{are_within, distance_squared}
 use Rattle.mob_meets.specs.Covers.{Covers}
 
--- a summand is at most the sum of two that are not below nil
+-- a summand is at most the sum if the other one is not negative
 part_le : (a b : Ratio) → nil ≤ℚ b → a ≤ℚ (a +ℚ b)
 part_le = clear2 _ (λ D x y p h. let h' = simp cleared at h in simp cleared (omega (arith, linear)))
 
@@ -47,8 +47,8 @@ not_before_side = clear4 _ (λ D l p q d z a b. let a' = simp cleared at a in le
 not_past_side : (h p q d : Ratio) → p ≤ℚ h → (q -ℚ p) ≤ℚ d → q ≤ℚ (h +ℚ d)
 not_past_side = clear4 _ (λ D h p q d z a b. let a' = simp cleared at a in let b' = simp cleared at b in simp cleared (omega (arith, linear)))
 
--- the difference by one coordinate is at most d and_parts ways, where its square and another not
--- below nil are at most that of d
+-- the difference in one coordinate is at most d both ways, if the sum of its square and a number
+-- that is not negative is at most the square of d
 pub record AreClose (p q d : Ratio) : Type 0 where
   pub forward : (p -ℚ q) ≤ℚ d
   pub back : (q -ℚ p) ≤ℚ d
@@ -78,7 +78,7 @@ near_second a p q d h i =
       to_north = not_past_side a.ymax p.y q.y d i.to_north y.back;
     }
 
--- a distance is the same and_parts ways
+-- a distance is the same both ways
 within_back : (d : Ratio) (p q : Point) → are_within d p q ≡ true → are_within d q p ≡ true
 within_back d p q h = subst (λ z. (up_to nil d && up_to z (d *ℚ d)) ≡ true) (sym (ap (λ x. x +ℚ (q.y -ℚ p.y) *ℚ (q.y -ℚ p.y)) (other_way p.x q.x) ∙ ap (λ y. (p.x -ℚ q.x) *ℚ (p.x -ℚ q.x) +ℚ y) (other_way p.y q.y))) h
 
@@ -100,7 +100,7 @@ both_times None r t h k = tt
 both_times (Some s) None t h k = tt
 both_times (Some s) (Some r) t h k = (t, h, k)
 
--- a box over the first, beside one that has the first's place at an instant of its own time
+-- a box over the first point meets one that has the first's place at an instant of its own time
 over_meets : (b : BoxOf) (moved : Area) (time : Option SpanOf) (t : Ratio) (p : Point) → is_some b.space ≡ true → InBox b t p → InArea moved p → IfSome time (λ r. InSpan r t) → BoxesMeet b (record { space = Some moved; time = time })
 over_meets b moved time t p s i there at =
     let x = area_of b.space s in

@@ -1,4 +1,4 @@
--- The command is simple, and no option has a rule on another.
+-- The command is simple, and no option has a rule about another.
 use Rattle.std.proofs.Common.{◌≡◌, refl, true}
 use Rattle.clap.specs.Words.{is_simple_and_free}
 use Rattle.clap.proofs.OnLiterals.{clap_on_literals}

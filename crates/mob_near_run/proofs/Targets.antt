@@ -1,4 +1,4 @@
--- What the options of a command line say.
+-- The meaning of the options of a command line.
 use Rattle.std.proofs.Common.{List, ◌≡◌, ◌∙◌, ℕ, ℤ, Bool, Option, Some, None, Ok, Err, refl, sym, subst, arith}
 use Rattle.std.specs.Prelude.{◌≢◌, Result, IfOk, IfSome, IsNone, cond, codes}
 use Rattle.clap.specs.Words.{Text}
@@ -62,7 +62,7 @@ ok_same v w e = cc
 same_settings : (a b : NearSettings) → a.k ≡ b.k → a.epoch ≡ b.epoch → a.to ≡ b.to → a ≡ b
 same_settings a b k e t = rw (k, e, t) refl
 
--- arguments say one record of settings
+-- arguments give one record of settings
 pub near_one : (words : List Text) (a b : NearSettings) → NearSays words a → NearSays words b → a ≡ b
 near_one words a b h k =
     let e = one_day (option_value near_command (codes "epoch") words) a.epoch b.epoch h.day k.day in

@@ -24,8 +24,8 @@ abbrev pub target_value : Target → Value
 target_value (Moving v) = value.MovingPoint v
 target_value (Fixed p) = value.Point p
 
--- the arguments are taken and say these settings: how many rows, from 1 to 1000, the day of the
--- epoch, and to what the trips come near
+-- the arguments are accepted and give these settings: how many rows, from 1 to 1000, the day of the
+-- epoch, and the target
 pub record NearSays (words : List Text) (settings : NearSettings) : Type 0 where
   pub taken : Takes near_command words
   pub count : IsRequired (IsCount 1000) (option_value near_command (codes "k") words) settings.k

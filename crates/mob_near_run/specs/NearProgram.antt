@@ -13,8 +13,8 @@ use Rattle.mob_near_run.specs.CommandLine.{NearSays}
 use Rattle.mob_near_run.specs.NearAnswers.{NearWrites, IsRowPassed}
 use Rattle.mob_near_run.specs.declared.settings.NearSettings.{NearSettings}
 
--- It writes the nearest rows. A row whose approach has a part that does not fit may stop it; where
--- there is no such row, it has an answer. No row passes a limit.
+-- It writes the nearest rows. A row whose approach has a part that does not fit may stop it; if
+-- there is no such row, it has an answer. No row exceeds a limit.
 abbrev pub near_program : ProgramOf NearSettings
 near_program = record {
   says = NearSays;
@@ -25,15 +25,15 @@ near_program = record {
   fits = λ settings rows. (row : ℕ) (formula : Formula) → IsRowPassed settings rows row formula → ⊥;
 }
 
--- the ending of a fault: that row with its formula, or out of memory
+-- the ending for a fault: that row with its formula, or out of memory
 abbrev pub EndsAt : Fault (ℕ × Formula) → Ending → Type 0
 EndsAt (fault.Because f) ending = ending ≡ end.Overflow (f.0 ∷ []) f.1
 EndsAt fault.NoMemory ending = ending ≡ end.NoMemory
 
--- so ends a run on these streams, where its arguments say these settings
+-- the ending of a run on these streams, if its arguments give these settings
 abbrev pub NearEnds : NearSettings → StreamSeen → StreamSeen → Ending → Type 0
 NearEnds settings table out ending = (words : List (List ℕ)) → NearSays words settings → IsTripsEnding near_program ending (trips_seen words table out)
 
--- the line of arguments that are not taken
+-- the line for arguments that are not accepted
 abbrev pub near_usage : List ℕ
 near_usage = codes "usage: mobnear --k K --to TEXT [--epoch DATE] < trips.csv\n"

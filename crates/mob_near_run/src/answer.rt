@@ -1,4 +1,4 @@
-// The text of the answer.
+//! The text of the answer of mobnear.
 ghost use Rattle.std.specs.Prelude.{◌≡◌, ◌≤◌, ◌<◌, IfOk, IfErr, length, map};
 ghost use Rattle.mob_list.specs.Faults.{OnCause};
 ghost use Rattle.mob_numeral.specs.NumberText.{number_text};
@@ -139,7 +139,7 @@ fn text_of(
     counted_text(alloc, names.as_slice(), rows.as_slice())
 }
 
-/// The text of the nearest rows of a table.
+/// The text of the nearest rows of a table, or the fault of the search.
 pub fn near_text(
     alloc: Global,
     settings: &NearSettings,

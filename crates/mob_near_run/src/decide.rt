@@ -1,4 +1,4 @@
-// What a run does before its note.
+//! A run up to its note.
 ghost use Rattle.std.specs.Prelude.{map, string_bytes};
 ghost use Rattle.mob_outside.specs.EndsSeen.{stream_seen};
 ghost use Rattle.mob_trips.specs.Endings.{IsTripsEnding};
@@ -15,7 +15,7 @@ use mob_trips::{Ending, put_text, read_trips};
 use mob_tuples::Tuple;
 use std::alloc::Global;
 
-// The ending of a fault of the search.
+// The ending for a fault of the search.
 fn ending_of(fault: NearFault) -> Ending
     ensures ending { EndsAt fault result }
 {
@@ -48,7 +48,7 @@ fn answer_table<S: Source, K: Sink>(
     put_text(out, &text)
 }
 
-/// Judges the arguments, reads the table and writes the nearest rows.
+/// Judges the arguments, reads the table and writes the nearest rows. Returns the ending.
 pub fn decide<S: Source, K: Sink>(
     alloc: Global,
     words: &[String],

@@ -1,4 +1,4 @@
-// What the arguments of a command line say.
+//! Reads the settings from the arguments.
 ghost use Rattle.std.specs.Prelude.{◌≡◌, ◌≢◌, ◌==◌, Ok, None, IfOk, IfSome, IsNone, map, string_bytes};
 ghost use Rattle.std.specs.List.{list_any};
 ghost use Rattle.mob_ast.specs.declared.types.SqlType.TheVariants.{TPoint, Point as PointType};
@@ -17,7 +17,7 @@ use mob_value::Value;
 use mob_words::{count_of, epoch_of};
 use std::alloc::{AllocError, Global};
 
-// The greatest number of rows that may be asked for.
+// The greatest number of rows that `--k` accepts.
 const MOST_ROWS: u32 = 1000;
 
 // Whether a text has an `@`.
@@ -37,7 +37,7 @@ fn no_target(fault: ReadText) -> Result<Option<Target>, AllocError>
     }
 }
 
-// The moving point that a text is.
+// The moving point of a text.
 fn moving_target(alloc: Global, text: &str, epoch: &Epoch) -> Result<Option<Target>, AllocError>
     ensures said { IfOk result (λ o. IfSome o (λ t. SaysAs TPoint epoch.now text.now (Ok (target_value t)))) }
     ensures refused { IfOk result (λ o. IsNone o → (t : TargetSeen) → SaysAs TPoint epoch.now text.now (Ok (target_value t)) → ⊥) }
@@ -49,7 +49,7 @@ fn moving_target(alloc: Global, text: &str, epoch: &Epoch) -> Result<Option<Targ
     }
 }
 
-// The point that a text is.
+// The point of a text.
 fn fixed_target(alloc: Global, text: &str, epoch: &Epoch) -> Result<Option<Target>, AllocError>
     ensures said { IfOk result (λ o. IfSome o (λ t. SaysAs PointType epoch.now text.now (Ok (target_value t)))) }
     ensures refused { IfOk result (λ o. IsNone o → (t : TargetSeen) → SaysAs PointType epoch.now text.now (Ok (target_value t)) → ⊥) }
@@ -61,7 +61,7 @@ fn fixed_target(alloc: Global, text: &str, epoch: &Epoch) -> Result<Option<Targe
     }
 }
 
-// The target that a text is: a moving point where it has an `@`, else a point.
+// The target of a text: a moving point if it has an `@`, else a point.
 fn target(alloc: Global, text: &str, epoch: &Epoch) -> Result<Option<Target>, AllocError>
     ensures said { IfOk result (λ o. IfSome o (λ t. SaysAs (target_type text.now) epoch.now text.now (Ok (target_value t)))) }
     ensures refused { IfOk result (λ o. IsNone o → (t : TargetSeen) → SaysAs (target_type text.now) epoch.now text.now (Ok (target_value t)) → ⊥) }
@@ -72,12 +72,12 @@ fn target(alloc: Global, text: &str, epoch: &Epoch) -> Result<Option<Target>, Al
     fixed_target(alloc, text, epoch)
 }
 
-/// The settings that the arguments say, the first of which is the program's name: `--k K` with a
+/// The settings that the arguments give, the first of which is the program's name: `--k K` with a
 /// whole number from 1 to 1000, `--to TEXT` with a point or a moving point, and `--epoch DATE`.
 /// `--k` and `--to` are required, and each option may be given once. `--epoch` applies to TEXT,
 /// wherever it is given.
 ///
-/// None exactly where the arguments are not taken.
+/// `None` exactly if the arguments are not accepted. The only error is a failed allocation.
 pub fn settings(alloc: Global, words: &[String]) -> Result<Option<NearSettings>, AllocError>
     ensures said { IfOk result (λ o. IfSome o (NearSays (map string_bytes words.now))) }
     ensures refused { IfOk result (λ o. IsNone o → (s : SettingsSeen) → NearSays (map string_bytes words.now) s → ⊥) }

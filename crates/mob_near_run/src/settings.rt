@@ -1,24 +1,24 @@
-// What the arguments of a command line say.
+//! The settings of mobnear.
 use mob_plane::Point;
 use mob_scalar::Epoch;
 use mob_slice::{Moving, PlaneLine};
 
-/// That to which trips come near.
+/// The target that trips come near to.
 #[derive(Drop)]
 pub enum Target {
     /// A moving point.
     Moving(Moving<PlaneLine>),
-    /// A point, which is there at all times.
+    /// A point, which stays there at all times.
     Fixed(Point),
 }
 
-/// What the arguments of a command line say.
+/// The settings that the arguments give.
 #[derive(Drop)]
 pub struct NearSettings {
     /// How many rows are asked for, from 1 to 1000.
     pub k: u32,
-    /// The day from whose midnight the instants count: 2000-01-01 without `--epoch`.
+    /// The day from whose midnight instants count; 2000-01-01 without `--epoch`.
     pub epoch: Epoch,
-    /// That to which the trips come near.
+    /// The target.
     pub to: Target,
 }

@@ -1,4 +1,4 @@
-// The values that arguments give to the options.
+//! The values that arguments give to the options.
 ghost use Rattle.std.specs.Prelude.{◌≡◌, IfOk, IfSome, IsNone, codes, map, option_map, string_bytes};
 ghost use Rattle.mob_words.specs.Arguments.{Takes, option_value};
 ghost use Rattle.mob_near_run.specs.CommandLine.{near_command};
@@ -14,8 +14,8 @@ pub struct Values<'a> {
     pub to: Option<&'a str>,
 }
 
-/// The value of each option, or None exactly where the command does not take the arguments. An
-/// option that is not given has no value. The one error is a failed allocation.
+/// The value of each option, or `None` exactly if the command does not take the arguments. An
+/// option that is not given has no value. The only error is a failed allocation.
 #[tactic(auto, using(crate::proofs::Facts::command_is_free))]
 pub fn values_in<'a>(alloc: Global, words: &'a [String]) -> Result<Option<Values<'a>>, AllocError>
     ensures taken { IfOk result (λ o. IfSome o (λ v. Takes near_command (map string_bytes words.entry.now))) }

@@ -1,4 +1,4 @@
--- A cast that typing lets through gives a value of the type that is asked for.
+-- A cast that typing accepts gives a value of the requested type.
 use Rattle.std.proofs.Common.{◌≡◌, ◌∙◌, true≢false, [], ◌∷◌, refl, sym, subst}
 use Rattle.mob_ast.specs.declared.types.SqlType.{SqlType}
 use Rattle.mob_ast.specs.declared.types.SqlType.TheVariants as sql

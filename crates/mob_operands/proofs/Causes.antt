@@ -1,5 +1,5 @@
--- A key over stored values of its types asks for all rows only where an expression has a fault or
--- the box cannot be made wider.
+-- A well-typed key over stored values asks for all rows only if an expression has a fault or the
+-- box cannot be expanded.
 use Rattle.std.proofs.Common.{◌≡◌, ◌≢◌, inl, inr, true, false, true≢false, List, [], ◌∷◌, Ok, refl, sym, subst, arith}
 use Rattle.std.specs.Prelude.{◌⊎◌, Bool, ◌&&◌, fold, Option, None, Some}
 use Rattle.mob_ratio.specs.Ratio.{Ratio}
@@ -38,7 +38,7 @@ ring_corners ((p ∷ ps) ∷ rings) h =
     let made : Corners = fold widened (record { least = p; greatest = p }) points in
     (made.least, made.greatest, are_corners p points made (0, omega (arith), refl) refl)
 
--- a stored value of these types that is not NULL is looked for by a box
+-- a stored value of these types that is not NULL is searched for by a box
 abbrev HasOne : Value → Type 0
 HasOne v = (b : BoxOf) × IsLookedForBy v b
 
@@ -83,7 +83,7 @@ inside_one v n h = by h.form
     by (inl k) = polygon_one v n k h.stored
     by (inr k) = polygon_one v n k h.stored
 
--- NULL asks for no row, so what asks for all is not NULL
+-- NULL asks for no rows, so what asks for all rows is not NULL
 not_null : (v : Value) (row : Value → Probe → Type 0) → UnlessNull v row Everything → v ≢ Null
 not_null Null row h e = absurd (cc h)
 not_null v row h e = absurd (cc e)
@@ -92,7 +92,7 @@ unless : (v : Value) (row : Value → Probe → Type 0) → UnlessNull v row Eve
 unless Null row h = absurd (cc h)
 unless v row h = h
 
--- one that has a box asks for what meets that box
+-- a value with a box asks for what meets it, so never for all rows
 meeting_never : (v : Value) → HasOne v → ByBox v AsksForMeeting Everything → ⊥
 meeting_never v one (inl h) = absurd (let e = h.2 in cc e)
 meeting_never v one (inr h) = h.0 one.0 one.1
@@ -101,7 +101,7 @@ never_of : (o : Option BoxOf) → Everything ≡ asked_of o → ⊥
 never_of None h = absurd (cc h)
 never_of (Some b) h = absurd (cc h)
 
--- the wider box of one that has a box does not fit
+-- an expanded box that asks for all rows has a side that does not fit
 wider_unfit : (w : Value) (b : BoxOf) → w ≢ Null → is_of_type sql.Numeric w ≡ true → AsksForWider w b Everything → (d : Ratio) × (w ≡ Number d) × (AllFit (parts_of_expansion b d) → ⊥)
 wider_unfit Null b n k h = absurd (n refl)
 wider_unfit (Number d) b n k (inl h) = (d, refl, h.0)
@@ -114,7 +114,7 @@ near_unfit s e d v w is by one n k (inl h) =
     record { value = v; is_value = is; box = h.0; is_box = h.1; distance = x.0; is_distance = subst (λ z. TreeEvaluatesTo s d (Ok z)) x.1 by; unfit = x.2 }
 near_unfit s e d v w is by one n k (inr h) = absurd (h.0 one.0 one.1)
 
--- a distance behind a value that is not NULL
+-- a distance after a value that is not NULL
 abbrev ByDistance : Scene → TypedTree → Value → Probe → Type 0
 ByDistance s d v = AsksBy s d (λ w. ByBox v (AsksForWider w))
 

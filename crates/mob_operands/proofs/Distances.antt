@@ -33,7 +33,7 @@ are_near t u w = are_points t u && is_plain_number w
 abbrev Within : Value → Value → Value → Type 0
 Within a b c = (v : Value) → IsEverWithin a b c v → IsAnswer op.EDwithin sql.Bool (a ∷ b ∷ c ∷ []) v
 
--- the two points alone answer, since a number is there at each instant
+-- the two points alone decide, since a number exists at each instant
 beside_distance : (a b : Value) (d : Ratio) (v : Value) → IsAnswer op.EDwithin sql.Bool (a ∷ b ∷ []) v → IsAnswer op.EDwithin sql.Bool (a ∷ b ∷ Number d ∷ []) v
 beside_distance a b d v e = record { own = e.own; null = λ n t h. e.null n t (h.0, (h.1.0, tt)) }
 
@@ -51,7 +51,7 @@ by_distance t u _ e p a b c h k l = absurd (true≢false (sym p))
 pub within_answers : (t u w : SqlType) → are_near t u w ≡ true → (a b c : Value) → IsValueOf t a → IsValueOf u b → IsValueOf w c → Within a b c
 within_answers t u w e a b c h k l = let p = both_true (are_points t u) (is_plain_number w) e in by_distance t u w p.0 p.1 a b c h k l
 
--- ---- boxes made wider
+-- ---- expanded boxes
 
 abbrev pub are_widened : SqlType → SqlType → Bool
 are_widened sql.Box sql.Int = true

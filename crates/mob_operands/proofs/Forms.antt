@@ -1,4 +1,4 @@
--- A value of a type is NULL or has the form of the type, and so for two values.
+-- A value of a type is NULL or has the form of the type; the same for two values.
 use Rattle.std.proofs.Common.{◌≡◌, ◌≢◌, ℕ, Bool, true, true≢false, List, [], ◌∷◌, Option, Some, None, refl, sym, subst}
 use Rattle.std.specs.Prelude.{MatchOption}
 use Rattle.std.specs.List.{AllByRecursion}
@@ -45,7 +45,7 @@ OnForms sql.TFrac P = (m : List (Slice Line)) → P (MovingFrac m)
 OnForms sql.TText P = (m : StepSlices (List ℕ)) → P (MovingText m)
 OnForms sql.TPoint P = (m : List (Slice PlaneLine)) → P (MovingPoint m)
 
--- so it holds of each value of the type where it holds of NULL
+-- so it holds for each value of the type if it holds for NULL
 pub by_type : (t : SqlType) (P : Value → Type 0) → P Null → OnForms t P → (a : Value) → IsValueOf t a → P a
 by_type t P n f Null h = n
 by_type sql.Bool P n f (Truth b) h = f b
@@ -82,13 +82,13 @@ map_forms sql.TFrac P Q g f = λ x. g (MovingFrac x) (f x)
 map_forms sql.TText P Q g f = λ x. g (MovingText x) (f x)
 map_forms sql.TPoint P Q g f = λ x. g (MovingPoint x) (f x)
 
--- and of each two values of two types
+-- and for each two values of two types
 pub by_types : (t u : SqlType) (P : Value → Value → Type 0) → ((b : Value) → P Null b) → ((a : Value) → P a Null) → OnForms t (λ a. OnForms u (P a)) → (a b : Value) → IsValueOf t a → IsValueOf u b → P a b
 by_types t u P n m f a b h k = by_type t (λ a. P a b) (n b) (map_forms t (λ a. OnForms u (P a)) (λ a. P a b) (λ a g. by_type u (P a) (m a) g b k) f) a h
 
 -- ---- answers
 
--- NULL, where it is due
+-- NULL, if it is due
 pub null_answer : (o : Op) (ty : SqlType) (vs : List Value) (v : Value) → NullIsDue o ty vs → v ≡ Null → IsAnswer o ty vs v
 null_answer o ty vs v d e = subst (IsAnswer o ty vs) (sym e) (record { own = record { form = refl; whole = tt }; null = λ k. d })
 
@@ -99,7 +99,7 @@ made_answer o ty vs v w form whole n e = subst (IsAnswer o ty vs) (sym e) (recor
 pub own_answer : (o : Op) (ty : SqlType) (vs : List Value) (v w : Value) → IsValueOf ty w → w ≢ Null → v ≡ w → IsAnswer o ty vs v
 own_answer o ty vs v w own n e = made_answer o ty vs v w own.form own.whole n e
 
--- the one normal value that meets a condition, or NULL where none is there
+-- the one normal value that satisfies a condition, or NULL if there is none
 pub function_answer : {C B : Type 0} (course : CourseOf C B) (make : List (Slice C) → Value) (P : Option (List (Slice C)) → Type 0) (o : Op) (ty : SqlType) (vs : List Value) (v : Value) → ((r : List (Slice C)) → P (Some r) → AreNormalBy course r → IsValueOf ty (make r)) → ((r : List (Slice C)) → make r ≢ Null) → (P None → NullIsDue o ty vs) → IsFunctionOrNull course make P v → IsAnswer o ty vs v
 function_answer {C} course make P o ty vs v own some due g = by g.0 g.1 g.2 g.3
   where

@@ -1,4 +1,4 @@
--- Operators other than AND, OR, IS NULL and IS NOT NULL are NULL where an operand is NULL, whatever
+-- Operators other than AND, OR, IS NULL and IS NOT NULL are NULL if an operand is NULL, whatever
 -- the types of the operands.
 use Rattle.std.proofs.Common.{◌≡◌, ◌∙◌, ℕ, Bool, true, false, true≢false, List, [], ◌∷◌, Option, Some, None, ◌⊎◌, inl, inr, refl, sym, subst}
 use Rattle.std.specs.Prelude.{cond, MatchOption}
@@ -44,7 +44,7 @@ use Rattle.mob_operands.proofs.Restricted.{value_right, box_right, polygon_right
 use Rattle.mob_operands.proofs.Single.{overlap_right, intersecting_right}
 use Rattle.mob_operands.proofs.Together.{truth_right, text_right, point_right, int_right, line_right}
 
--- what is asked of a pair, where the second operand is NULL
+-- what is required of a pair, if the second operand is NULL
 
 truths_right : (row : OverTime Bool → OverTime Bool → Value → Type 0) (a v : Value) → OnPair (truth_pair a Null) row v → v ≡ Null
 truths_right row a v g = subst (λ p. OnPair p row v) (truth_right a) g

@@ -31,7 +31,7 @@ use Rattle.mob_operands.proofs.Plain.{is_plain_number, is_plain_result, number_a
 use Rattle.mob_operands.proofs.Together.{are_ints, are_lines, common, level_there, frac_row, int_right, by_pair, line_pair_answers}
 use Rattle.mob_operands.proofs.Whole.{HasInts, ints_there, ints_of_one, tint_of, int_both}
 
--- two types whose values make a product that changes evenly
+-- two types whose values have a linear product
 abbrev pub are_factors : SqlType → SqlType → Bool
 are_factors sql.Int sql.TFrac = true
 are_factors sql.Numeric sql.TFrac = true
@@ -93,7 +93,7 @@ module _ (o : Op) (due : (ty : SqlType) (vs : List Value) → NullByType ty vs �
   int_answers sql.Int sql.TInt e = by_ints sql.Int sql.TInt (λ x i y j v g. ints_made _ _ _ _ (ints_of_one x i) (ints_there y j) (λ t h. h) (λ t h. h) v g)
   int_answers _ _ e = absurd (true≢false (sym e))
 
-  -- ---- products that change evenly
+  -- ---- linear products
 
   abbrev Multiplied : Value → Value → Type 0
   Multiplied a b = (v : Value) → OnOperands line_value_of steady_value (product_pair a b) (IsMovingFrac (result_by Product)) v → IsAnswer o sql.TFrac (a ∷ b ∷ []) v

@@ -1,4 +1,4 @@
--- The operators on values that do not change over time, and those that ask of a whole value.
+-- The operators on values that do not change over time, and those on whole values.
 use Rattle.std.proofs.Common.{◌≡◌, ◌∙◌, ℕ, ℤ, Bool, true, false, not, true≢false, List, [], ◌∷◌, option_map, refl, sym, Option, Some, None}
 use Rattle.mob_ratio.specs.Ratio.{Ratio, neg_ℚ}
 use Rattle.mob_written.specs.Values.{is_whole_number}
@@ -22,7 +22,7 @@ use Rattle.mob_operands.specs.Rows.{HaveNull, NullIsDue, IsAnswer}
 use Rattle.mob_operands.proofs.Forms.{OnForms, by_type, by_types, null_answer, made_answer, truth_answer, first_null, second_null}
 use Rattle.mob_operands.proofs.Whole.{int_by, int_neg}
 
--- whether two types are compared by `=`: one type, or two of numbers
+-- whether two types can be compared by `=`: equal types, or two types of numbers
 abbrev pub are_compared : SqlType → SqlType → Bool
 are_compared sql.Bool sql.Bool = true
 are_compared sql.Int sql.Int = true
@@ -54,7 +54,7 @@ are_ordered sql.Text sql.Text = true
 are_ordered sql.Moment sql.Moment = true
 are_ordered _ _ = false
 
--- what a relation gives of two operands is such an answer
+-- the results of a relation on two operands are such answers
 abbrev Answers : Op → SqlType → (Value → Value → Value → Type 0) → Value → Value → Type 0
 Answers o ty G a b = (v : Value) → G a b v → IsAnswer o ty (a ∷ b ∷ []) v
 
@@ -100,10 +100,10 @@ module _ (c : Cmp) (wanted : Bool) where
   equality_answers sql.TPoint sql.TPoint e = by_forms sql.TPoint sql.TPoint (λ x y v g. truths _ _ _ v g)
   equality_answers _ _ e = absurd (true≢false (sym e))
 
--- ---- operations that compute a value of two
+-- ---- operations that compute a value from two
 
--- What an operation makes of two values is an answer where it makes NULL only of a NULL, and of two
--- values of the types one of the result's type.
+-- The result of an operation on two values is an answer if it is NULL only for a NULL, and of the
+-- result's type for two values of the types.
 module _ (o : Op) (ty : SqlType) (f : Value → Value → Value) (due : (a b : Value) → HaveNull (a ∷ b ∷ []) → NullIsDue o ty (a ∷ b ∷ [])) (left : (b : Value) → f Null b ≡ Null) (right : (a : Value) → f a Null ≡ Null) where
   abbrev Made : Value → Value → Type 0
   Made a b = Answers o ty (λ a b v. v ≡ f a b) a b
@@ -134,7 +134,7 @@ module _ (c : Cmp) (r : Rel) where
   order_answers sql.Moment sql.Moment e = by_order sql.Moment sql.Moment (λ x y v g. truth_made (op.Test c) _ _ _ v g)
   order_answers _ _ e = absurd (true≢false (sym e))
 
--- which types a comparison takes
+-- the types that a comparison takes
 abbrev pub are_tested : Cmp → SqlType → SqlType → Bool
 are_tested cmp.Eq t u = are_compared t u
 are_tested cmp.Ne t u = are_compared t u
@@ -190,7 +190,7 @@ module _ (o : Op) (by : Calculation) (due : (ty : SqlType) → is_plain_number t
   number_answers sql.Numeric sql.Numeric sql.Numeric e = by_numbers o by sql.Numeric (due sql.Numeric refl) sql.Numeric sql.Numeric (λ x y v g. numeric_made o _ _ _ v g)
   number_answers _ _ _ e = absurd (true≢false (sym e))
 
--- ---- a text behind a text
+-- ---- a text after a text
 
 pub join_right : (a : Value) → concatenation a Null ≡ Null
 join_right Null = refl

@@ -1,4 +1,4 @@
--- What is left of a temporal value is of its type, and is NULL only where nothing is left.
+-- The restriction of a temporal value has its type, and is NULL only if nothing is left.
 use Rattle.std.proofs.Common.{◌≡◌, ◌≢◌, ◌∙◌, ℕ, Bool, true, false, true≢false, List, [], ◌∷◌, Option, Some, None, inl, inr, refl, sym, subst}
 use Rattle.std.specs.Prelude.{◌⊎◌, cond, is_some}
 use Rattle.mob_ratio.specs.Ratio.{Ratio}
@@ -42,7 +42,7 @@ gone : {B : Type 0} (x : B) (b : Bool) → cond b (Some x) None ≡ None → b �
 gone x true e = absurd (cc e)
 gone x false e = refl
 
--- where nothing is left of a value that is there, it is not wanted
+-- if nothing is left of an existing value, it is not wanted
 none_left : {B : Type 0} (want : Bool) (test : B → Bool) (o : Option B) → where_wanted want test o ≡ None → is_some o ≡ true → same_bool want (passes test o) ≡ false
 none_left want test None e h = absurd (true≢false (sym h))
 none_left want test (Some x) e h = gone x (same_bool want (test x)) e
@@ -60,7 +60,7 @@ same_left {B} want test (Some y) x e = by (same_bool want (test y)) e
     by true e = e
     by false e = absurd (cc e)
 
--- ---- beside NULL
+-- ---- with NULL
 
 pub value_right : (want : Bool) (a v : Value) → IsValueRestriction want a Null v → v ≡ Null
 value_right want Null v g = g
@@ -79,7 +79,7 @@ pub look_left : (b : Value) → look_up Null b ≡ Null
 look_left (Moment t) = refl
 look_left _ = refl
 
--- ---- what is left of each temporal type
+-- ---- the restriction of each temporal type
 
 module _ (o : Op) (want : Bool) where
   left_bools : (meets : Ratio → Bool → Bool) (m : StepSlices Bool) (vs : List Value) → (((t : Ratio) → where_wanted want (meets t) (step_function m t) ≡ None) → NullIsDue o sql.TBool vs) → (v : Value) → IsFunctionOrNull (steady_course same_bool) MovingBool (IsRestricted steady_value want meets m) v → IsAnswer o sql.TBool vs v
@@ -99,7 +99,7 @@ module _ (o : Op) (want : Bool) where
 
 -- ---- by time
 
--- whether a type asks for instants
+-- whether a type has instants
 abbrev pub is_time : SqlType → Bool
 is_time sql.Moment = true
 is_time sql.Span = true
@@ -116,7 +116,7 @@ are_timed sql.TPoint sql.TPoint u = is_time u
 are_timed _ _ _ = false
 
 module _ (o : Op) (want : Bool) (due : (ty : SqlType) (vs : List Value) → HaveNull vs ⊎ NothingIsLeft want is_asked vs → NullIsDue o ty vs) where
-  -- on a time that asks for the instants of these spans
+  -- for a time with the instants of these spans
   module _ (b : Value) (spans : List SpanOf) (asks : (a : Value) (t : Ratio) → in_some spans t ≡ is_asked a b t) where
     abbrev Timed : SqlType → Value → Type 0
     Timed ty a = (v : Value) → IsRestriction want spans a v → IsAnswer o ty (a ∷ b ∷ []) v

@@ -1,4 +1,4 @@
--- The signs that compare over time have the pair of their operands.
+-- The signs that compare over time use the pair of their operands.
 use Rattle.std.proofs.Common.{◌≡◌, Bool, true, false, true≢false, [], ◌∷◌, sym, refl}
 use Rattle.mob_slice.specs.LineComparison.{point_relates, number_relates}
 use Rattle.mob_slice.specs.declared.comparison.Rel.{Rel}
@@ -16,7 +16,7 @@ use Rattle.mob_catalog.specs.OwnTypes.{IsValueOf}
 use Rattle.mob_operands.specs.Rows.{AreNeverTogether, NullIsDue, IsAnswer}
 use Rattle.mob_operands.proofs.Together.{asked_type, asked_row, truth_pair_answers, text_pair_answers, point_pair_answers, int_pair_answers, line_pair_answers}
 
--- two types whose values are ordered over time: numbers and texts, of which one at least is
+-- two types whose values are ordered over time: numbers and texts, at least one of which is
 -- temporal
 abbrev pub are_signed : SqlType → SqlType → Bool
 are_signed sql.TInt sql.TInt = true

@@ -1,4 +1,4 @@
--- The other operators that take one operand, and those that ask of boxes and polygons.
+-- The other operators that take one operand, and those on boxes and polygons.
 use Rattle.std.proofs.Common.{◌≡◌, ◌∙◌, Bool, true, false, true≢false, List, [], ◌∷◌, Some, inl, inr, refl, sym, ap}
 use Rattle.mob_ratio.specs.Ratio.{Ratio}
 use Rattle.mob_plane.specs.declared.point.Point.{Point as PointOf}
@@ -44,7 +44,7 @@ time_answers sql.TText e = by_time sql.TText (λ m v g. set_made _ v _ g.2)
 time_answers sql.TPoint e = by_time sql.TPoint (λ m v g. set_made _ v _ g.2)
 time_answers _ e = absurd (true≢false (sym e))
 
--- no instant is true where the set of these instants is empty
+-- no instant is true if the set of these instants is empty
 never_true : (m : StepSlices Bool) → AreInstantsOf (λ t. is_true (step_function m t)) [] → (t : Ratio) → step_function m t ≡ Some true → ⊥
 never_true m h t e = true≢false (sym (h.1 t ∙ ap is_true e))
 

@@ -1,4 +1,4 @@
--- What is asked of each line of a table of operators is asked of the types that its line takes, one
+-- A property of each line of a table of operators is checked for all types that the line takes, one
 -- by one, by computing.
 use Rattle.std.proofs.Common.{◌≡◌, ℕ, Bool, true, false, true≢false, List, [], ◌∷◌, Option, Some, None, refl, sym, ap, subst, ◌∙◌}
 use Rattle.std.specs.Prelude.{◌&&◌, ◌||◌, not}

@@ -1,4 +1,4 @@
--- What is taken at each instant gives NULL only where its operands are never together.
+-- An operator that applies at each instant gives NULL only if its operands never exist together.
 use Rattle.std.proofs.Common.{◌≡◌, ◌≢◌, ◌∙◌, ℕ, Bool, true, false, true≢false, List, [], ◌∷◌, Option, Some, None, map, refl, sym, ap, subst}
 use Rattle.std.specs.Prelude.{is_some, MatchOption}
 use Rattle.mob_ratio.specs.Ratio.{Ratio}
@@ -33,15 +33,15 @@ there : {X : Type 0} (o : Option X) → is_some o ≡ true → (x : X) × (o ≡
 there None h = absurd (true≢false (sym h))
 there (Some x) h = (x, refl)
 
--- two functions that are there at an instant have it in common
+-- two functions that are defined at an instant have it in common
 pub common : {X Y : Type 0} (f : OverTime X) (g : OverTime Y) (t : Ratio) → is_some (f t) ≡ true → is_some (g t) ≡ true → HaveCommon f g
 common f g t h k = let x = there (f t) h in let y = there (g t) k in (t, x.0, y.0, x.1, y.1, tt)
 
--- a tint is there as a tfrac where it is as a tint
+-- a tint is defined as a tfrac where it is defined as a tint
 pub level_there : (m : StepSlices Ratio) (t : Ratio) → is_some (step_function m t) ≡ true → is_some (line_function (map level_line m) t) ≡ true
 level_there m t h = ap is_some (level_at m (map level_line m) refl t) ∙ h
 
--- What a row gives on two functions has this type, and is NULL only where they have no common
+-- The value of a row on two functions has this type, and is NULL only if they have no common
 -- instant.
 pub record IsRow {X Y : Type 0} (ty : SqlType) (row : OverTime X → OverTime Y → Value → Type 0) : Type 0 where
   pub own : (left : OverTime X) (right : OverTime Y) (v : Value) → row left right v → IsValueOf ty v
@@ -96,7 +96,7 @@ always_null : {X Y : Type 0} (op : X → Y → Bool) (left : OverTime X) (right 
 always_null op left right None v h e n c = h c
 always_null op left right (Some b) v h e n c = absurd (let k = sym e ∙ n in cc k)
 
--- the type of what a sign asks
+-- the type of the result of a sign
 abbrev pub asked_type : Scope → SqlType
 asked_type Each = sql.TBool
 asked_type Ever = sql.Bool
@@ -129,7 +129,7 @@ near_row = record {
 
 -- ---- rows on operands
 
--- two types of which one at least is temporal, of truth values
+-- two types of truth values, at least one of which is temporal
 abbrev pub are_truths : SqlType → SqlType → Bool
 are_truths sql.TBool sql.TBool = true
 are_truths sql.TBool sql.Bool = true
@@ -156,7 +156,7 @@ are_ints sql.TInt sql.Int = true
 are_ints sql.Int sql.TInt = true
 are_ints _ _ = false
 
--- of numbers that change evenly, where one of the two is no whole number
+-- of linear numbers, where one of the two is not a whole number
 abbrev pub are_lines : SqlType → SqlType → Bool
 are_lines sql.TFrac sql.TFrac = true
 are_lines sql.TFrac sql.TInt = true
@@ -169,7 +169,7 @@ are_lines sql.TInt sql.Numeric = true
 are_lines sql.Numeric sql.TInt = true
 are_lines _ _ = false
 
--- beside NULL there is no pair
+-- with NULL there is no pair
 pub truth_right : (a : Value) → truth_pair a Null ≡ None
 truth_right Null = refl
 truth_right (Truth x) = refl
@@ -196,7 +196,7 @@ line_right (Truth x) = refl
 line_right _ = refl
 
 module _ (o : Op) (ty : SqlType) (due : (a b : Value) → AreNeverTogether (a ∷ b ∷ []) → NullIsDue o ty (a ∷ b ∷ [])) where
-  -- a row on two operands that are there where the functions are
+  -- a row on two operands that exist exactly where the functions are defined
   module _ {X Y : Type 0} (row : OverTime X → OverTime Y → Value → Type 0) (is : IsRow ty row) where
     pub row_answers : (a b : Value) (left : OverTime X) (right : OverTime Y) → ((t : Ratio) → is_there t a ≡ true → is_some (left t) ≡ true) → ((t : Ratio) → is_there t b ≡ true → is_some (right t) ≡ true) → (v : Value) → row left right v → IsAnswer o ty (a ∷ b ∷ []) v
     row_answers a b left right l r v g = record {
@@ -210,7 +210,7 @@ module _ (o : Op) (ty : SqlType) (due : (a b : Value) → AreNeverTogether (a �
   second_missing : (a v : Value) → v ≡ Null → IsAnswer o ty (a ∷ Null ∷ []) v
   second_missing a v e = null_answer o ty (a ∷ Null ∷ []) v (due a Null (λ t h. true≢false (sym h.1.0))) e
 
-  -- what is asked of the pair of two operands, where there is no pair beside NULL
+  -- a property of the pair of two operands, where there is no pair with NULL
   module _ {A : Type 0} (pair : Value → Value → Option A) (row : A → Value → Type 0) (left : (b : Value) → pair Null b ≡ None) (right : (a : Value) → pair a Null ≡ None) where
     abbrev OnBoth : Value → Value → Type 0
     OnBoth a b = (v : Value) → MatchOption (pair a b) (v ≡ Null) (λ p. row p v) → IsAnswer o ty (a ∷ b ∷ []) v

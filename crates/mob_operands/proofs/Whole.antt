@@ -1,5 +1,5 @@
 -- Sums, differences, products and opposites of whole numbers are whole, and so are the values of
--- tints that are made of tints.
+-- tints made from tints.
 use Rattle.std.proofs.Common.{◌≡◌, ◌∙◌, ℕ, ℤ, ◌+ℤ◌, ◌*ℤ◌, neg_ℤ, nat_abs, Bool, true, false, [], ◌∷◌, Option, Some, None, refl, sym, ap, subst, arith}
 use Rattle.std.specs.Prelude.{nat_eq, cond}
 use Rattle.std.proofs.lemmas.Bool.{eqb-true}
@@ -54,7 +54,7 @@ int_neg a h = is_of (neg_ℚ a) (neg_ℤ a.num) (ap neg_ℚ (as_whole a h) ∙ s
 pub int_product : (a b : Ratio) → IsInt a → IsInt b → IsInt (a *ℚ b)
 int_product a b h k = is_of (a *ℚ b) (a.num *ℤ b.num) (ap (λ x. x *ℚ b) (as_whole a h) ∙ ap (λ y. whole a.num *ℚ y) (as_whole b k) ∙ sym (whole-mul a.num b.num))
 
--- so it is with each of the three operations
+-- the same for each of the three operations
 pub int_by : (by : Calculation) (a b : Ratio) → IsInt a → IsInt b → IsInt (result_by by a b)
 int_by Sum a b h k = int_sum a b h k
 int_by Difference a b h k = int_sum a (neg_ℚ b) h (int_neg b k)
@@ -88,7 +88,7 @@ ints_of m o h = all_by_each (λ s. IsInt s.course.value) m (λ s c.
 pub tint_of : (m : StepSlices Ratio) → AreNormalBy (steady_course same) m → HasInts (step_function m) → IsValueOf sql.TInt (MovingInt m)
 tint_of m n h = record { form = refl; whole = ints_of m (ordered steady_limit steady_limit _ m n.chained) h }
 
--- what an operation makes of two whole numbers that may be missing
+-- the result of an operation on two whole numbers that may be missing
 pub int_both : (by : Calculation) (x y : Option Ratio) → ((a : Ratio) → x ≡ Some a → IsInt a) → ((b : Ratio) → y ≡ Some b → IsInt b) → (n : Ratio) → map_both (result_by by) x y ≡ Some n → IsInt n
 int_both by None y h k n e = absurd (cc e)
 int_both by (Some a) None h k n e = absurd (cc e)

@@ -19,19 +19,19 @@ use Rattle.mob_eval.specs.Keys.{KeyAsks}
 use Rattle.mob_meaning.specs.Scene.{Scene}
 use Rattle.mob_meaning.specs.Evaluation.{PlacedFormula, TreeEvaluatesTo}
 
--- as stored values are: a moving point has a box, and the rings of a polygon are closed and of four
--- points at least
+-- like stored values: a moving point has a box, and the rings of a polygon are closed and have at
+-- least four points
 abbrev pub IsAsStored : Value → Type 0
 IsAsStored (MovingPoint a) = (b : BoxOf) × IsBoxOf a b
 IsAsStored (Polygon rings) = are_sound rings ≡ true
 IsAsStored _ = Unit {0}
 
--- a value of one of two types, as stored values are
+-- a value of one of two types, like a stored value
 pub record IsEitherOf (type other : SqlType) (v : Value) : Type 0 where
   pub form : (is_of_type type v ≡ true) ⊎ (is_of_type other v ≡ true)
   pub stored : IsAsStored v
 
--- each value of an expression meets P
+-- each value of an expression satisfies P
 abbrev pub Gives : Scene → TypedTree → (Value → Type 0) → Type 0
 Gives s e P = (v : Value) → TreeEvaluatesTo s e (Ok v) → P v
 
@@ -46,7 +46,7 @@ HasItsTypes s (inside_key e) = Gives s e (IsEitherOf sql.Polygon sql.Polygon)
 abbrev pub HasFault : Scene → TypedTree → Type 0
 HasFault s e = (f : PlacedFormula) × TreeEvaluatesTo s e (Err f)
 
--- the box of the value, moved outward by the distance, has a side that does not fit
+-- the box of the value, expanded by the distance, has a side that does not fit
 pub record DoesNotExpand (s : Scene) (e d : TypedTree) : Type 0 where
   pub value : Value
   pub is_value : TreeEvaluatesTo s e (Ok value)
@@ -60,13 +60,13 @@ pub record DoesNotExpand (s : Scene) (e d : TypedTree) : Type 0 where
 abbrev pub HasLaterFault : Scene → TypedTree → TypedTree → Type 0
 HasLaterFault s e d = (v : Value) × TreeEvaluatesTo s e (Ok v) × (v ≢ Null) × HasFault s d
 
--- why a key asks for all rows: the expression that decides has a fault, or the box cannot be made
--- wider
+-- why a key asks for all rows: the expression that decides has a fault, or the box cannot be
+-- expanded
 abbrev pub IsWithoutBox : Scene → PlanKey → Type 0
 IsWithoutBox s (overlap_key e) = HasFault s e
 IsWithoutBox s (within_key e d) = HasFault s e ⊎ HasLaterFault s e d ⊎ DoesNotExpand s e d
 IsWithoutBox s (inside_key e) = HasFault s e
 
--- a key of its types that asks for all rows has such a cause
+-- a well-typed key that asks for all rows has such a cause
 abbrev pub EverythingHasACause : Type 0
 EverythingHasACause = (s : Scene) (key : PlanKey) → HasItsTypes s key → KeyAsks s key Everything → IsWithoutBox s key

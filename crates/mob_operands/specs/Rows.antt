@@ -1,4 +1,4 @@
--- What the operators of the table give on values of the types that they take.
+-- The results of the operators of the table on values of the types that they take.
 use Rattle.std.specs.Prelude.{◌≡◌, ◌⊎◌, ℕ, Bool, true, false, List, [], ◌∷◌, Option, Some, None, is_some}
 use Rattle.std.specs.List.{AllByRecursion, AllZip, list_any}
 use Rattle.mob_ratio.specs.Ratio.{Ratio}
@@ -28,8 +28,8 @@ use Rattle.mob_meaning.specs.Evaluation.{stops, stop_of}
 use Rattle.mob_meaning.specs.Operators.{OperatorGives}
 use Rattle.mob_catalog.specs.OwnTypes.{IsValueOf}
 
--- whether something is there at an instant: a temporal value where it is defined, any other value
--- at every instant, NULL at none
+-- whether a value exists at an instant: a temporal value where it is defined, any other value at
+-- every instant, NULL at none
 abbrev pub is_there : Ratio → Value → Bool
 is_there t Null = false
 is_there t (MovingBool a) = is_some (step_function a t)
@@ -39,7 +39,7 @@ is_there t (MovingText a) = is_some (step_function a t)
 is_there t (MovingPoint a) = is_some (plane_function a t)
 is_there t _ = true
 
--- at no instant are all operands there
+-- at no instant do all operands exist
 abbrev pub AreNeverTogether : List Value → Type 0
 AreNeverTogether vs = (t : Ratio) → AllByRecursion (λ v. is_there t v ≡ true) vs → ⊥
 
@@ -47,7 +47,7 @@ AreNeverTogether vs = (t : Ratio) → AllByRecursion (λ v. is_there t v ≡ tru
 abbrev pub HaveNull : List Value → Type 0
 HaveNull vs = list_any is_null vs ≡ true
 
--- whether there is a value, and it passes a test
+-- whether there is a value and it passes a test
 abbrev pub passes : {B : Type 0} → (B → Bool) → Option B → Bool
 passes test None = false
 passes test (Some x) = test x
@@ -59,7 +59,7 @@ is_asked a (Span s) t = in_some (s ∷ []) t
 is_asked a (SpanSet spans) t = in_some spans t
 is_asked a _ t = false
 
--- whether a temporal value is a base value at an instant
+-- whether a temporal value equals a base value at an instant
 abbrev pub is_then : Value → Value → Ratio → Bool
 is_then (MovingBool a) (Truth x) t = passes (λ y. truth_relates Eq y x) (step_function a t)
 is_then (MovingInt a) (Number x) t = passes (λ y. number_relates Eq y x) (step_function a t)
@@ -74,13 +74,13 @@ is_within (MovingPoint a) (Box b) t = passes (λ p. in_box b t p) (plane_functio
 is_within (MovingPoint a) (Polygon rings) t = passes (λ p. inside rings p) (plane_function a t)
 is_within _ _ t = false
 
--- At no instant of a temporal value does it meet a condition on the second operand, where `want` is
--- true; or at each, where it is false.
+-- At no instant does a temporal value satisfy a condition on the second operand, if `want` is true;
+-- or it does at each, if `want` is false.
 abbrev pub NothingIsLeft : Bool → (Value → Value → Ratio → Bool) → List Value → Type 0
 NothingIsLeft want meets (a ∷ b ∷ []) = (t : Ratio) → is_there t a ≡ true → same_bool want (meets a b t) ≡ false
 NothingIsLeft want meets _ = ⊥
 
--- a temporal value has none at the moment that is asked for
+-- a temporal value is undefined at the given moment
 abbrev pub IsMissing : List Value → Type 0
 IsMissing (a ∷ Moment t ∷ []) = is_there t a ≡ false
 IsMissing _ = ⊥
@@ -90,12 +90,12 @@ abbrev pub IsNeverTrue : List Value → Type 0
 IsNeverTrue (MovingBool a ∷ []) = (t : Ratio) → step_function a t ≡ Some true → ⊥
 IsNeverTrue _ = ⊥
 
--- the box of the first operand, each side moved outward by the second one, is none
+-- the box of the first operand, expanded by the second one, does not exist
 abbrev pub HasNoExpansion : List Value → Type 0
 HasNoExpansion (a ∷ Number d ∷ []) = (b : BoxOf) × HasBox a b × (expanded b d ≡ None)
 HasNoExpansion _ = ⊥
 
--- an operator on numbers or texts whose result has this type: with a temporal result it is taken at
+-- an operator on numbers or texts whose result has this type: with a temporal result it applies at
 -- each instant
 abbrev pub NullByType : SqlType → List Value → Type 0
 NullByType sql.TInt vs = AreNeverTogether vs
@@ -103,9 +103,9 @@ NullByType sql.TFrac vs = AreNeverTogether vs
 NullByType sql.TText vs = AreNeverTogether vs
 NullByType _ vs = HaveNull vs
 
--- Where an operator may give NULL. One that is taken at each instant, or asks for some or for every
--- instant, does so only where the operands are never together. One that gives what is left of a
--- value does so only on a NULL, or where nothing is left. Any other does so only on a NULL.
+-- When an operator may give NULL. One that applies at each instant, or asks for some or every
+-- instant, only if the operands never exist together. A restriction only for a NULL, or if nothing
+-- is left. Any other only for a NULL.
 abbrev pub NullIsDue : Op → SqlType → List Value → Type 0
 NullIsDue (op.Lifted c) ty vs = AreNeverTogether vs
 NullIsDue (op.Ever c) ty vs = AreNeverTogether vs
@@ -132,8 +132,8 @@ NullIsDue op.WhenTrue ty vs = HaveNull vs ⊎ IsNeverTrue vs
 NullIsDue op.ExpandSpace ty vs = HaveNull vs ⊎ HasNoExpansion vs
 NullIsDue _ ty vs = HaveNull vs
 
--- What an operator gives has the operator's type, with whole numbers where that asks for them, and
--- is NULL only where that is due.
+-- The value of an operator has the operator's type, with whole numbers if that requires them, and
+-- is NULL only if that is due.
 pub record IsAnswer (o : Op) (ty : SqlType) (vs : List Value) (v : Value) : Type 0 where
   pub own : IsValueOf ty v
   pub null : v ≡ Null → NullIsDue o ty vs
@@ -143,30 +143,30 @@ abbrev pub DividesByOther : Op → List Value → Type 0
 DividesByOther op.Divide (a ∷ Number k ∷ []) = is_nil k ≡ false
 DividesByOther _ vs = Unit {0}
 
--- An operator with a result of this type has a meaning on operands of these types: what it gives on
--- values of the types is such an answer.
+-- An operator with a result of this type has a meaning on operands of these types: its results on
+-- values of the types are such answers.
 abbrev pub HasMeaning : Op → SqlType → List SqlType → Type 0
 HasMeaning o ty ts = (s : Scene) (vs : List Value) (v : Value) → AllZip IsValueOf ts vs → DividesByOther o vs → OperatorGives s o ty ts vs v → IsAnswer o ty vs v
 
--- so it is with each operator of a line, on all types that the line takes, with the type that it
+-- this holds for each operator of a line, on all types that the line takes, with the type that it
 -- gives
 abbrev pub LineHasMeaning : Line → Type 0
 LineHasMeaning l = (ts : List SqlType) (literal : Bool) (ty : SqlType) → takes l ts literal ≡ true → given l.gives ts ≡ Some ty → AllByRecursion (λ (n : List ℕ × Op). HasMeaning n.1 ty ts) l.names
 
--- and of each line of the table
+-- and for each line of the table
 abbrev pub RowsHaveMeanings : Type 0
 RowsHaveMeanings = AllByRecursion LineHasMeaning table
 
--- so does a cast that typing lets through
+-- a cast that typing accepts has a meaning too
 abbrev pub CastsHaveMeanings : Type 0
 CastsHaveMeanings = (from to : SqlType) → can_cast from to ≡ true → HasMeaning op.Cast to (from ∷ [])
 
--- an operand that settles AND or OR alone is the value
+-- a single operand that decides AND or OR is the value
 abbrev pub SettledIsTheValue : Type 0
 SettledIsTheValue = (s : Scene) (o : Op) (ty : SqlType) (ts : List SqlType) (a v : Value) → stops (stop_of o) a ≡ true → OperatorGives s o ty ts (a ∷ []) v → v ≡ a
 
--- whether an operator may give a value that is not NULL where an operand is NULL: AND, OR, IS NULL
--- and IS NOT NULL
+-- whether an operator may give a value other than NULL for a NULL operand: AND, OR, IS NULL and IS
+-- NOT NULL
 abbrev pub knows_null : Op → Bool
 knows_null op.And = true
 knows_null op.Or = true
@@ -174,6 +174,6 @@ knows_null op.IsNull = true
 knows_null op.IsNotNull = true
 knows_null _ = false
 
--- any other operator gives NULL there, whatever the types
+-- any other operator gives NULL then, whatever the types
 abbrev pub NullGivesNull : Type 0
 NullGivesNull = (s : Scene) (o : Op) (ty : SqlType) (ts : List SqlType) (vs : List Value) (v : Value) → knows_null o ≡ false → HaveNull vs → OperatorGives s o ty ts vs v → v ≡ Null

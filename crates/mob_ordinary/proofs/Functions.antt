@@ -17,7 +17,7 @@ use Rattle.mob_normal.proofs.Widening.{level_normal, level_at}
 use Rattle.mob_ordinary.specs.Moving.{StepSlices, AreNormalBy, step_function, line_function}
 use Rattle.mob_ordinary.specs.Ordinary.{AreOneFunction}
 
--- so it is with steps, with numbers that change evenly, and with points
+-- this holds for steps, for linear numbers, and for points
 pub one_of_steps : {B : Type 0} (is_same : B → B → Bool) → ((a b : B) → IsTrue (is_same a b) ↔ (a ≡ b)) → OneList (steady_course is_same)
 one_of_steps is_same exact = unique (steady_laws false is_same exact)
 
@@ -27,7 +27,7 @@ one_of_lines = unique line_laws
 pub one_of_points : OneList plane_course
 one_of_points = unique plane_laws
 
--- lists are one function exactly where they are one list
+-- lists are one function exactly if they are equal
 module _ {C B : Type 0} {steady copies : Bool} {value : C → Ratio → Ratio → Ratio → B} {start end : C → B} {can_make : B → B → Type 0} {make : B → B → C} {continues : C → C → Ratio → Ratio → Ratio → Bool} {parts : C → Ratio → Ratio → Ratio → List Ratio} (laws : IsCourse steady copies value start end can_make make continues parts) where
   pub function_test : (a b v w : List (Slice C)) (r : Bool) → v ≡ a → w ≡ b → IsNormal start end continues a → IsNormal start end continues b → IsTrue r ↔ (v ≡ w) → IsTrue r ↔ AreOneFunction (λ t. value_at value a t) (λ t. value_at value b t)
   function_test a b v w r e f n m h = (
@@ -35,7 +35,7 @@ module _ {C B : Type 0} {steady copies : Bool} {value : C → Ratio → Ratio �
     λ k. h.1 (e ∙ unique laws a b n.chained m.chained k ∙ sym f),
   )
 
--- steps are the function of a list of lines exactly where that is the list of their level lines
+-- steps are the function of a list of lines exactly if that is the list of their level lines
 pub level_test : (a v : StepSlices Ratio) (b w : List (Slice Line)) (r : Bool) → v ≡ a → w ≡ b → AreNormalBy (steady_course same) a → AreNormalBy line_course b → IsTrue r ↔ (map level_line v ≡ w) → IsTrue r ↔ AreOneFunction (step_function a) (line_function b)
 level_test a v b w r e f n m h =
     let level = ap (map level_line) e in (

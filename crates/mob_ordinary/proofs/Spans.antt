@@ -15,7 +15,7 @@ alone s h = (h, tt, tt)
 pub set_of_one : (s : SpanOf) (spans set : List SpanOf) → has_instant s ≡ true → spans ≡ s ∷ [] → ((t : Ratio) → in_some set t ≡ in_some spans t) → IsSpanSet set → set ≡ s ∷ []
 set_of_one s spans set h e f n = one_set set (s ∷ []) n (alone s h) (λ t. f t ∙ ap (λ z. in_some z t) e)
 
--- span sets have the same instants exactly where they are one list
+-- span sets have the same instants exactly if their lists are equal
 pub sets_test : (a b v w : List SpanOf) (r : Bool) → v ≡ a → w ≡ b → IsSpanSet a → IsSpanSet b → IsTrue r ↔ (v ≡ w) → IsTrue r ↔ HaveSameInstants a b
 sets_test a b v w r e f n m h = (
   λ k t. ap (λ z. in_some z t) (sym e ∙ h.0 k ∙ f),

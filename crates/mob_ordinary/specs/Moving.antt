@@ -13,11 +13,11 @@ use Rattle.mob_slice.specs.declared.steady.Steady.{Steady}
 use Rattle.mob_value.specs.declared.value.Value.{Value}
 use Rattle.mob_value.specs.declared.value.Value.TheVariants.{Null}
 
--- a list of slices that go by steps
+-- a list of slices that change in steps
 abbrev pub StepSlices : Type 0 → Type 0
 StepSlices B = List (Slice (Steady B))
 
--- what is there at each instant, or nothing
+-- the value at each instant, if there is one
 abbrev pub OverTime : Type 0 → Type 0
 OverTime B = Ratio → Option B
 
@@ -35,7 +35,7 @@ plane_function slices t = value_at plane_value_of slices t
 abbrev pub AreNormalBy : {C B : Type 0} → CourseOf C B → List (Slice C) → Type 0
 AreNormalBy course slices = IsNormal course.start course.end course.continues slices
 
--- what is there as a value of SQL, or NULL
+-- a value as one of SQL, or NULL if there is none
 abbrev pub or_nothing : {X : Type 0} → (X → Value) → Option X → Value
 or_nothing make None = Null
 or_nothing make (Some x) = make x
@@ -44,6 +44,6 @@ or_nothing make (Some x) = make x
 abbrev pub IsFunction : {C B : Type 0} → CourseOf C B → (List (Slice C) → Value) → OverTime B → Value → Type 0
 IsFunction {C} course make f v = (r : List (Slice C)) × ((t : Ratio) → value_at course.value r t ≡ f t) × AreNormalBy course r × (v ≡ make r)
 
--- v is the one normal value that meets P, or NULL where there is none
+-- v is the one normal value that satisfies P, or NULL if there is none
 abbrev pub IsFunctionOrNull : {C B : Type 0} → CourseOf C B → (List (Slice C) → Value) → (Option (List (Slice C)) → Type 0) → Value → Type 0
 IsFunctionOrNull {C} course make P v = (r : Option (List (Slice C))) × P r × MatchOption r (Unit {0}) (AreNormalBy course) × (v ≡ or_nothing make r)

@@ -1,4 +1,4 @@
--- The ordinary operators. Each is NULL where an operand is NULL, or is no value that it takes.
+-- The ordinary operators. Each is NULL if an operand is NULL, or is not a value that it takes.
 use Rattle.std.specs.Prelude.{◌≡◌, ◌↔◌, Bool, true, false, cond, ◌&&◌, ◌||◌, IsTrue, pos, List, [], ◌∷◌, Option, Some, None}
 use Rattle.mob_ratio.specs.Ratio.{Ratio, whole, neg_ℚ}
 use Rattle.mob_ratio.specs.Order.{same}
@@ -14,7 +14,7 @@ use Rattle.mob_value.specs.declared.value.Value.{Value}
 use Rattle.mob_value.specs.declared.value.Value.TheVariants.{Null, Bool as Truth, Number, Text, Moment, Point, Span, SpanSet, Box, MovingBool, MovingInt, MovingFrac, MovingText, MovingPoint}
 use Rattle.mob_ordinary.specs.Moving.{OverTime, step_function, line_function, plane_function}
 
--- the truth value of a value, where it is one
+-- the truth value of a value, if it is one
 abbrev pub truth_of : Value → Option Bool
 truth_of (Truth b) = Some b
 truth_of _ = None
@@ -24,19 +24,19 @@ abbrev pub is_true_value : Value → Bool
 is_true_value (Truth b) = b
 is_true_value _ = false
 
--- a truth value, or NULL where there is none
+-- a truth value, or NULL if there is none
 abbrev pub known : Option Bool → Value
 known None = Null
 known (Some b) = Truth b
 
--- AND: false where one operand is false, true where both are true
+-- AND: false if one operand is false, true if both are true
 abbrev pub conjunction : Option Bool → Option Bool → Option Bool
 conjunction (Some a) (Some b) = Some (a && b)
 conjunction (Some a) None = cond a None (Some false)
 conjunction None (Some b) = cond b None (Some false)
 conjunction None None = None
 
--- OR: true where one operand is true, false where both are false
+-- OR: true if one operand is true, false if both are false
 abbrev pub disjunction : Option Bool → Option Bool → Option Bool
 disjunction (Some a) (Some b) = Some (a || b)
 disjunction (Some a) None = cond a (Some true) None
@@ -56,12 +56,12 @@ rel_of cmp.Le = rel.Le
 rel_of cmp.Gt = rel.Gt
 rel_of cmp.Ge = rel.Ge
 
--- v is the truth value of P where `wanted` is true, and that of its contrary where it is false
+-- v is the truth value of P if `wanted` is true, and its opposite if it is false
 abbrev pub IsTruthOf : Bool → Type 0 → Value → Type 0
 IsTruthOf wanted P v = (c : Bool) × (IsTrue c ↔ P) × (v ≡ Truth (same_bool wanted c))
 
 -- two temporal values are one function of time: at each instant both have the same value, or
--- neither has one
+-- neither is defined
 abbrev pub AreOneFunction : {B : Type 0} → OverTime B → OverTime B → Type 0
 AreOneFunction f g = (t : Ratio) → f t ≡ g t
 
@@ -69,9 +69,9 @@ AreOneFunction f g = (t : Ratio) → f t ≡ g t
 abbrev pub HaveSameInstants : List SpanOf → List SpanOf → Type 0
 HaveSameInstants a b = (t : Ratio) → in_some a t ≡ in_some b t
 
--- `=` where `wanted` is true, and `<>` where it is false: points by coordinates, boxes by sides,
--- spans and span sets as sets of instants, temporal values as functions of time, whether they go by
--- steps or change evenly
+-- `=` if `wanted` is true, `<>` if it is false: points by coordinates, boxes by sides, spans and
+-- span sets as sets of instants, temporal values as functions of time, whether they change in steps
+-- or linearly
 abbrev pub IsEquality : Bool → Value → Value → Value → Type 0
 IsEquality wanted (Truth a) (Truth b) v = IsTruthOf wanted (a ≡ b) v
 IsEquality wanted (Number a) (Number b) v = IsTruthOf wanted (a ≡ b) v
@@ -103,12 +103,12 @@ IsTest cmp.Eq a b v = IsEquality true a b v
 IsTest cmp.Ne a b v = IsEquality false a b v
 IsTest c a b v = v ≡ ordered (rel_of c) a b
 
--- a number with its sign turned
+-- the negative of a number
 abbrev pub negated : Value → Value
 negated (Number a) = Number (neg_ℚ a)
 negated _ = Null
 
--- a number
+-- a number unchanged
 abbrev pub unchanged : Value → Value
 unchanged (Number a) = Number a
 unchanged _ = Null

@@ -16,7 +16,7 @@ use mob_span::{Span, SpanSet};
 use mob_stbox::StBox;
 use mob_value::Value;
 
-/// The comparison of courses that a sign stands for.
+/// The comparison of courses for a sign.
 pub fn rel_of(sign: Cmp) -> Rel
     ensures value { result ≡ rel_of sign }
 {
@@ -75,7 +75,7 @@ fn same_box(left: &StBox, right: &StBox) -> bool
 fn same_instants(left: &Span, right: &Span) -> bool
     ensures exact { IsTrue result ↔ HaveSameInstants (left.now ∷ []) (right.now ∷ []) }
 {
-    // That each span has an instant is a clause of `lower`.
+    // The clause of `lower` says that each span has an instant.
     let _ = left.lower();
     let _ = right.lower();
     same_span(left, right)
@@ -167,7 +167,7 @@ fn says(wanted: bool, truth: bool) -> Value
     Value::Bool(if wanted { truth } else { !truth })
 }
 
-// `=` where `wanted` is true, and `<>` where it is false.
+// `=` if `wanted` is true, `<>` if it is false.
 fn equality(wanted: bool, left: &Value, right: &Value) -> Value
     ensures value { IsEquality wanted left.now right.now result }
 {
@@ -202,8 +202,7 @@ fn ordered(rel: Rel, left: &Value, right: &Value) -> Value
     }
 }
 
-/// A plain comparison of two values. NULL where one is NULL, and where two such values are not
-/// compared.
+/// A plain comparison of two values; NULL if one is NULL, or if two such values cannot be compared.
 pub fn test(sign: Cmp, left: &Value, right: &Value) -> Value
     ensures value { IsTest sign left.now right.now result }
 {

@@ -1,5 +1,5 @@
-//! The ordinary operators that have no formula: comparisons of two values of SQL, and logic; and
-//! what is made a value of SQL. Beside them is how stored values are read.
+//! The ordinary operators without a formula: comparisons of two values of SQL, and logic. Also how
+//! results become values of SQL, and how stored values are read.
 #![tactic(auto)]
 
 pub mod comparison;

@@ -1,4 +1,4 @@
-//! Three-valued logic, and the test of NULL.
+//! Three-valued logic, as in PostgreSQL, and the test of NULL.
 ghost use Rattle.std.specs.Prelude.{◌≡◌, not, cond, true, false, None, Some, Ok, Err, MatchResult, option_map};
 ghost use Rattle.mob_ordinary.specs.Ordinary.{truth_of, known, conjunction, disjunction, is_null, is_true_value};
 
@@ -6,7 +6,7 @@ use mob_list::fault::Fault;
 use mob_slice::Formula;
 use mob_value::Value;
 
-/// The truth value of a value. None where it is NULL or no truth value.
+/// The truth value of a value; `None` if it is NULL or not a truth value.
 pub fn truth_of(value: &Value) -> Option<bool>
     ensures value { result ≡ truth_of value.now }
 {
@@ -26,7 +26,7 @@ pub fn known(truth: Option<bool>) -> Value
     }
 }
 
-/// An answer that may have passed a formula, as a truth value or NULL.
+/// The answer of a test, as a truth value or NULL, or its overflow.
 pub fn answered(answer: Result<Option<bool>, Formula>) -> Result<Value, Fault<Formula>>
     ensures value { MatchResult answer (λ truth. result ≡ Ok (known truth)) (λ e. result ≡ Err (Fault.Because e)) }
 {
@@ -36,7 +36,7 @@ pub fn answered(answer: Result<Option<bool>, Formula>) -> Result<Value, Fault<Fo
     }
 }
 
-/// AND: false where one operand is false, true where both are true.
+/// AND: false if one operand is false, true if both are true.
 pub fn conjunction(left: Option<bool>, right: Option<bool>) -> Option<bool>
     ensures value { result ≡ conjunction left right }
 {
@@ -48,7 +48,7 @@ pub fn conjunction(left: Option<bool>, right: Option<bool>) -> Option<bool>
     }
 }
 
-/// OR: true where one operand is true, false where both are false.
+/// OR: true if one operand is true, false if both are false.
 pub fn disjunction(left: Option<bool>, right: Option<bool>) -> Option<bool>
     ensures value { result ≡ disjunction left right }
 {
@@ -72,7 +72,7 @@ fn if_true(truth: bool) -> Option<bool>
     if truth { Some(true) } else { None }
 }
 
-/// The other truth value.
+/// The opposite truth value.
 pub fn negation(truth: Option<bool>) -> Option<bool>
     ensures value { result ≡ option_map not truth }
 {

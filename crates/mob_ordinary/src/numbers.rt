@@ -12,7 +12,7 @@ pub fn is_nil(number: &Frac) -> bool
     number.is_zero()
 }
 
-/// A number with its sign turned. NULL where the value is no number.
+/// The negative of a number; NULL if the value is not a number.
 pub fn negation(value: &Value) -> Value
     ensures value { result ≡ negated value.now }
 {
@@ -22,7 +22,7 @@ pub fn negation(value: &Value) -> Value
     }
 }
 
-/// A number. NULL where the value is no number.
+/// A number unchanged; NULL if the value is not a number.
 pub fn unchanged(value: &Value) -> Value
     ensures value { result ≡ unchanged value.now }
 {

@@ -8,7 +8,7 @@ use mob_ast::SqlType;
 use mob_value::Value;
 use mob_value::held::Held;
 
-// Whether a value is one of a type.
+// Whether a value is of a type.
 fn is_of_type(ty: SqlType, value: &Value) -> bool
     ensures exact { result ≡ is_of_type ty value.now }
 {
@@ -33,7 +33,7 @@ fn is_of_type(ty: SqlType, value: &Value) -> bool
     }
 }
 
-// A stored value, read as one of a type. A value of another type reads as NULL.
+// A stored value, read as one of a type; a value of another type reads as NULL.
 fn read_as<'a>(ty: SqlType, value: &'a Value) -> Held<'a>
     ensures value { held result ≡ read_as ty value.now }
 {
@@ -44,7 +44,7 @@ fn read_as<'a>(ty: SqlType, value: &'a Value) -> Held<'a>
     }
 }
 
-/// A stored value, read as one of a type; a value of another type, and None, read as NULL.
+/// A stored value, read as one of a type; a value of another type, or `None`, reads as NULL.
 pub fn read_or_null<'a>(ty: SqlType, value: Option<&'a Value>) -> Held<'a>
     ensures value { held result ≡ read_as ty (value_or_null (option_map (λ v. v.now) value.entry)) }
 {

@@ -1,14 +1,14 @@
-//! Span sets made of one span.
+//! Span sets of one span.
 ghost use Rattle.std.specs.Prelude.{◌≡◌, [], ◌∷◌, IfOk};
 
 use mob_span::{Span, SpanSet};
 use std::alloc::{AllocError, Global};
 
-/// The set of the instants of one span.
+/// The set of the instants of one span. The only error is a failed allocation.
 pub fn one_span(alloc: Global, span: &Span) -> Result<SpanSet, AllocError>
     ensures same { IfOk result (λ set. set ≡ span.now ∷ []) }
 {
-    // That the span has an instant is a clause of this call.
+    // The clause of this call says that the span has an instant.
     let _ = span.lower();
     let mut spans = Vec::new(alloc);
     spans.push(*span)?;

@@ -1,8 +1,8 @@
-//! Where what an operator gave is kept.
+//! The cells that keep the outcomes of operators.
 //!
-//! An operator that reads the row of one place of FROM alone, as a trip cut to a polygon, gives on
-//! each tuple with that row the same value or the same fault. The first evaluation that reaches it
-//! on a row keeps what it gave, and each later one, by whichever worker, takes it from there.
+//! An operator that reads only the row of one place of FROM, such as a trip cut to a polygon, gives
+//! on each tuple with that row the same value or the same fault. The first evaluation of it on a
+//! row keeps its outcome, and each later one, by any worker, reuses it.
 ghost use Rattle.std.specs.Prelude.{◌≡◌, ℕ, true, IfSome, Option, Result};
 ghost use Rattle.mob_slice.specs.declared.formula.Formula.{Formula as formula_of};
 ghost use Rattle.mob_value.specs.declared.value.Value.{Value as value_of};
@@ -19,14 +19,14 @@ use std::alloc::Global;
 use std::marker::{Model, PhantomData};
 use std::sync::atomic::{AtomicU64, Ordering};
 
-/// What may be told of operators: which outcome, by the place of an operator in the script, the
+/// The outcomes that may be kept: which outcome, by the place of an operator in the script, the
 /// place of FROM that it names, and the number of the row there.
 pub trait Telling {
     ghost tells: { ℕ → Option ℕ → ℕ → Result value_of (ℕ × formula_of) → Type 0 };
 }
 
-/// What the operator at a place of the script gave: on a row of the table at a place of FROM, or,
-/// if it names no place, on each tuple.
+/// The outcome of the operator at a place in the script: on a row of the table at a place of FROM,
+/// or on each tuple if it names no place.
 #[derive(Drop)]
 pub struct Answer {
     at: u32,
@@ -52,7 +52,7 @@ impl<K: Telling> Model for Told<K> {
     ghost invariant = { λ t. K.tells t.answer.at t.answer.place t.answer.row t.answer.outcome };
 }
 
-/// Where what is known of an operator on a row is kept: its outcome, or its box.
+/// The cell of an operator on a row: it keeps the operator's outcome, or its box.
 #[derive(Drop)]
 pub struct Cell<'a, T> {
     /// The place of the operator in the script.
@@ -61,16 +61,16 @@ pub struct Cell<'a, T> {
     pub place: Option<u32>,
     /// The number of the row there.
     pub row: u32,
-    /// What is kept, once something is.
+    /// What is kept, once there is something.
     pub kept: &'a OnceBox<T>,
-    /// How many bytes all cells of the query have taken, about.
+    /// About how many bytes all cells of the query have taken.
     pub taken: &'a AtomicU64,
 }
 
-// How many bytes the answers of a query may take, about. Past them nothing more is kept.
+// About how many bytes the answers of a query may take. Beyond this nothing more is kept.
 const MOST_BYTES: u64 = 1 << 28;
 
-/// Whether there is room for so many bytes more. If so they are taken.
+/// Whether there is room for `bytes` more bytes. If so, they are counted as taken.
 pub fn has_room(taken: &AtomicU64, bytes: u64) -> bool {
     if taken.load(Ordering::SeqCst) >= MOST_BYTES {
         return false;
@@ -105,7 +105,7 @@ impl<K: Telling> Told<K> {
     }
 }
 
-// An outcome that was told, as evaluation gives it: a value is lent.
+// A kept outcome, as evaluation gives it, with its value lent.
 fn lent<'a, K: Telling>(told: &'a Told<K>) -> Result<Held<'a>, EvalFault>
     ensures value { Says (λ r. r ≡ told.now.outcome) result }
     ensures told { Says (K.tells told.now.at told.now.place told.now.row) result }
@@ -116,7 +116,7 @@ fn lent<'a, K: Telling>(told: &'a Told<K>) -> Result<Held<'a>, EvalFault>
     }
 }
 
-// An outcome that is handed over, as evaluation gives it: a value is held.
+// An outcome that the caller owns, as evaluation gives it, with its value held.
 fn handed<'a>(outcome: Result<Value, (u32, Formula)>) -> Result<Held<'a>, EvalFault>
     ensures value { Says (λ r. r ≡ outcome) result }
 {
@@ -127,7 +127,7 @@ fn handed<'a>(outcome: Result<Value, (u32, Formula)>) -> Result<Held<'a>, EvalFa
 }
 
 impl<'a, T> Cell<'a, T> {
-    /// Whether this is the cell of the operator at a place of the script, on a row of the table at
+    /// Whether this is the cell of the operator at a place in the script, on a row of the table at
     /// a place of FROM.
     pub fn is_at(&self, at: u32, place: Option<u32>, row: u32) -> bool
         ensures same { result ≡ true → (at ≡ self.now.at) × (place ≡ self.now.place) × (row ≡ self.now.row) }
@@ -143,7 +143,7 @@ impl<'a, T> Cell<'a, T> {
 }
 
 impl<K: Telling> Told<K> {
-    // Whether it is of the operator and row of a cell.
+    // Whether it belongs to the operator and row of a cell.
     fn is_of(&self, cell: &Cell<'_, Told<K>>) -> bool
         ensures same { result ≡ true → (self.now.at ≡ cell.now.at) × (self.now.place ≡ cell.now.place) × (self.now.row ≡ cell.now.row) }
     {
@@ -153,7 +153,7 @@ impl<K: Telling> Told<K> {
 }
 
 impl<'a, K: Telling> Cell<'a, Told<K>> {
-    /// What is kept there, if anything is.
+    /// The outcome in the cell, if there is one.
     pub fn told(&self) -> Option<Result<Held<'a>, EvalFault>>
         ensures told { IfSome result (Says (K.tells self.now.at self.now.place self.now.row)) }
     {
@@ -169,7 +169,8 @@ impl<'a, K: Telling> Cell<'a, Told<K>> {
         }
     }
 
-    // An outcome is kept, unless another worker was faster. If memory is refused it is given back.
+    // Keeps an outcome, unless another worker was first. If an allocation fails, the outcome is
+    // returned.
     fn keep(
         &self,
         alloc: Global,
@@ -201,7 +202,7 @@ impl<'a, K: Telling> Cell<'a, Told<K>> {
         }
     }
 
-    // A value is kept where there is room for it.
+    // Keeps a value if there is room for it.
     fn keep_value(&self, alloc: Global, value: Value) -> Result<Held<'a>, EvalFault>
         requires told { K.tells self.now.at self.now.place self.now.row (Ok value) }
         ensures told { Says (K.tells self.now.at self.now.place self.now.row) result }
@@ -213,7 +214,8 @@ impl<'a, K: Telling> Cell<'a, Told<K>> {
         }
     }
 
-    /// Keeps what an evaluation gave. A stored value is lent as it is.
+    /// Keeps the outcome of an evaluation, and returns it. A stored value is lent unchanged. A
+    /// failed allocation of the evaluation is returned and not kept.
     pub fn kept(
         &self,
         alloc: Global,

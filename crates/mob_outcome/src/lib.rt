@@ -1,4 +1,5 @@
-//! Outcomes of expressions: why one has no value, and the cells that keep what operators gave.
+//! Outcomes of expressions: why one has no value, and the cells that keep the outcomes of
+//! operators.
 #![tactic(auto)]
 
 pub mod cells;

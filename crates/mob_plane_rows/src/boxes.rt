@@ -1,5 +1,5 @@
-// Boxes, read from their texts, asked by the calls of the library, and printed again; and those of
-// points that move. The epoch is 2000-01-01.
+//! Boxes, read from their texts, tested by calls of the library, and printed again; and the boxes
+//! of moving points. The epoch is 2000-01-01.
 
 use mob_ast::SqlType;
 use mob_frac::Frac;
@@ -25,10 +25,10 @@ fn is_read(alloc: Global, text: &str, wanted: &str) -> bool {
     }
 }
 
-// A text, and what is printed of the box that it says, or why it says none.
+// A text, and the printed box of it, or why it has none.
 static TEXTS: [(&'static str, &'static str); 16] = [
     ("STBOX X((0,1),(2,3))", "STBOX X((0,1),(2,3))"),
-    // any two opposite corners, letters of either case, blanks
+    // any two opposite corners, letters in either case, spaces
     (
         " stbox  x( ( 2 , 1/2 ) ,(0,1.5)) ",
         "STBOX X((0,1/2),(2,3/2))",
@@ -58,7 +58,7 @@ static TEXTS: [(&'static str, &'static str); 16] = [
     ("STBOX Z((0,1,2),(2,3,4))", "no text"),
     ("SRID=0;STBOX X((0,1),(2,3))", "no text"),
     ("STBOX X((0,1),(2,4611686018427387904))", "too large"),
-    // the size of each number comes first
+    // whether each number fits is tested first
     (
         "STBOX XT(((0,1),(2,4611686018427387904)),[2000-01-02,2000-01-01])",
         "too large",
@@ -84,7 +84,7 @@ fn is_expanded(alloc: Global, found: &StBox, by: i64, wanted: &str) -> bool {
     }
 }
 
-// A box, a number, and what is printed of the box that is so much wider.
+// A box, a number, and the printed box that is expanded by this number.
 static EXPANSIONS: [(&'static str, i64, &'static str); 8] = [
     (
         "STBOX XT(((0,1),(2,3)),[2000-01-01,2000-01-02))",
@@ -92,14 +92,14 @@ static EXPANSIONS: [(&'static str, i64, &'static str); 8] = [
         "STBOX XT(((-1,0),(3,4)),[2000-01-01 00:00:00+00, 2000-01-02 00:00:00+00))",
     ),
     ("STBOX X((0,1),(2,3))", 0, "STBOX X((0,1),(2,3))"),
-    // inward, as far as a point
+    // inward, down to a point
     ("STBOX X((0,1),(2,4))", -1, "STBOX X((1,2),(1,3))"),
     ("STBOX X((0,1),(2,4))", -2, "NULL"),
     ("STBOX T([2000-01-01,2000-01-02])", 1, "NULL"),
     // a side that does not fit
     ("STBOX X((0,0),(4611686018427387903,0))", 1, "F7"),
     ("STBOX X((0,-4611686018427387903),(0,0))", 1, "F7"),
-    // also where no box would be left
+    // even if no box would be left
     (
         "STBOX X((4611686018427387903,0),(4611686018427387903,0))",
         -1,
@@ -121,7 +121,8 @@ fn boxes_are_expanded(rt: HostRuntime) {
     }
 }
 
-// Two boxes, whether they overlap, whether the first contains the second, and whether they are one.
+// Two boxes, whether they overlap, whether the first contains the second, and whether they are
+// equal.
 type Pair = (&'static str, &'static str, bool, bool, bool);
 
 static PAIRS: [Pair; 10] = [
@@ -174,7 +175,7 @@ static PAIRS: [Pair; 10] = [
         false,
         false,
     ),
-    // no dimension that both have, and one that both have
+    // no common dimension, and one common dimension
     (
         "STBOX X((0,0),(2,2))",
         "STBOX T([2000-01-01,2000-01-02])",
@@ -219,8 +220,8 @@ fn boxes_lie(rt: HostRuntime) {
     }
 }
 
-// A trip and its box: that of all of its corners, with those where it turns, and closed where the
-// trip ends before.
+// A trip and its box: that of all of its corners, including those where it turns. The rectangle is
+// closed, even if the trip does not include its end.
 static TRIPS: [(&'static str, &'static str); 4] = [
     (
         "[POINT(0 3)@2000-01-01, POINT(2 1)@2000-01-02)",

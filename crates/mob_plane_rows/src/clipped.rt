@@ -1,4 +1,4 @@
-// A moving point and a box: what is left of it inside, and what outside. The epoch is 2000-01-01.
+//! A moving point and a box: the part inside, and the part outside. The epoch is 2000-01-01.
 
 use crate::printed::is_left;
 use mob_ast::SqlType;
@@ -15,14 +15,14 @@ use std::alloc::Global;
 type Clip = (&'static str, &'static str, &'static str, &'static str);
 
 static CLIPS: [Clip; 10] = [
-    // inside from 1 to 3, of which the time has what is before 2
+    // inside from 1 to 3, of which the time includes what is before 2
     (
         "[POINT(0 0)@2000-01-01 00:00:00, POINT(4 0)@2000-01-01 00:00:04]",
         "STBOX XT(((1,0),(3,0)),[2000-01-01 00:00:00, 2000-01-01 00:00:02))",
         "[POINT(1 0)@2000-01-01 00:00:01+00, POINT(2 0)@2000-01-01 00:00:02+00)",
         "{[POINT(0 0)@2000-01-01 00:00:00+00, POINT(1 0)@2000-01-01 00:00:01+00), [POINT(2 0)@2000-01-01 00:00:02+00, POINT(4 0)@2000-01-01 00:00:04+00]}",
     ),
-    // on a corner at 2 alone
+    // on a corner only at 2
     (
         "[POINT(0 0)@2000-01-01 00:00:00, POINT(4 4)@2000-01-01 00:00:04]",
         "STBOX X((2,0),(4,2))",
@@ -36,14 +36,14 @@ static CLIPS: [Clip; 10] = [
         "[POINT(1 1)@2000-01-01 00:00:01+00, POINT(3 1)@2000-01-01 00:00:03+00]",
         "{[POINT(0 1)@2000-01-01 00:00:00+00, POINT(1 1)@2000-01-01 00:00:01+00), (POINT(3 1)@2000-01-01 00:00:03+00, POINT(4 1)@2000-01-01 00:00:04+00]}",
     ),
-    // a time alone, whose first instant is left out
+    // only a time, which does not include its first instant
     (
         "[POINT(0 0)@2000-01-01 00:00:00, POINT(4 0)@2000-01-01 00:00:04]",
         "STBOX T((2000-01-01 00:00:00, 2000-01-01 00:00:02])",
         "(POINT(0 0)@2000-01-01 00:00:00+00, POINT(2 0)@2000-01-01 00:00:02+00]",
         "{[POINT(0 0)@2000-01-01 00:00:00+00], (POINT(2 0)@2000-01-01 00:00:02+00, POINT(4 0)@2000-01-01 00:00:04+00]}",
     ),
-    // it would reach the box at the end that is left out
+    // it would reach the box at the end that is not included
     (
         "[POINT(0 0)@2000-01-01 00:00:00, POINT(4 4)@2000-01-01 00:00:04)",
         "STBOX X((4,4),(9,9))",
@@ -57,28 +57,28 @@ static CLIPS: [Clip; 10] = [
         "F2",
         "F2",
     ),
-    // that to a side goes from -(2^62 - 1) to 1, and the difference of the two is -2^62
+    // the difference to a side goes from -(2^62 - 1) to 1, and these two differ by 2^62
     (
         "[POINT(-4611686018427387903 0)@2000-01-01 00:00:00, POINT(1 0)@2000-01-01 00:00:01]",
         "STBOX X((0,0),(0,0))",
         "F3",
         "F3",
     ),
-    // the way to 1 is 2^62, which is asked for where the time of the box begins, before any side
+    // the two ends differ by 2^62, which F1 needs where the time of the box begins, before any side
     (
         "[POINT(-4611686018427387903 0)@2000-01-01 00:00:00, POINT(1 0)@2000-01-01 00:00:02]",
         "STBOX XT(((2,0),(3,0)),[2000-01-01 00:00:01, 2000-01-01 00:00:03])",
         "F1",
         "F1",
     ),
-    // and not where it begins at the point's own end
+    // and not if it begins at the point's own end
     (
         "[POINT(-4611686018427387903 0)@2000-01-01 00:00:00, POINT(1 0)@2000-01-01 00:00:02]",
         "STBOX T([2000-01-01 00:00:00, 2000-01-01 00:00:03])",
         "[POINT(-4611686018427387903 0)@2000-01-01 00:00:00+00, POINT(1 0)@2000-01-01 00:00:02+00]",
         "NULL",
     ),
-    // at x = 0, a fifth of the way, y is 1/(5 * 10^18), though nothing is in the box
+    // at x = 0, after a fifth of the time, y is 1/(5 * 10^18), though nothing is in the box
     (
         "[POINT(-1 0)@2000-01-01 00:00:00, POINT(4 1/1000000000000000000)@2000-01-01 00:00:01]",
         "STBOX X((0,1),(4,1))",

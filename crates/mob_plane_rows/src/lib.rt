@@ -1,6 +1,6 @@
-//! Tests of moving points in the plane: boxes, what is left of a point inside and outside of boxes
-//! and polygons, how near two points come, which of two do by their tiles, and where columns of
-//! tiles are cut.
+//! Tests of moving points in the plane: boxes, the parts of a point inside and outside of boxes and
+//! polygons, how near two points come, which pairs do according to their tiles, and where columns
+//! of tiles are cut.
 #![tactic(auto)]
 
 #[cfg(test)]

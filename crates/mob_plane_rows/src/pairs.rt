@@ -1,5 +1,5 @@
-// Two points, of which one moves: whether they are ever within a distance, and the square of their
-// nearest approach.
+//! Two points, one of which moves: whether they are ever within a distance, and the square of their
+//! nearest approach.
 
 use crate::printed::{is_answer, is_decision};
 use mob_ast::SqlType;
@@ -11,8 +11,8 @@ use mob_slice::{Moving, Operand, PlaneLine};
 use mob_value::Value;
 use std::alloc::Global;
 
-// A moving point; the other one with its type; a distance; whether they are within it; the square
-// of their nearest approach.
+// A moving point; the other point with its type; a distance; whether they are ever within it; the
+// square of their nearest approach.
 type Pair = (
     &'static str,
     SqlType,
@@ -23,7 +23,7 @@ type Pair = (
 );
 
 static PAIRS: [Pair; 16] = [
-    // it is 3 away only at the end that is left out
+    // it is 3 away only at the end that is not included
     (
         "[POINT(0 0)@2000-01-01 00:00:00, POINT(10 0)@2000-01-01 00:00:10)",
         SqlType::Point,
@@ -40,7 +40,7 @@ static PAIRS: [Pair; 16] = [
         "t",
         "9",
     ),
-    // side by side, 3 apart, without either end
+    // side by side, 3 apart, without both ends
     (
         "(POINT(0 0)@2000-01-01 00:00:00, POINT(5 0)@2000-01-01 00:00:05)",
         SqlType::TPoint,
@@ -84,7 +84,7 @@ static PAIRS: [Pair; 16] = [
         "f",
         "1/2",
     ),
-    // a distance below 0, and no common instant
+    // a negative distance, and no common instant
     (
         "POINT(0 0)@2000-01-01 00:00:00",
         SqlType::Point,
@@ -110,7 +110,7 @@ static PAIRS: [Pair; 16] = [
         "f",
         "4",
     ),
-    // the square of the distance does not fit, which is asked only where there is a common instant
+    // the square of the distance does not fit, which is computed only if there is a common instant
     (
         "POINT(0 0)@2000-01-01 00:00:00",
         SqlType::Point,
@@ -127,7 +127,7 @@ static PAIRS: [Pair; 16] = [
         "NULL",
         "NULL",
     ),
-    // nor does the square of the way
+    // nor does the square of the length of the course
     (
         "[POINT(-1500000000 0)@2000-01-01 00:00:00, POINT(1500000000 0)@2000-01-01 00:00:01]",
         SqlType::Point,
@@ -153,7 +153,7 @@ static PAIRS: [Pair; 16] = [
         "F2",
         "F2",
     ),
-    // a distance below 0 has no formula
+    // a negative distance has no formula
     (
         "[POINT(0 0)@2000-01-01 00:00:00, POINT(4611686018427387903 0)@2000-01-01 00:00:02]",
         SqlType::Point,

@@ -1,5 +1,5 @@
-// Polygons, read from their texts, copied and printed; what is left of a moving point inside one
-// and outside, and whether it ever is inside. The epoch is 2000-01-01.
+//! Polygons, read from their texts, copied and printed; the parts of a moving point inside and
+//! outside of one, and whether it is ever inside. The epoch is 2000-01-01.
 
 use crate::printed::{is_left, is_settled};
 use mob_ast::SqlType;
@@ -34,13 +34,13 @@ fn is_read(alloc: Global, text: &str, wanted: &str) -> bool {
     }
 }
 
-// A text, and what is printed of the polygon that it says, or why it says none.
+// A text, and the printed polygon of it, or why it has none.
 static TEXTS: [(&'static str, &'static str); 10] = [
     (
         "POLYGON((2 0,3 1,2 2,1 1,2 0))",
         "POLYGON((2 0,3 1,2 2,1 1,2 0))",
     ),
-    // letters of either case, and blanks
+    // letters in either case, and spaces
     (
         " srid=0 ; polygon ( ( 0 0 , 1 0 , 0 1 , 0 0 ) ) ",
         "POLYGON((0 0,1 0,0 1,0 0))",
@@ -54,7 +54,7 @@ static TEXTS: [(&'static str, &'static str); 10] = [
     ("POLYGON()", "no text"),
     ("SRID=4326;POLYGON((0 0,1 0,0 1,0 0))", "no text"),
     ("POLYGON((0 0,1 0,0 4611686018427387904,0 0))", "too large"),
-    // the size of each number comes before short and open rings
+    // whether each number fits is tested before short and open rings
     ("POLYGON((0 0,4611686018427387904 1))", "too large"),
     ("POLYGON((0 0,1 0,0 1,0 0),(1 1,2 1,1 1))", "unsound"),
     ("POLYGON((0 0,1 0,0 1,0 2))", "unsound"),
@@ -67,7 +67,7 @@ fn polygons_are_read(rt: HostRuntime) {
     }
 }
 
-// A moving point, a polygon, what is inside, what is outside, and whether it is ever inside.
+// A moving point, a polygon, the part inside, the part outside, and whether it is ever inside.
 type Clip = (
     &'static str,
     &'static str,
@@ -77,7 +77,7 @@ type Clip = (
 );
 
 static CLIPS: [Clip; 12] = [
-    // on a corner at 2 alone
+    // on a corner only at 2
     (
         "[POINT(0 0)@2000-01-01 00:00:00, POINT(4 0)@2000-01-01 00:00:04]",
         "POLYGON((2 0,3 1,2 2,1 1,2 0))",
@@ -85,7 +85,7 @@ static CLIPS: [Clip; 12] = [
         "{[POINT(0 0)@2000-01-01 00:00:00+00, POINT(2 0)@2000-01-01 00:00:02+00), (POINT(2 0)@2000-01-01 00:00:02+00, POINT(4 0)@2000-01-01 00:00:04+00]}",
         "t",
     ),
-    // it would reach the corner at the end that is left out
+    // it would reach the corner at the end that is not included
     (
         "[POINT(0 0)@2000-01-01 00:00:00, POINT(2 0)@2000-01-01 00:00:02)",
         "POLYGON((2 0,3 1,2 2,1 1,2 0))",
@@ -93,7 +93,7 @@ static CLIPS: [Clip; 12] = [
         "[POINT(0 0)@2000-01-01 00:00:00+00, POINT(2 0)@2000-01-01 00:00:02+00)",
         "f",
     ),
-    // through a hole, whose edge is in
+    // through a hole, whose edge belongs to the polygon
     (
         "[POINT(-1 5)@2000-01-01 00:00:00, POINT(11 5)@2000-01-01 00:00:12]",
         "POLYGON((0 0,10 0,10 10,0 10,0 0),(4 4,6 4,6 6,4 6,4 4))",
@@ -149,8 +149,7 @@ static CLIPS: [Clip; 12] = [
         "F2",
         "F2",
     ),
-    // the turn with the first edge goes from 2^62 - 1 to -1, so that its root is of a difference of
-    // 2^62
+    // the turn with the first edge goes from 2^62 - 1 to -1, so its root needs a difference of 2^62
     (
         "[POINT(-4611686018427387903 0)@2000-01-01 00:00:00, POINT(1 0)@2000-01-01 00:00:02]",
         "POLYGON((0 0,0 1,-1 0,0 0))",
@@ -158,7 +157,7 @@ static CLIPS: [Clip; 12] = [
         "F3",
         "F3",
     ),
-    // at x = 0, a fifth of the way, y is 1/(5 * 10^18), also where the point passes the x of a
+    // at x = 0, after a fifth of the time, y is 1/(5 * 10^18), also if the point passes the x of a
     // corner and is never inside
     (
         "[POINT(-1 0)@2000-01-01 00:00:00, POINT(4 1/1000000000000000000)@2000-01-01 00:00:01]",
@@ -167,7 +166,7 @@ static CLIPS: [Clip; 12] = [
         "F1",
         "F1",
     ),
-    // a first part that is inside settles the answer, and not which formula is told
+    // a first part that is inside decides the answer, but not which formula overflows
     (
         "{[POINT(1 1)@2000-01-01 00:00:00, POINT(2 2)@2000-01-01 00:00:01], [POINT(-4611686018427387903 0)@2000-01-01 00:00:02]}",
         "POLYGON((0 0,4 0,4 4,0 4,0 0))",

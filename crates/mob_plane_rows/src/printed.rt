@@ -1,5 +1,5 @@
-// How answers are compared with the wanted ones: NULL where there is none, and the name of the
-// formula where a part of it does not fit.
+//! Compares answers with the expected ones: NULL if there is no answer, or the name of the formula
+//! if a part of it does not fit.
 
 use mob_frac::Frac;
 use mob_list::fault::Fault;

@@ -1,4 +1,5 @@
-// The pairs of trips that come within a distance, by the work of `tiled` on all its tiles at once.
+//! The pairs of trips that come within a distance, from the work of `tiled` on all its tiles at
+//! once.
 
 use mob_ast::SqlType;
 use mob_fan::{Outcome, Work};
@@ -11,13 +12,13 @@ use mob_tile::Grid;
 use mob_value::Value;
 use std::alloc::Global;
 
-// Two trips, 3 apart at each instant, and on two sides of the edge x = 4 of tiles with sides of 2.
+// Two trips, 3 apart at each instant, on both sides of the edge x = 4 of tiles with sides of 2.
 static TRIPS: [&'static str; 2] = [
     "[POINT(1 1)@2000-01-01 00:00:00, POINT(3 1)@2000-01-01 00:00:10]",
     "[POINT(4 1)@2000-01-01 00:00:00, POINT(6 1)@2000-01-01 00:00:10]",
 ];
 
-// A distance, and whether the two come so near.
+// A distance, and whether the two come this near.
 static DISTANCES: [(&'static str, bool); 4] = [
     ("3", true),
     ("2.999", false),
@@ -42,7 +43,7 @@ fn grid() -> Option<Grid> {
     Grid::new(size, width)
 }
 
-// Whether the rows 0 and 1 are the one pair, or there is none.
+// Whether the rows 0 and 1 are the only pair, or there is none.
 fn is_pair<'a>(
     alloc: Global,
     trips: &'a [Option<Moving<PlaneLine>>],

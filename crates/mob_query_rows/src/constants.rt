@@ -1,4 +1,4 @@
-// How constants without a value are refused.
+//! Tests of how constants without a value are refused.
 
 use mob_ast::{Kind, Refusal, SqlType};
 use mob_catalog::constant_refusal;
@@ -7,7 +7,7 @@ use mob_scalar::ReadText;
 use mob_typed::ConstText;
 use std::alloc::{AllocError, Global};
 
-// A truth value of a script, by its text, in the statement 2.
+// A truth value of a script, from its text, in statement 2.
 fn truth(alloc: Global, characters: &str, place: u32) -> Result<ConstText, AllocError> {
     Ok(ConstText {
         ty: SqlType::Bool,
@@ -25,7 +25,7 @@ fn refusal(kind: Kind, place: u32) -> Refusal {
     }
 }
 
-// The refusal of a literal, for each of its faults.
+// The refusal of a literal, for each fault.
 fn are_refused(literal: &ConstText) -> bool {
     let bad = Some(refusal(Kind::BadLiteral, 15));
     constant_refusal(ReadText::Limit, literal) == Some(refusal(Kind::Limit, 15))

@@ -1,5 +1,5 @@
-// Expressions that no script has: operators on operands of other types, NULL, and numbers of no
-// constant, table or column.
+//! Expressions that no script has: operators on operands of wrong types, NULL, and numbers without
+//! a constant, table or column.
 
 use mob_ast::{Cmp, SqlType};
 use mob_catalog::Catalog;
@@ -26,7 +26,7 @@ fn put(alloc: Global, catalog: &mut Catalog, one: Value, other: Value) -> Result
     catalog.add_row(0, Items::from_vec(row))
 }
 
-// Whether there is a first table now, with the rows (1, 5), (2, NULL) and (3, 7).
+// Whether there is now a first table with the rows (1, 5), (2, NULL) and (3, 7).
 fn is_filled(alloc: Global, catalog: &mut Catalog) -> bool {
     catalog.create_table(Items::new(alloc)).is_ok()
         && put(alloc, catalog, number(1), number(5)).is_ok()
@@ -53,8 +53,8 @@ fn node(alloc: Global, op: Op, operands: &[u32]) -> Result<TExpr, AllocError> {
     })
 }
 
-// Operators and numbers of constants that no typed script has, or that are NULL: 0 is the number 1,
-// 1 is a text, 2 is true, 3 is NULL, 4 is the number 0.
+// Operators and numbers of constants that no typed script has, or that give NULL: 0 is the number
+// 1, 1 is a text, 2 is true, 3 is NULL, 4 is the number 0.
 static UNTYPED: [(Op, &[u32]); 13] = [
     (Op::Const(99), &[]),
     (Op::Column { from: 1, column: 0 }, &[]),

@@ -1,12 +1,12 @@
-// Runs of the demo, over a script and files of which the first call fails: none of their calls is
-// made.
+//! Runs of the demo, over a script and files whose first call would fail: none of their calls is
+//! made.
 
 use crate::ends::{Failing, Report, Watch, gave};
 use crate::scripts::run_script;
 use std::alloc::{AllocError, Global};
 use std::thread::Threads;
 
-/// What the demo of two ships writes.
+/// The answer of the demo with two ships.
 pub const TWO_SHIPS: &[u8] = b"a,b
 (0 rows)
 id,inside
@@ -22,7 +22,7 @@ const FIRST_FAILS: Failing = Failing {
     notes: 0,
 };
 
-/// A run of the demo of so many ships by so many workers.
+/// A run of the demo with this number of ships and workers.
 pub fn demo(
     rt: &(impl Threads + Sync),
     alloc: Global,

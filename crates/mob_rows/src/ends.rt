@@ -1,4 +1,4 @@
-// The ends of a run in memory, of which calls fail, and what a run gave.
+//! The streams and files of a run in memory, with calls that fail, and the report of a run.
 
 ghost use Rattle.std.specs.Prelude.{◌<◌};
 
@@ -6,8 +6,8 @@ use mob_fan_rows::gates::TwoFlags;
 use mob_outside::{Gate, MemFiles, MemSink, MemSource};
 use std::alloc::{AllocError, Global};
 
-/// The number of the call that fails, for each end, counted from 1; no call is number 0. The input
-/// is the script or the table.
+/// The number of the call that fails, for each stream and for the files, from 1; no call has the
+/// number 0. The input is the script or the table.
 #[derive(Clone, Copy)]
 pub struct Failing {
     pub input: u64,
@@ -24,7 +24,7 @@ pub const NONE_FAILS: Failing = Failing {
     notes: 0,
 };
 
-/// What a run gave.
+/// The result of a run.
 #[derive(Drop)]
 pub struct Report {
     pub status: u8,
@@ -32,7 +32,7 @@ pub struct Report {
     pub notes: MemSink,
 }
 
-/// Whether a run gave this.
+/// Whether a run had this result.
 pub fn gave(seen: &Report, status: u8, answer: &[u8], note: &[u8]) -> bool {
     seen.status == status && seen.out.taken() == answer && seen.notes.taken() == note
 }
@@ -51,7 +51,7 @@ impl<'a> Gate for Watch<'a> {
     }
 }
 
-/// The arguments, as a run takes them.
+/// The arguments, in the form that a run takes.
 pub fn listed(alloc: Global, words: &[&str]) -> Result<Vec<String>, AllocError> {
     let mut list = Vec::new(alloc);
     for word in words {
@@ -90,7 +90,7 @@ fn file(alloc: Global, name: &str, bytes: &[u8]) -> Result<(String, Vec<u8>), Al
     Ok((name, bytes.to_vec(alloc)?))
 }
 
-// At most one file.
+// At most one file, with its name and its bytes.
 fn contents(
     alloc: Global,
     named: Option<(&str, &[u8])>,

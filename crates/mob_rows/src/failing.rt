@@ -1,6 +1,7 @@
-// Runs in which the k-th call of an end fails, for each k until no call is the k-th. What whole
-// scripts and tables answer stands in `checks/rows` and `checks/trips`. How often an end has failed
-// it tells contracts alone (clauses `fails`, `counts` and `failed` of the ends in memory).
+//! Runs in which the k-th call of a stream or of the files fails, for each k until there is no k-th
+//! call. What whole scripts and tables answer is in `checks/rows` and `checks/trips`. Only
+//! contracts see how often a stream has failed (clauses `fails`, `counts` and `failed` of the
+//! streams in memory).
 
 use crate::ends::{Failing, NONE_FAILS, Report, Watch, gave};
 use crate::scripts::run_script;
@@ -18,7 +19,7 @@ enum Program {
     Pairs,
 }
 
-// The ends, of which one has a failing call. The input is the script or the table.
+// The streams and the files, one of which has a failing call. The input is the script or the table.
 #[derive(Clone, Copy)]
 enum End {
     Input,
@@ -27,10 +28,10 @@ enum End {
     Notes,
 }
 
-// A run of which an end fails: the program, the end, and the script or the table. Then the status
-// and the note of a run with a failing call; the status, the answer and the note of a run without
-// one; and for each call that can fail, how many bytes of the answer, or of the note where that end
-// fails, are written before it.
+// A run in which a stream fails: the program, the stream, and the script or the table. Then the
+// status and the note of a run with a failing call; the status, the answer and the note of a run
+// without one; and for each call that can fail, how many bytes of the answer, or of the note if
+// that fails, are written before it.
 type Row = (
     Program,
     End,
@@ -47,11 +48,11 @@ const ANSWER: &str = "c1\n5@2001-01-01 00:00:00+00\n(1 rows)\n";
 const COPY: &str =
     "CREATE TABLE t (k int); COPY t FROM 't.csv' WITH (FORMAT csv, HEADER); SELECT k FROM t WHERE k > 2;";
 
-// A file that is copied twice, and between the two a literal that has no value.
+// A file that is copied twice, with a literal without a value in between.
 const TWICE: &str =
     "CREATE TABLE t (k int); CREATE TABLE u (k int); COPY t FROM 't.csv' WITH (FORMAT csv, HEADER); SELECT tint 'bad'; COPY u FROM 't.csv' WITH (FORMAT csv, HEADER);";
 
-// Rows go between two queries.
+// Rows are deleted between two queries.
 const DELETE: &str =
     "CREATE TABLE t (k int); COPY t FROM 't.csv' WITH (FORMAT csv, HEADER); SELECT k FROM t; DELETE FROM t WHERE k < 3; SELECT k FROM t;";
 
@@ -61,7 +62,7 @@ const LEFT: &str =
 const FILE: &[u8] = b"k\n1\n2\n3\n";
 
 static SCRIPTS: [Row; 15] = [
-    // An empty script has one call, which meets the end.
+    // An empty script has one call, which finds the end.
     (
         Program::Sql,
         End::Input,
@@ -70,7 +71,7 @@ static SCRIPTS: [Row; 15] = [
         (0, "", ""),
         &[0],
     ),
-    // The script has 30 bytes, so there are 6 calls: five with bytes, and one that meets the end.
+    // The script has 30 bytes, so there are 6 calls: five with bytes, and one that finds the end.
     (
         Program::Sql,
         End::Input,
@@ -79,8 +80,8 @@ static SCRIPTS: [Row; 15] = [
         (0, ANSWER, ""),
         &[0, 0, 0, 0, 0, 0],
     ),
-    // The file has 8 bytes, so there are 4 calls: the one that opens it, two with bytes, and one
-    // that meets the end.
+    // The file has 8 bytes, so there are 4 calls: one that opens it, two with bytes, and one that
+    // finds the end.
     (
         Program::Sql,
         End::File,
@@ -89,7 +90,7 @@ static SCRIPTS: [Row; 15] = [
         (0, "k\n3\n(1 rows)\n", ""),
         &[0, 0, 0, 0],
     ),
-    // The script has 99 bytes, so there are 16 calls: fifteen with bytes, and one that meets the
+    // The script has 99 bytes, so there are 16 calls: fifteen with bytes, and one that finds the
     // end.
     (
         Program::Sql,
@@ -108,8 +109,7 @@ static SCRIPTS: [Row; 15] = [
         (0, "k\n3\n(1 rows)\n", ""),
         &[0, 7],
     ),
-    // The answer has 37 bytes, so there are 6 calls, of which each before the failing one took 7
-    // bytes.
+    // The answer has 37 bytes, so there are 6 calls. Each before the failing one wrote 7 bytes.
     (
         Program::Sql,
         End::Out,
@@ -118,8 +118,8 @@ static SCRIPTS: [Row; 15] = [
         (0, ANSWER, ""),
         &[0, 7, 14, 21, 28, 35],
     ),
-    // The note of a refusal is put in nine pieces of 10, 1, 7, 1, 10, 1, 2, 11 and 2 bytes, so in
-    // 12 calls.
+    // The note of a refusal is written in nine pieces of 10, 1, 7, 1, 10, 1, 2, 11 and 2 bytes, so
+    // in 12 calls.
     (
         Program::Sql,
         End::Notes,
@@ -156,7 +156,7 @@ static SCRIPTS: [Row; 15] = [
         (0, "k\n1\n2\n3\n(3 rows)\nk\n3\n(1 rows)\n", ""),
         &[0, 7, 14, 17, 24],
     ),
-    // The note of a fault of a DELETE is put in nine pieces of 10, 1, 7, 1, 7, 2, 10, 2 and 16
+    // The note of a fault of a DELETE is written in nine pieces of 10, 1, 7, 1, 7, 2, 10, 2 and 16
     // bytes, so in 13 calls.
     (
         Program::Sql,
@@ -196,8 +196,8 @@ static SCRIPTS: [Row; 15] = [
         (0, "a,b\n1,2\n1,3\n2,3\n3,\\N\n(4 rows)\n", ""),
         &[0, 7, 14, 21, 28],
     ),
-    // The note names no row of the left-joined table, in eleven pieces, of which two are ` ` and
-    // `0`: in 15 calls.
+    // The note has no row for the left-joined table. It is written in eleven pieces, two of which
+    // are ` ` and `0`, so in 15 calls.
     (
         Program::Sql,
         End::Notes,
@@ -222,7 +222,7 @@ pub const NEAREST: &str = "id,approach\n7,25\n(1 rows)\n";
 
 const THINNED: &str = "id,trip\n7,POINT(2 4)@2001-01-01 00:00:00+00\n";
 
-// The note of a table that is empty or has another header.
+// The note for a table that is empty or has a wrong header.
 const NO_HEADER: &str = "table: record 1, field 0: refusal 15 (BadHeader)\n";
 
 const PARTS_WORDS: &[&str] = &[
@@ -255,7 +255,7 @@ const PAIRS: &str = "a,b\n7,8\n(1 rows)\n";
 
 static TABLES: [Row; 17] = [
     // ---- mobnear
-    // An empty table has one call, which meets the end, and is refused.
+    // An empty table has one call, which finds the end, and is refused.
     (
         Program::Near,
         End::Input,
@@ -264,7 +264,7 @@ static TABLES: [Row; 17] = [
         (6, "", NO_HEADER),
         &[0],
     ),
-    // The table has 32 bytes, so there are 5 calls: four with bytes, and one that meets the end.
+    // The table has 32 bytes, so there are 5 calls: four with bytes, and one that finds the end.
     (
         Program::Near,
         End::Input,
@@ -273,8 +273,7 @@ static TABLES: [Row; 17] = [
         (0, NEAREST, ""),
         &[0, 0, 0, 0, 0],
     ),
-    // The answer has 26 bytes, so there are 4 calls, of which each before the failing one took 8
-    // bytes.
+    // The answer has 26 bytes, so there are 4 calls. Each before the failing one wrote 8 bytes.
     (
         Program::Near,
         End::Out,
@@ -283,7 +282,7 @@ static TABLES: [Row; 17] = [
         (0, NEAREST, ""),
         &[0, 8, 16, 24],
     ),
-    // The note of a refused table is put in pieces of 5, 9, 1, 8, 1, 10, 2, 2, 9 and 2 bytes.
+    // The note of a refused table is written in pieces of 5, 9, 1, 8, 1, 10, 2, 2, 9 and 2 bytes.
     (
         Program::Near,
         End::Notes,
@@ -292,7 +291,7 @@ static TABLES: [Row; 17] = [
         (6, "", NO_HEADER),
         &[0, 5, 13, 14, 15, 23, 24, 32, 34, 36, 38, 46, 47],
     ),
-    // The note of a part that does not fit is put in pieces of 5, 1, 10, 2 and 16 bytes.
+    // The note of a part that does not fit is written in pieces of 5, 1, 10, 2 and 16 bytes.
     (
         Program::Near,
         End::Notes,
@@ -302,7 +301,7 @@ static TABLES: [Row; 17] = [
         &[0, 5, 6, 14, 16, 18, 26],
     ),
     // ---- mobthin
-    // An empty table has one call, which meets the end, and is refused.
+    // An empty table has one call, which finds the end, and is refused.
     (
         Program::Thin,
         End::Input,
@@ -311,7 +310,7 @@ static TABLES: [Row; 17] = [
         (6, "", NO_HEADER),
         &[0],
     ),
-    // The table has 32 bytes, so there are 5 calls: four with bytes, and one that meets the end.
+    // The table has 32 bytes, so there are 5 calls: four with bytes, and one that finds the end.
     (
         Program::Thin,
         End::Input,
@@ -320,8 +319,7 @@ static TABLES: [Row; 17] = [
         (0, THINNED, ""),
         &[0, 0, 0, 0, 0],
     ),
-    // The text has 44 bytes, so there are 6 calls, of which each before the failing one took 8
-    // bytes.
+    // The text has 44 bytes, so there are 6 calls. Each before the failing one wrote 8 bytes.
     (
         Program::Thin,
         End::Out,
@@ -330,7 +328,7 @@ static TABLES: [Row; 17] = [
         (0, THINNED, ""),
         &[0, 8, 16, 24, 32, 40],
     ),
-    // The note of a refused table is put in pieces of 5, 9, 1, 8, 1, 10, 2, 2, 9 and 2 bytes.
+    // The note of a refused table is written in pieces of 5, 9, 1, 8, 1, 10, 2, 2, 9 and 2 bytes.
     (
         Program::Thin,
         End::Notes,
@@ -339,7 +337,7 @@ static TABLES: [Row; 17] = [
         (6, "", NO_HEADER),
         &[0, 5, 13, 14, 15, 23, 24, 32, 34, 36, 38, 46, 47],
     ),
-    // The note of a part that does not fit is put in pieces of 5, 1, 10, 2 and 16 bytes.
+    // The note of a part that does not fit is written in pieces of 5, 1, 10, 2 and 16 bytes.
     (
         Program::Thin,
         End::Notes,
@@ -349,7 +347,7 @@ static TABLES: [Row; 17] = [
         &[0, 5, 6, 14, 16, 18, 26],
     ),
     // ---- mobtile
-    // An empty table has one call, which meets the end, and is refused.
+    // An empty table has one call, which finds the end, and is refused.
     (
         Program::Parts,
         End::Input,
@@ -358,7 +356,7 @@ static TABLES: [Row; 17] = [
         (6, "", NO_HEADER),
         &[0],
     ),
-    // The table has 32 bytes, so there are 5 calls: four with bytes, and one that meets the end.
+    // The table has 32 bytes, so there are 5 calls: four with bytes, and one that finds the end.
     (
         Program::Parts,
         End::Input,
@@ -367,8 +365,7 @@ static TABLES: [Row; 17] = [
         (0, PARTS, ""),
         &[0, 0, 0, 0, 0],
     ),
-    // The answer has 64 bytes, so there are 8 calls, of which each before the failing one took 8
-    // bytes.
+    // The answer has 64 bytes, so there are 8 calls. Each before the failing one wrote 8 bytes.
     (
         Program::Parts,
         End::Out,
@@ -377,7 +374,7 @@ static TABLES: [Row; 17] = [
         (0, PARTS, ""),
         &[0, 8, 16, 24, 32, 40, 48, 56],
     ),
-    // The table has 56 bytes, and is asked once more for its end.
+    // The table has 56 bytes, and one more call finds its end.
     (
         Program::Pairs,
         End::Input,
@@ -394,7 +391,7 @@ static TABLES: [Row; 17] = [
         (0, PAIRS, ""),
         &[0, 8, 16],
     ),
-    // The note of a row past the limit is put in pieces of 5, 1 and 21 bytes.
+    // The note of a row beyond the limit is written in pieces of 5, 1 and 21 bytes.
     (
         Program::Parts,
         End::Notes,
@@ -403,8 +400,8 @@ static TABLES: [Row; 17] = [
         (6, "", "rows 1: refusal 13 (Limit)\n"),
         &[0, 5, 6, 14, 22],
     ),
-    // The note of a part that does not fit, on two rows, is put in pieces of 5, 1, 1, 1, 10, 2 and
-    // 16 bytes.
+    // The note of a part that does not fit, for two rows, is written in pieces of 5, 1, 1, 1, 10, 2
+    // and 16 bytes.
     (
         Program::Pairs,
         End::Notes,
@@ -415,7 +412,7 @@ static TABLES: [Row; 17] = [
     ),
 ];
 
-// The call with this number fails at this end.
+// The call of this number fails, for this stream.
 fn failing(end: End, call: u64) -> Failing {
     let mut failing = NONE_FAILS;
     match end {
@@ -471,13 +468,13 @@ fn run_once(
     }
 }
 
-// The first bytes of a text, so many.
+// The first `count` bytes of a text.
 fn front(text: &str, count: usize) -> &[u8] {
     text.as_bytes().get(..count).unwrap_or(&[])
 }
 
-// Whether a run with a failing call gave what it must, where so many bytes are written before the
-// call.
+// Whether a run with a failing call had the expected result, with this many bytes written before
+// the call.
 fn is_cut(seen: &Report, row: &Row, moved: usize) -> bool {
     let (status, note) = row.3;
     match row.1 {
@@ -487,7 +484,7 @@ fn is_cut(seen: &Report, row: &Row, moved: usize) -> bool {
     }
 }
 
-// Whether a run without a failing call gave what it must.
+// Whether a run without a failing call had the expected result.
 fn is_whole(seen: &Report, row: &Row) -> bool {
     gave(seen, row.4.0, row.4.1.as_bytes(), row.4.2.as_bytes())
 }
@@ -506,7 +503,7 @@ fn ends_so(rt: &(impl Threads + Sync), alloc: Global, row: &Row, call: u64) -> b
     }
 }
 
-// Each call that can fail ends the run so, and the two numbers behind these are no calls.
+// Each call that can fail ends the run as expected, and the next two numbers are no calls.
 fn are_right(rt: &(impl Threads + Sync), alloc: Global, row: &Row) -> bool {
     let mut call: u64 = 1;
     for moved in row.5 {
@@ -541,8 +538,8 @@ fn ends_by(rt: &(impl Threads + Sync), alloc: Global, call: u64, status: u8, not
     }
 }
 
-// The first four calls read the file of the first COPY. The fifth would open that of the second,
-// behind the literal.
+// The first four calls read the file of the first COPY. The fifth call would open that of the
+// second, after the literal.
 #[test]
 fn a_file_that_is_copied_twice_is_read_when_it_is_reached(rt: HostRuntime) {
     let refused = "statement 4, byte 107: refusal 14 (BadLiteral)\n";

@@ -1,6 +1,6 @@
-//! Tests of whole runs of mobsql, mobnear, mobthin and mobtile over ends in memory: ends whose
-//! calls fail, runs by many workers and of the demo, and the arguments. What whole scripts and
-//! tables answer is in `checks/rows` and `checks/trips`.
+//! Tests of whole runs of mobsql, mobnear, mobthin and mobtile over streams and files in memory:
+//! with calls that fail, with many workers, with the demo, and of the arguments. What whole scripts
+//! and tables answer is in `checks/rows` and `checks/trips`.
 #![tactic(auto)]
 
 #[cfg(test)]

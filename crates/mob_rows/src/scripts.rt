@@ -1,4 +1,4 @@
-// One run of mobsql over ends in memory.
+//! A run of mobsql over streams and files in memory.
 
 use crate::ends::{Failing, Report, Watch, files, listed, sink, source};
 use mob_outside::{MemFiles, MemSource};
@@ -6,7 +6,7 @@ use mob_shell::run;
 use std::alloc::{AllocError, Global};
 use std::thread::Threads;
 
-// How many bytes a call of an end moves at most.
+// How many bytes a call of a stream moves at most.
 const STEP: usize = 7;
 
 fn with_files(
@@ -50,7 +50,7 @@ fn with_words(
     with_script(rt, alloc, words, &mut script, named, failing, gate)
 }
 
-/// One run with these words and this script, and with no file or one: its name and its bytes.
+/// A run with these arguments and this script, and with no file or one: its name and its bytes.
 pub fn run_script(
     rt: &(impl Threads + Sync),
     alloc: Global,

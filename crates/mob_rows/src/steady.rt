@@ -1,5 +1,5 @@
-// A run of mobnear on a table whose calls never fail, and which gives as many bytes as there is
-// room for.
+//! A run of mobnear on a table whose calls never fail, and each of which gives as many bytes as
+//! there is room for.
 
 use crate::ends::{listed, sink};
 use crate::failing::{NEAR_WORDS, NEAREST, TABLE};

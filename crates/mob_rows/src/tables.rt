@@ -1,4 +1,4 @@
-// One run of a program over a table of trips, over streams in memory.
+//! A run of a program over a table of trips, over streams in memory.
 
 use crate::ends::{Failing, Report, Watch, listed, sink, source};
 use mob_near_run::run_near;
@@ -64,7 +64,7 @@ fn with_words(
     with_table(rt, alloc, program, words, &mut table, failing, gate)
 }
 
-/// One run with these words on this table.
+/// A run with these arguments on this table.
 pub fn run_table(
     rt: &(impl Threads + Sync),
     alloc: Global,

@@ -1,11 +1,11 @@
-// What the words of the command line say. Which words are not taken stands in `checks/rows`.
+//! The settings that arguments give. Which arguments are refused is in `checks/rows`.
 
 use crate::ends::listed;
 use mob_words::settings;
 use std::alloc::Global;
 
-// Words, and the workers, the day of the epoch and the ships of the demo that they say. No ship
-// stands for no demo.
+// Arguments, and the workers, the day of the epoch and the ships of the demo that they give. 0
+// ships stands for no demo.
 static ROWS: [(&[&str], u32, i64, u32); 11] = [
     (&[], 1, 10957, 0),
     (&["mobsql"], 1, 10957, 0),

@@ -1,4 +1,4 @@
-// Runs by many workers, at an open gate and at one where two workers look for each other.
+//! Runs with many workers, with an open gate and with one at which two workers look for each other.
 
 use crate::demo::{TWO_SHIPS, demo};
 use crate::ends::{NONE_FAILS, Report, Watch, gave};
@@ -18,7 +18,7 @@ SELECT a.id AS x, b.id AS y FROM a, b WHERE a.trip && b.trip;
 
 const JOINED: &[u8] = b"x,y\n1,7\n1,7\n(2 rows)\n";
 
-// The tables of `JOIN`, of which one loses the row with the box far off and is left-joined.
+// The tables of `JOIN`. One of them loses the row with the distant box and is left-joined.
 const CHANGE: &str = "CREATE TABLE a (id int, trip tgeompoint);
 CREATE TABLE b (id int, trip tgeompoint);
 INSERT INTO a VALUES (1, '[POINT(0 0)@2001-01-01, POINT(2 2)@2001-01-02]'), (2, NULL);
@@ -40,7 +40,7 @@ const TABLE: &str = "id,trip
 
 const PAIRS: &[u8] = b"a,b\n1,2\n(1 rows)\n";
 
-// What is asked of many workers.
+// The task of many workers.
 #[derive(Clone, Copy)]
 enum Work {
     Join,
@@ -105,7 +105,7 @@ fn answer(work: Work) -> &'static [u8] {
     }
 }
 
-// So many workers, which pass this gate, write the answer.
+// This number of workers, which pass this gate, write the answer.
 fn is_answered(
     rt: &(impl Threads + Sync),
     alloc: Global,
@@ -145,7 +145,7 @@ fn any_number_of_workers_answers_the_same(rt: HostRuntime) {
     }
 }
 
-// Whether two of so many workers see each other, and the answer is the same.
+// Whether two of these workers see each other, and the answer is the same.
 fn see_each_other(rt: &(impl Threads + Sync), alloc: Global, work: Work, workers: &str) -> bool {
     let flags = TwoFlags::new();
     let gate = Watch {

@@ -32,7 +32,7 @@ least_boxes (p ∷ ps) all =
     let s = All-head IsSoundNode p ps all in
     All-cons HasLeastBox (branch_of p) (map branch_of ps) (record { over = s.over; least = s.least }) (least_boxes ps (All-tail IsSoundNode p ps all))
 
--- in a tree, and where there is no node
+-- in a tree, or if there are no nodes
 pub boxes_least : (root : Ref) (ps : List TreeNode) → ((0 < length ps) → IsTree root ps) → All HasLeastBox (map branch_of ps)
 boxes_least root [] tree = All-nil HasLeastBox
 boxes_least root (p ∷ ps) tree = least_boxes (p ∷ ps) (tree (omega arith)).sound

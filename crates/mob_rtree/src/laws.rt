@@ -1,4 +1,4 @@
-//! What holds of every tree. No code runs here.
+//! Laws of every tree. No code runs here.
 
 ghost use Rattle.std.specs.Prelude.{◌≡◌, All};
 ghost use Rattle.mob_rtree_nodes.specs.Reach.{HaveOneDepth};
@@ -7,8 +7,8 @@ ghost use Rattle.mob_rtree.specs.Shape.{HasLeastBox, boxes_of};
 use crate::{Child, RTree};
 use mob_list::laws::crosses_threads;
 
-/// The box of each node is the least one over the boxes of its children, and these are the boxes by
-/// which the steps of a search are bounded.
+/// The box of each node is the bounding box of its children's boxes. The steps of a search are
+/// bounded by these boxes.
 pub fn boxes_are_least(tree: &RTree)
     ensures least { All HasLeastBox tree.now.nodes }
     ensures areas { tree.now.areas ≡ boxes_of tree.now.nodes }
@@ -16,7 +16,7 @@ pub fn boxes_are_least(tree: &RTree)
     tree.has_root();
 }
 
-/// All leaves have one depth: as many steps lead from the root to each of them.
+/// All leaves have one depth: the path from the root has the same length to each of them.
 pub fn leaves_have_one_depth(tree: &RTree)
     ensures depth { HaveOneDepth tree.now.nodes tree.now.root }
 {

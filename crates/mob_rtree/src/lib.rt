@@ -1,8 +1,8 @@
-//! An R-tree over boxes that have space and time: which entries have a box that meets a given one.
+//! An R-tree over boxes of space and time: the entries whose box meets a given one.
 //!
-//! The tree is after Guttman: nodes of at most 16 children, of which each has the least box over
-//! those of its own children. Each call finds the entries that it should, whatever the tree looks
-//! like; how fast depends on how its boxes lie.
+//! The tree is after Guttman (1984): nodes have at most 16 children, and each has the bounding box
+//! of its own children. Each call finds the entries that it should, whatever the tree looks like;
+//! its speed depends on the boxes.
 #![tactic(auto)]
 
 pub mod laws;

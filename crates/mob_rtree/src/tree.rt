@@ -17,13 +17,13 @@ use std::alloc::{AllocError, Global};
 use std::marker::Model;
 use std::sync::ledger::Ledger;
 
-/// Entries, each a box with space and time and an id, so kept that those whose box meets a given
-/// one are found by few tests of boxes. An entry may be there more than once. No call but `new`
-/// takes an allocator: the tree keeps the one that it was made with.
+/// Entries, each a box of space and time with an id, such that a search by a box needs few box
+/// tests. An entry may occur more than once. Only `new` and `build` take an allocator, which the
+/// tree keeps.
 #[derive(Drop)]
 pub struct RTree {
     nodes: Vec<TreeNode>,
-    // The numbers of the nodes that were dropped; it has room for all numbers.
+    // The numbers of the dropped nodes; it has room for all numbers.
     free: Vec<u32>,
     root: Root,
     spare: usize,
@@ -44,7 +44,7 @@ impl Model for RTree {
 }
 
 impl RTree {
-    /// The tree of no entry.
+    /// The tree without entries.
     pub fn new(alloc: Global) -> RTree
         ensures empty { result ≡ record { entries = []; areas = []; spare = 0; nodes = []; root = None } }
     {
@@ -56,8 +56,9 @@ impl RTree {
         }
     }
 
-    /// A tree of these entries, with near ones beside one another. It takes less time than as many
-    /// calls of `insert`, and mostly makes a tree that is faster to search.
+    /// A tree of these entries, with near ones next to each other. It is faster than as many calls
+    /// of `insert`, and its tree is usually faster to search. The only error is a failed
+    /// allocation.
     pub fn build(alloc: Global, entries: Vec<(StBox, u32)>) -> Result<RTree, AllocError>
         requires whole { All (λ e. is_whole e.0 ≡ true) entries.items }
         ensures entries { IfOk result (λ t. AreSame t.entries entries.items) }
@@ -76,7 +77,8 @@ impl RTree {
         })
     }
 
-    /// Makes memory for one more entry, so that the next `insert` cannot fail.
+    /// Reserves memory for one more entry, so that the next `insert` cannot fail. The only error is
+    /// a failed allocation.
     pub fn reserve_one(&mut self) -> Result<(), AllocError>
         ensures same { IsAsBefore self.old self.new }
         ensures spare { OnOk result (0 < self.new.spare) }
@@ -94,7 +96,7 @@ impl RTree {
         Ok(())
     }
 
-    // Makes memory for one more entry, unless there is some.
+    // Reserves memory for one more entry, unless there is some.
     fn make_room(&mut self) -> Result<(), AllocError>
         ensures same { IsAsBefore self.old self.new }
         ensures spare { OnOk result (0 < self.new.spare) }
@@ -106,7 +108,7 @@ impl RTree {
         self.reserve_one()
     }
 
-    // Adds an entry, for which there is memory.
+    // Adds an entry for which there is memory.
     fn add_entry(&mut self, kid: (StBox, Child))
         requires spare { 0 < self.old.spare }
         requires fit { is_fit 0 kid ≡ true }
@@ -117,7 +119,8 @@ impl RTree {
         self.root = put_any(&mut self.nodes, &mut self.free, self.root, kid);
     }
 
-    /// Adds an entry. Where `reserve_one` made memory, and no entry was put in since, it succeeds.
+    /// Adds an entry. The only error is a failed allocation; there is none if `reserve_one`
+    /// reserved memory and no entry was inserted since.
     pub fn insert(&mut self, b: StBox, id: u32) -> Result<(), AllocError>
         requires whole { is_whole b ≡ true }
         ensures ok { OnOk result (IsAdded self.old.entries (b, id) self.new.entries) }
@@ -130,8 +133,8 @@ impl RTree {
         Ok(())
     }
 
-    /// Takes one entry of this box and id out, and tells whether it was there. It takes no memory,
-    /// and none of what `reserve_one` made.
+    /// Removes one entry with this box and id, and returns whether there was one. It allocates
+    /// nothing, and uses none of the memory of `reserve_one`.
     pub fn remove(&mut self, b: &StBox, id: u32) -> bool
         ensures found { result ≡ true → IsAdded self.new.entries (b.now, id) self.old.entries }
         ensures missing { result ≡ false → All (λ e. e ≢ (b.now, id)) self.old.entries }
@@ -156,9 +159,9 @@ impl RTree {
         }
     }
 
-    /// Takes every entry out whose id is one of these, which do not fall. It goes over all nodes,
-    /// whatever the ids, and computes each box once, so it is for many ids at a time. It takes no
-    /// memory, and none of what `reserve_one` made.
+    /// Removes every entry whose id is one of these, which must be sorted. It visits all nodes,
+    /// whatever the ids, and computes each box once, so it is meant for many ids at a time. It
+    /// allocates nothing, and uses none of the memory of `reserve_one`.
     pub fn remove_ids(&mut self, ids: &[u32])
         requires rising { IsNonDecreasing ids.now }
         ensures left { AreSame self.new.entries (without_ids ids.now self.old.entries) }
@@ -176,8 +179,9 @@ impl RTree {
         }
     }
 
-    /// Appends the ids of the entries whose box meets the asked one, in rising order, each as often
-    /// as it is there.
+    /// Appends the ids of the entries whose box meets the given one, in ascending order, each as
+    /// often as the entry occurs. The only error is a failed allocation. An error leaves `into`
+    /// unchanged.
     pub fn search<L: Ledger>(
         &self,
         q: &StBox,
@@ -186,7 +190,7 @@ impl RTree {
     ) -> Result<(), AllocError>
         ensures found { OnOk result ((more : List ℕ) × (into.new.items ≡ into.old.items ++ more) × IsSorted nat_cmp more × AreFound q.now self.now.entries more) }
         ensures err { OnErr result (into.new.items ≡ into.old.items) }
-        // A step is a test of one box. There are at most 16 for each node whose box meets the asked
+        // A step is a test of one box. There are at most 16 for each node whose box meets the given
         // one, and one more.
         ensures cost { steps.new ≤ steps.old + (1 + 16 * count_by (λ b. overlaps b q.now) self.now.areas) }
     {
@@ -196,8 +200,8 @@ impl RTree {
         gather(&self.nodes, &self.root, q, into, steps)
     }
 
-    /// The number of the root. None exactly where there is no entry. Each entry is below it as
-    /// often as it is there.
+    /// The number of the root; `None` exactly if there are no entries. Each entry is below it as
+    /// often as it occurs.
     pub fn root(&self) -> Option<u32>
         ensures is { result ≡ self.now.root }
         ensures none { MatchOption result (self.now.entries ≡ []) (λ n. 0 < length self.now.entries) }
@@ -209,7 +213,7 @@ impl RTree {
         Some(self.root.node)
     }
 
-    /// The children of a node that is reached from the root; there are at most 16.
+    /// The children of a node that can be reached from the root; there are at most 16.
     pub fn part(&self, node: u32) -> &[(StBox, Child)]
         requires reached { IsReachedNode self.now.nodes self.now.root node }
         ensures children { result.now ≡ children self.now.nodes node }
@@ -219,8 +223,8 @@ impl RTree {
         self.nodes[node as usize].kids.as_slice()
     }
 
-    // Whether there is a node. What is said of each tree's boxes and leaves is proved here, where
-    // its fields are seen.
+    // Whether there is a node. The laws of each tree's boxes and leaves are proved here, where its
+    // fields are visible.
     pub(crate) fn has_root(&self) -> bool
         ensures least { All HasLeastBox self.now.nodes }
         ensures areas { self.now.areas ≡ boxes_of self.now.nodes }

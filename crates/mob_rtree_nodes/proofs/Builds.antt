@@ -1,4 +1,4 @@
--- How sums over a forest change where a level is packed.
+-- How sums over a forest change when a level is packed.
 use Rattle.std.proofs.Common.{◌≡◌, refl, ℕ, zero, suc, ◌+◌, ◌<◌, ◌≤◌, Bool, true, false, cond, not, ◌==◌, ◌&&◌, List, [], ◌∷◌, ◌++◌, length, map, arith, ap, sym, ◌∙◌, subst}
 use Rattle.std.specs.Prelude.{All, sum_by, count_by, Result, Ok, Err, OnOk, IfOk}
 use Rattle.std.proofs.lemmas.Bool.Decides.{nat_tests}
@@ -113,7 +113,7 @@ forest_up h kids old ps above from by =
       fit = by.fit;
     })
 
--- entries are a forest of no node
+-- entries are a forest without nodes
 pub forest_start : (kids : List Kid) → count_by (λ k. not (is_fit 0 k)) kids ≡ 0 → IsForest 0 kids []
 forest_start kids fit = record { once = λ f. refl; sound = All-nil IsSoundNode; low = All-nil (λ p. p.height < 0); live = All-nil (λ p. 0 < length p.kids.items); fit = fit }
 
@@ -131,7 +131,7 @@ entry_fits (e ∷ es) all =
 pub fits_arranged : (kids new : List Kid) → ((f : Kid → ℕ) → sum_by f new ≡ sum_by f kids) → count_by (λ k. not (is_fit 0 k)) kids ≡ 0 → count_by (λ k. not (is_fit 0 k)) new ≡ 0
 fits_arranged kids new same none = same (λ k. cond (not (is_fit 0 k)) 1 0) ∙ none
 
--- what a built tree has
+-- the entries of a built tree
 pub built_same : (es : List EntryOf) (kids : List Kid) (ps : List TreeNode) → ((f : Kid → ℕ) → sum_by f kids ≡ sum_by f (map kid_of es)) → ((g : EntryOf → ℕ) → entries_sum g ps ≡ entries_sum g [] + leaf_sum g kids 0) → AreSame (entries_list ps) es
 built_same es kids ps same sums g = omega (arith, entries_listed g ps, sums g, same (λ k. g (entry_of k)), mapped_sum (λ k. g (entry_of k)) kid_of es)
 

@@ -1,4 +1,4 @@
--- Boxes over many boxes, and children that are put into another order.
+-- Boxes over many boxes, and reordered children.
 use Rattle.std.proofs.Common.{◌≡◌, refl, ℕ, zero, suc, ◌+◌, ◌<◌, ◌≤◌, Bool, true, false, cond, not, ◌&&◌, ◌==◌, List, [], ◌∷◌, ◌++◌, length, get_or, set, take, drop, arith, ap, sym, ◌∙◌}
 use Rattle.std.specs.Prelude.{All, sum_by, count_by, IsPermutation}
 use Rattle.std.proofs.lemmas.Bool.{true≢false}
@@ -12,7 +12,7 @@ use Rattle.mob_stbox.specs.Boxes.{BoxOf, contains, cover, is_whole}
 use Rattle.mob_rtree_nodes.specs.Tree.{Kid, IsLeastOver, is_fit, is_kind}
 use Rattle.mob_stbox.proofs.BoxLaws.{cover_whole, cover_over_left, cover_over_right, cover_least, over_trans}
 
--- what no element fails, none fails
+-- if no element fails a test, none of these does
 pub none_fails : {X : Type 0} (test : X → Bool) (xs : List X) (i : ℕ) (d : X) → count_by (λ x. not (test x)) xs ≡ 0 → i < length xs → test (get_or xs i d) ≡ true
 none_fails {X = X} test xs i d none within = by_test (test (get_or xs i d)) refl
   where
@@ -39,7 +39,7 @@ cover_still_least kids i k a b e within at least d all =
     let kid : contains d k.0 ≡ true = ap (λ (k : Kid). contains d k.0) at ∙ all i k within in
     ap (contains d) e ∙ cover_least a k.0 d (least d all) kid
 
--- one that counts less
+-- a stronger test counts fewer
 pub counts_less : {X : Type 0} (s t : X → Bool) → ((x : X) → s x ≡ true → t x ≡ true) → (xs : List X) → count_by (λ x. not (s x)) xs ≡ 0 → count_by (λ x. not (t x)) xs ≡ 0
 counts_less {X = X} s t says [] none = refl
 counts_less {X = X} s t says (x ∷ xs) none =
@@ -69,11 +69,11 @@ take_front (suc n) [] ys e = absurd (omega (arith, e))
 take_front zero (x ∷ xs) ys e = absurd (omega (arith, e))
 take_front (suc n) (x ∷ xs) ys e = ap (λ l. x ∷ l) (take_front n xs ys (omega (arith, e)))
 
--- sums over children in another order
+-- sums over reordered children
 pub sum_arranged : {X : Type 0} (f : X → ℕ) (n : ℕ) (xs ys : List X) → n ≡ length xs → IsPermutation xs ys → sum_by f (refill n xs ys) ≡ sum_by f xs
 sum_arranged f n xs ys e p = ap (sum_by f) (take_front n ys (drop (length ys) xs) (e ∙ sym (length_permutation xs ys p))) ∙ sum_by-IsPermutation f xs ys p
 
--- an element that is replaced
+-- an element is replaced
 pub none_set : {X : Type 0} (test : X → Bool) (xs : List X) (i : ℕ) (x d : X) → i < length xs → count_by (λ x. not (test x)) xs ≡ 0 → test x ≡ true → count_by (λ x. not (test x)) (set xs i x) ≡ 0
 none_set {X = X} test xs i x d within none passes =
     let w : X → ℕ = λ x. cond (not (test x)) 1 0 in

@@ -34,7 +34,7 @@ dropped_append f i (p ∷ ps) qs =
     let m = ap (λ i. dropped_sum f i qs) e in
     omega (arith, dropped_append f (i + 1) ps qs, m)
 
--- a number that is summed up is that of a dropped node
+-- a number in the sum is that of a dropped node
 dropped_at : (t i : ℕ) (ps : List TreeNode) → 1 ≤ dropped_sum (λ n. cond (n == t) 1 0) i ps → (j : ℕ) × (t ≡ i + j) × (j < length ps) × (kids_at ps j ≡ [])
 dropped_at t i [] h = absurd (omega (arith, h))
 dropped_at t i (p ∷ ps) h = elim (cases_lt 0 (dropped_sum (λ n. cond (n == t) 1 0) (i + 1) ps)) [
@@ -59,7 +59,7 @@ popped free left m ps e by =
     let j : r.0 ≡ m = omega (arith, r.1) in
     (omega (arith, r.2, j), ap (kids_at ps) (sym j) ∙ r.3)
 
--- where a node with a child is put in its place, the others are left
+-- when a node with children takes its place, the other numbers are left
 pub free_over : (free left : List ℕ) (m : ℕ) (ps : List TreeNode) (r : TreeNode) → free ≡ left ++ m ∷ [] → IsFree free ps → IsLive r → IsFree left (set ps m r)
 free_over free left m ps r e by live f =
     let o = popped free left m ps e by in
@@ -79,7 +79,7 @@ free_over free left m ps r e by live f =
 pub free_behind : (free : List ℕ) (ps : List TreeNode) (r : TreeNode) → IsFree free ps → IsLive r → IsFree free (ps ++ r ∷ [])
 free_behind free ps r by live f = omega (arith, by f, dropped_append f 0 ps (r ∷ []), not_dropped r.kids.items (f (0 + length ps)) live)
 
--- a node that has a child still, or has none any more
+-- a node that still has children, or no longer has any
 pub free_set : (free : List ℕ) (ps : List TreeNode) (n : ℕ) (p q : TreeNode) → n < length ps → p ≡ get_or ps n p → IsLive p → IsLive q → IsFree free ps → IsFree free (set ps n q)
 free_set free ps n p q inside is p-live q-live by f = omega (arith, by f, dropped_set f n 0 n ps p q (omega arith) inside is, not_dropped p.kids.items (f n) p-live, not_dropped q.kids.items (f n) q-live)
 
@@ -113,7 +113,7 @@ dropped_few i n [] p h is live = absurd (omega arith)
 dropped_few i zero (q ∷ ps) p h is live = omega (arith, ap (λ (p : TreeNode). if_dropped p.kids.items 1) is, not_dropped p.kids.items 1 live, dropped_le (i + 1) ps)
 dropped_few i (suc n) (q ∷ ps) p h is live = omega (arith, dropped_one q.kids.items, dropped_few (i + 1) n ps p (omega (arith, h)) is live)
 
--- there are fewer free numbers than nodes where a node has a child
+-- if a node has children, there are fewer free numbers than nodes
 pub free_few : (free : List ℕ) (ps : List TreeNode) (n : ℕ) (p : TreeNode) → n < length ps → p ≡ get_or ps n p → IsLive p → IsFree free ps → length free < length ps
 free_few free ps n p inside is live by = omega (arith, ones free, by (λ _. 1), dropped_few 0 n ps p inside is live)
 
@@ -125,7 +125,7 @@ all_live i (p ∷ ps) h = All-cons IsLive p ps (some p.kids.items (omega (arith,
     some [] h = absurd (omega (arith, h))
     some (k ∷ ks) h = omega arith
 
--- where no number is free each node has a child, and where each has one none is
+-- if no number is free, each node has children, and the reverse
 pub live_of_free : (free : List ℕ) (ps : List TreeNode) → length free ≡ 0 → IsFree free ps → AreLive ps
 live_of_free free ps none by = all_live 0 ps (omega (arith, by (λ _. 1), ones free, none))
 
@@ -136,7 +136,7 @@ none_dropped f i (p ∷ ps) live = omega (arith, not_dropped p.kids.items (f i) 
 pub free_none : (ps : List TreeNode) → AreLive ps → IsFree [] ps
 free_none ps live f = sym (none_dropped f 0 ps live)
 
--- where there was no node, no number is free
+-- if there were no nodes, no number is free
 pub free_first : (free : List ℕ) (ps new : List TreeNode) → length ps ≡ 0 → IsFree free ps → AreLive new → IsFree free new
 free_first free ps new none by live = subst (λ l. IsFree l new) (sym (nil free (omega (arith, ones free, by (λ _. 1), dropped_le 0 ps, none)))) (free_none new live)
   where
@@ -144,7 +144,7 @@ free_first free ps new none by live = subst (λ l. IsFree l new) (sym (nil free 
     nil [] h = refl
     nil (x ∷ xs) h = absurd (omega (arith, h))
 
--- nodes are used again
+-- reuse of nodes is transitive
 pub reused_trans : (a b c : List TreeNode) → IsReused a b → IsReused b c → IsReused a c
 reused_trans a b c x y = record { same = elim x.same [ inl e ↦ elim y.same [ inl f ↦ inl (f ∙ e) | inr l ↦ inr l ] | inr l ↦ inr (y.live l) ]; live = λ l. y.live (x.live l) }
 
@@ -157,7 +157,7 @@ reused_behind ps r one live = record { same = inr (behind live); live = behind }
     behind : AreLive ps → AreLive (ps ++ r ∷ [])
     behind l = All-append IsLive ps (r ∷ []) l (All-cons IsLive r [] one (All-nil IsLive))
 
--- ---- the numbers of dropped nodes, gone through from the first on
+-- ---- the numbers of dropped nodes, from the first on
 
 pub dropped_more : (f : ℕ → ℕ) (ps : List TreeNode) (i : ℕ) → i < length ps → dropped_sum f 0 (take (i + 1) ps) ≡ dropped_sum f 0 (take i ps) + if_dropped (kids_at ps i) (f i)
 dropped_more f ps i lt =

@@ -1,4 +1,4 @@
--- How sums over a tree change where one child is added.
+-- How sums over a tree change when one child is added.
 use Rattle.std.proofs.Common.{◌≡◌, refl, ℕ, zero, suc, ◌+◌, ◌<◌, ◌≤◌, Bool, true, false, cond, ◌==◌, ◌&&◌, List, [], ◌∷◌, ◌++◌, length, get_or, set, arith, ap, sym, ◌∙◌, subst, length-append, Option, Some, None, inl, inr}
 use Rattle.std.specs.Prelude.{MatchOption}
 use Rattle.std.specs.Prelude.{All, sum_by}
@@ -16,7 +16,7 @@ use Rattle.mob_rtree_nodes.proofs.Sums.{live_is, kids_of, height_of, node_at}
 use Rattle.mob_rtree_nodes.proofs.Frees.{free_set, reused_set}
 use Rattle.mob_rtree_nodes.proofs.Walks.{alive, kids_nil, tied_same, tied_height}
 
--- a node as it is referred to
+-- the reference to a node
 abbrev pub ref_of : TreeNode → ℕ → Ref
 ref_of p n = record { area = p.area; node = n; height = p.height }
 
@@ -40,7 +40,7 @@ nodes_append F i (p ∷ ps) qs =
     let m = ap (λ i. nodes_sum F i qs) e in
     omega (arith, nodes_append F (i + 1) ps qs, m)
 
--- what one more child at a node changes
+-- the changes when a node gets one more child
 pub record Attached (old : List TreeNode) (n : ℕ) (p : TreeNode) (kid : Kid) (grown : Grown) (new : List TreeNode) : Type 0 where
   pub nodes : (F : Ref → ℕ) → nodes_sum F 0 new + F (ref_of p n) ≡ nodes_sum F 0 old + (F (record { area = grown.area; node = n; height = p.height }) + more_sum F p.height grown.more)
   pub refs : (F : Ref → ℕ) → refs_sum F new ≡ refs_sum F old + kids_sum F p.height (kid ∷ [])
@@ -101,7 +101,7 @@ attached_one old n p part kid grown new inside is p-live part-live made same are
       few = omega (arith, length-set old n part);
     })
 
--- what a node that is put in changes
+-- the changes when a node is put into the arena
 pub record PutIn (old : List TreeNode) (r : TreeNode) (m : ℕ) (new : List TreeNode) : Type 0 where
   pub nodes : (F : Ref → ℕ) → nodes_sum F 0 new ≡ nodes_sum F 0 old + F (ref_of r m)
   pub refs : (F : Ref → ℕ) → refs_sum F new ≡ refs_sum F old + links_of F r
@@ -142,7 +142,7 @@ put_in old r m new live by = elim by [
   | inr b ↦ subst (λ m. PutIn old r m new) (sym b.0) (subst (PutIn old r (length old)) (sym b.1) (put_behind old r live))
 ]
 
--- what holds of each node still does
+-- what holds for each node still does
 pub put_all : (P : TreeNode → Type 0) (old : List TreeNode) (r : TreeNode) (m : ℕ) (new : List TreeNode) → IsPut old r m new → All P old → P r → All P new
 put_all P old r m new by all one = elim by [
   | inl o ↦ subst (All P) (sym o.2) (All-set P old m r one all)
@@ -200,7 +200,7 @@ attached_fit old n kid grown new by = by_more by.more by.other
     by_more None none = subst (λ m. MatchOption m (0 ≤ 0) (λ k. is_fit (height_at old n + 1) k ≡ true)) (sym none) (omega arith)
     by_more (Some r) some = subst (λ m. MatchOption m (0 ≤ 0) (λ k. is_fit (height_at old n + 1) k ≡ true)) (sym some.3) (node_fit (height_at old n) by.number r.area some.1.whole)
 
--- an entry that is put into a leaf
+-- an entry is added to a leaf
 pub grown_leaf : (old : List TreeNode) (n : ℕ) (p : TreeNode) (kid : Kid) (grown : Grown) (new : List TreeNode) → n < length old → p ≡ get_or old n p → p.height ≡ 0 → 0 < length p.kids.items → All IsSoundNode old → IsAttached old n kid grown new → IsGrown old n kid grown new
 grown_leaf old n p kid grown new inside is leaf live sound by =
     let a = attached old n p kid grown new inside is live by in
@@ -223,7 +223,7 @@ inner_leaf g kids h m e = ap (λ b. cond b (sum_by (λ k. g (entry_of k)) kids) 
 inner_one : (g : EntryOf → ℕ) (kid : Kid) (h m : ℕ) → m ≡ suc h → leaf_one g kid m ≡ 0
 inner_one g kid h m e = ap (λ b. cond b (g (entry_of kid)) 0) (ne_eqb m 0 (λ z. absurd (omega (arith, e, z))))
 
--- one more entry below the child at slot, a wider box beside it, and the node that was split off it
+-- one more entry below the child at slot: a wider box for it, and the node that was split off it
 pub record Widened (old : List TreeNode) (n : ℕ) (p : TreeNode) (h : ℕ) (k : Kid) (area : BoxOf) (wider : BoxOf) (new : List TreeNode) : Type 0 where
   pub nodes : (F : Ref → ℕ) → nodes_sum F 0 new + F (ref_of p n) ≡ nodes_sum F 0 old + F (record { area = wider; node = n; height = p.height })
   pub refs : (F : Ref → ℕ) → refs_sum F new + F (record { area = k.0; node = target k.1; height = h }) ≡ refs_sum F old + F (record { area = area; node = target k.1; height = h })
@@ -374,7 +374,7 @@ lower root ps tree n i p kids k number inside is same within at say up =
       alive = subst (λ n. 0 < length (kids_at ps n)) (sym say) (alive root ps tree n h.0 i p k inside is h.1 l a);
     }
 
--- a node whose child's box was written anew has a child still
+-- a node whose child got a new box still has children
 pub record StillLive (frees : List ℕ) (ps : List TreeNode) (n : ℕ) (part : TreeNode) : Type 0 where
   pub live : 0 < length (kids_at (set ps n part) n)
   pub free : IsFree frees (set ps n part)
@@ -389,7 +389,7 @@ still_live free ps n i p part k area inside is within by frees =
       reused = reused_set ps n part live;
     }
 
--- node n, whose child at slot i has one more entry below it: the node is as it was
+-- node n, whose child at slot i has one more entry below it: the node itself is unchanged so far
 pub record Beneath (old : List TreeNode) (n i : ℕ) (p : TreeNode) (k : Kid) (number : ℕ) (kid : Kid) (grown : Grown) (ps : List TreeNode) (p1 : TreeNode) : Type 0 where
   pub lower : Lower old n i p k number
   pub below : IsGrown old (target k.1) kid grown ps

@@ -1,4 +1,4 @@
--- From the root each entry is reached as often as it is there.
+-- From the root each entry is reached as often as it occurs.
 use Rattle.std.proofs.Common.{◌≡◌, refl, ℕ, zero, suc, ◌+◌, ◌<◌, ◌≤◌, Bool, true, false, cond, List, [], ◌∷◌, ◌++◌, length, get_or, map, arith, ap, sym, ◌∙◌, subst, Option, Some, None}
 use Rattle.std.specs.Prelude.{All, sum_by, flat_map}
 use Rattle.std.proofs.lemmas.Bool.{true≢false}
@@ -49,7 +49,7 @@ root_gathers root ps tree g =
     let e = level_is ps root.node ∙ root_height root ps tree in
     ap (λ h. sum_by g (gathered (map branch_of ps) h root.node)) e ∙ gathered_sum g ps root.height root.node ∙ walk_entries (λ _. true) (λ a b w o h. refl) g root ps tree
 
--- what stands in a node is of its kind
+-- the children of a node are of its kind
 kind_at : (ps : List TreeNode) (n i : ℕ) (p : TreeNode) (k : Kid) → All IsSoundNode ps → n < length ps → p ≡ get_or ps n p → i < length p.kids.items → k ≡ get_or p.kids.items i k → is_kind p.height k.1 ≡ true
 kind_at ps n i p k sound inside is within at =
     let s = sound_at ps n p inside is sound in
@@ -60,7 +60,7 @@ entry_low : (h : ℕ) (id : ℕ) → is_kind h (Entry id) ≡ true → h ≡ 0
 entry_low zero id e = refl
 entry_low (suc h) id e = absurd (true≢false (sym e))
 
--- where a child may stand at two heights of which one is 0, so is the other
+-- if a child fits at two heights and one is 0, so is the other
 kind_low : (h : ℕ) (c : Child) → is_kind 0 c ≡ true → is_kind h c ≡ true → h ≡ 0
 kind_low h (Entry id) low e = entry_low h id e
 kind_low h (Node m) low e = absurd (true≢false (sym low))
@@ -81,7 +81,7 @@ same_flat f g [] says = refl
 same_flat f g (x ∷ xs) says =
     flat_map-cons f x xs ∙ ap (λ l. l ++ flat_map f xs) (says 0 x (omega arith) refl) ∙ ap (λ l. g x ++ l) (same_flat f g xs (λ i k l at. says (suc i) k (omega (arith, l)) at)) ∙ sym (flat_map-cons g x xs)
 
--- an element read with another default, itself
+-- an element read with a different default is the same
 read_again : (xs : List Kid) (i : ℕ) (d : Kid) → i < length xs → get_or xs i d ≡ get_or xs i (get_or xs i d)
 read_again xs i d l = get_or_default xs i d (get_or xs i d) l
 
@@ -102,7 +102,7 @@ module _ (root : Ref) (ps : List TreeNode) (tree : IsTree root ps) where
       let t = tied_height root ps tree n h.0 i p (b, Node m) inside is h.1 within at in
       (h.0, h.1, t.0, t.1, alive root ps tree n h.0 i p (b, Node m) inside is h.1 within at)
 
-  -- a node that is reached is there, has a child, and is as much lower than the root as it is deep
+  -- a reached node exists, has children, and is as much lower than the root as it is deep
   reached_ok : (depth n : ℕ) → StandsAtDepth (map branch_of ps) (Some root.node) depth n → (n < length ps) × (0 < length (kids_at ps n)) × (height_at ps n + depth ≡ root.height)
   reached_ok depth n (is_root e) =
       subst (λ n. (n < length ps) × (0 < length (kids_at ps n)) × (height_at ps n + 0 ≡ root.height)) (some_number root.node n e) (root_there root ps tree, root_alive root ps tree, omega (arith, root_height root ps tree))
@@ -131,7 +131,7 @@ module _ (root : Ref) (ps : List TreeNode) (tree : IsTree root ps) where
   pub one_depth : HaveOneDepth (map branch_of ps) (Some root.node)
   one_depth depth other n m way way_too leaf leaf_too = leaf_low depth n way leaf ∙ sym (leaf_low other m way_too leaf_too)
 
-  -- what is below a node lies in each box over it
+  -- each box over a node covers what is below it
   gathered_over : (a : BoxOf) → is_whole a ≡ true → (h m : ℕ) (c : TreeNode) → m < length ps → c ≡ get_or ps m c → c.height ≡ h → contains a c.area ≡ true → All (λ e. contains a e.0 ≡ true) (gathered (map branch_of ps) h m)
   unfolding gathered
   gathered_over a whole zero m c inside is high over =
@@ -158,7 +158,7 @@ module _ (root : Ref) (ps : List TreeNode) (tree : IsTree root ps) where
           subst (All (λ e. contains a e.0 ≡ true)) (sym (flat_map-cons (λ k. gathered (map branch_of ps) h (target k.1)) k kids))
           (All-append (λ e. contains a e.0 ≡ true) (gathered (map branch_of ps) h (target k.1)) (flat_map (λ k. gathered (map branch_of ps) h (target k.1)) kids) (All-head P k kids all) (all_flat kids (All-tail P k kids all)))
 
-  -- a child at a slot, as a record of what is known of it
+  -- a child at a slot, as a record of its facts
   kid_below : (a : BoxOf) → is_whole a ≡ true → (n i : ℕ) (p : TreeNode) (k : Kid) → n < length ps → p ≡ get_or ps n p → i < length p.kids.items → k ≡ get_or p.kids.items i k → contains a k.0 ≡ true
       → All (λ e. contains a e.0 ≡ true) (entries_below (map branch_of ps) k)
   kid_below a whole n i p (b, Entry id) inside is within at over = All-cons (λ e. contains a e.0 ≡ true) (b, id) [] over (All-nil (λ e. contains a e.0 ≡ true))
@@ -190,7 +190,7 @@ module _ (root : Ref) (ps : List TreeNode) (tree : IsTree root ps) where
       let e = children_is ps n ∙ kids_of ps n p inside is in
       ap (flat_map (λ k. gathered (map branch_of ps) h (target k.1))) e ∙ same_flat (λ k. gathered (map branch_of ps) h (target k.1)) (entries_below (map branch_of ps)) p.kids.items (λ i k l at. kid_list n i p k h inside is l at high) ∙ ap (flat_map (entries_below (map branch_of ps))) (sym e)
 
-  -- the box beside a node is the least over that node's children
+  -- the box for a node is the bounding box of its children
   least_below : (n i m : ℕ) (b : BoxOf) (p : TreeNode) → n < length ps → p ≡ get_or ps n p → i < length p.kids.items → (b, Node m) ≡ get_or p.kids.items i (b, Node m) → IsLeastOver b (children (map branch_of ps) m)
   least_below n i m b p inside is within at =
       let r = node_kid n i m b p inside is within at in
@@ -223,7 +223,7 @@ module _ (root : Ref) (ps : List TreeNode) (tree : IsTree root ps) where
         least = λ i m b l at. least_below n i m b p o.0 c.1 (omega (arith, l, ap (λ (l : List Kid). length l) e)) (at ∙ ap (λ l. get_or l i (b, Node m)) e);
       }
 
-  -- a node that has a child has an entry below it
+  -- a node with children has an entry below it
   walk_some : (h n : ℕ) → n < length ps → height_at ps n ≡ h → 0 < length (kids_at ps n) → 1 ≤ walk_sum (λ _. true) 0 (λ _. 1) ps h n
   unfolding walk_sum
   walk_some zero n inside high live =
@@ -259,12 +259,12 @@ none_reached bs o depth n e (is_root f) = absurd (none_some n (sym e ∙ f))
         from (Some n) = 1
 none_reached bs o depth n e (is_child {depth = above} {n = up} way within at) = none_reached bs o above up e way
 
--- where a node is reached there is a tree
+-- if a node is reached, the tree exists
 pub reached_inside : (root : Ref) (ps : List TreeNode) → ((0 < length ps) → IsTree root ps) → (n : ℕ) → IsReachedNode (map branch_of ps) (root_number ps root.node) n → (n < length ps) × IsSpread (map branch_of ps) n
 reached_inside root [] tree n way = absurd (none_reached [] None way.0 n refl way.1)
 reached_inside root (p ∷ ps) tree n way = let t = tree (omega arith) in ((reached_ok root (p ∷ ps) t way.0 n way.1).0, spreads root (p ∷ ps) t way.0 n way.1)
 
--- all leaves of a tree have one depth, and where there is no node there is none
+-- all leaves of a tree have one depth, and without nodes there are none
 pub leaves_level : (root : Ref) (ps : List TreeNode) → ((0 < length ps) → IsTree root ps) → HaveOneDepth (map branch_of ps) (root_number ps root.node)
 leaves_level root [] tree = λ depth other n m way way_too leaf leaf_too. absurd (none_reached [] None depth n refl way)
 leaves_level root (p ∷ ps) tree = one_depth root (p ∷ ps) (tree (omega arith))

@@ -1,4 +1,4 @@
--- The root, and what the whole tree has.
+-- The root, and the contents of the whole tree.
 use Rattle.std.proofs.Common.{◌≡◌, refl, ℕ, suc, ◌+◌, ◌<◌, ◌≤◌, Bool, true, false, cond, not, ◌==◌, ◌&&◌, List, [], ◌∷◌, length, get_or, map, arith, ap, sym, ◌∙◌, subst, Some, None, eq-eqb, inl, inr}
 use Rattle.std.specs.Prelude.{MatchOption, All, sum_by, count_by, nat_le}
 use Rattle.std.proofs.lemmas.Bool.{cases_lt, ne_eqb}
@@ -17,7 +17,7 @@ use Rattle.mob_rtree_nodes.proofs.Covers.{left_true}
 use Rattle.mob_rtree_nodes.proofs.Walks.{one_same, self_is, cond_nil, walk_all, own_upto, entries_of}
 use Rattle.mob_rtree_nodes.proofs.Inserts.{node_fit, put_in, put_all, ref_of, links_of, leaf_of}
 
--- the root is a node
+-- the root exists
 pub root_there : (root : Ref) (ps : List TreeNode) → IsTree root ps → root.node < length ps
 root_there root ps tree =
     let f : Ref → ℕ = λ r. cond (r.node == root.node) 1 0 in
@@ -33,7 +33,7 @@ root_same root ps tree c is F =
     let d = self_is (F root) 1 in
     one_same (F s) (F root) (omega (arith, e, d, tree.once f, nodes_one G root.node 0 root.node ps c (omega arith) (root_there root ps tree) is, live_le c.kids.items (G s)))
 
--- and it has a child
+-- and it has children
 pub root_alive : (root : Ref) (ps : List TreeNode) → IsTree root ps → 0 < length (kids_at ps root.node)
 root_alive root ps tree =
     let c = node_at ps root.node (root_there root ps tree) in
@@ -73,7 +73,7 @@ one_fit h k a =
     let e = ap {B = ℕ} (λ b. cond (not b) 1 0) a in
     omega (arith, sum_by-cons w k [], e)
 
--- the root split, and stands below a new one
+-- the root was split, and is below a new one
 pub tree_some : (root : Ref) (old : List TreeNode) (tree : IsTree root old) (kid : Kid) (g : Grown) (new : List TreeNode) → IsGrown old root.node kid g new → (m : Kid) → g.more ≡ Some m
     → (r : TreeNode) → r.kids.items ≡ (g.area, Node root.node) ∷ m ∷ [] → r.height ≡ root.height + 1 → r.area ≡ cover g.area m.0
     → (number : ℕ) (after : List TreeNode) → IsPut new r number after → IsTree (record { area = r.area; node = number; height = root.height + 1 }) after
@@ -121,7 +121,7 @@ own_none : (test : BoxOf → Bool) (h : ℕ) (ps : List TreeNode) → sum_by (ow
 own_none test h [] = refl
 own_none test h (p ∷ ps) = omega (arith, sum_by-cons (own_upto test 0 h) p ps, ap (if_live p.kids.items) (cond_nil (nat_le p.height h && test p.area)), live_zero p.kids.items, own_none test h ps)
 
--- what a walk from the root sums up of the entries
+-- the sum over the entries of a walk from the root
 pub walk_entries : (test : BoxOf → Bool) → GoesUp test → (g : EntryOf → ℕ) (root : Ref) (ps : List TreeNode) → IsTree root ps
     → cond (test root.area) (walk_sum test 0 g ps root.height root.node) 0 ≡ sum_by (λ e. cond (test e.0) (g e) 0) (entries_list ps)
 walk_entries test up g root ps tree = omega (arith, walk_all test up 0 g root ps tree, own_none test root.height ps, passed_sum test g ps)
@@ -155,7 +155,7 @@ ids_of q id (e ∷ es) =
 overlap_up : (q : BoxOf) → GoesUp (λ b. overlaps b q)
 overlap_up q a b w o h = over_overlaps a b q w o h
 
--- what a walk from the root finds
+-- the entries that a walk from the root finds
 pub walk_finds : (q : BoxOf) (root : Ref) (ps : List TreeNode) → IsTree root ps → overlaps root.area q ≡ true → (more : List ℕ) → ((g : ℕ → ℕ) → sum_by g more ≡ walk_sum (λ b. overlaps b q) 0 (λ e. g e.1) ps (height_at ps root.node) root.node) → AreFound q (entries_list ps) more
 walk_finds q root ps tree over more says id =
     let g : ℕ → ℕ = λ n. cond (n == id) 1 0 in

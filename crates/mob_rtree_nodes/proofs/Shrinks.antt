@@ -1,4 +1,4 @@
--- How sums over a tree change where an entry is taken out.
+-- How sums over a tree change when an entry is removed.
 use Rattle.std.proofs.Common.{◌≡◌, refl, ℕ, zero, suc, ◌+◌, ◌<◌, ◌≤◌, Bool, true, false, cond, ◌==◌, ◌&&◌, List, [], ◌∷◌, length, get_or, set, take, arith, ap, sym, ◌∙◌, subst, eq-eqb, take_all}
 use Rattle.std.specs.Prelude.{All, sum_by, count_by}
 use Rattle.std.specs.List.{remove}
@@ -21,7 +21,7 @@ use Rattle.mob_rtree_nodes.proofs.Walks.{tied_same, tied_height, walk_steps, all
 use Rattle.mob_rtree_nodes.proofs.Inserts.{Lower, lower, ref_of, live_of, links_of, leaf_of, nodes_set, low_one, inner_leaf, same_read}
 use Rattle.mob_rtree_nodes.proofs.Roots.{root_there, root_same, entries_listed, walk_entries, passed_sum}
 
--- there is an element at each place
+-- each place has an element
 pub at_place : {X : Type 0} (xs : List X) (n : ℕ) → n < length xs → (x : X) × (x ≡ get_or xs n x)
 at_place [] n h = absurd (omega arith)
 at_place (x ∷ xs) zero h = (x, refl)
@@ -42,7 +42,7 @@ settled_narrow p part i b within by =
 pub kids_without : (p part : TreeNode) (i : ℕ) → i < length p.kids.items → part.kids.items ≡ remove p.kids.items i → (f : Kid → ℕ) (k : Kid) → k ≡ get_or p.kids.items i k → sum_by f part.kids.items + f k ≡ sum_by f p.kids.items + 0
 kids_without p part i within made f k at = omega (arith, ap (sum_by f) made, sum_by-remove f p.kids.items i k within, ap f at)
 
--- what a node became, in sums
+-- the change of a node, in sums
 told_sum : (F : Ref → ℕ) (n h : ℕ) (part : TreeNode) → part.height ≡ h → (r : Removed) → IsNodeLeft part r → live_of F n part ≡ node_left F n h r
 told_sum F n h part same Missing t = absurd t
 told_sum F n h part same (Narrowed b) t = live_is part.kids.items (F (ref_of part n)) t.1 ∙ ap (λ a. F (record { area = a; node = n; height = part.height })) (sym t.0) ∙ ap (λ h. F (record { area = b; node = n; height = h })) same
@@ -66,7 +66,7 @@ left_same F h k Emptied = refl
 abbrev Balance : (Ref → ℕ) → List TreeNode → ℕ → Removed → List TreeNode → TreeNode → Type 0
 Balance F old n r new p = nodes_sum F 0 new + (refs_sum F old + F (ref_of p n)) ≡ nodes_sum F 0 old + (refs_sum F new + node_left F n p.height r)
 
--- an entry that is taken out of a leaf
+-- an entry is removed from a leaf
 pub shrunk_leaf : (old : List TreeNode) (n i : ℕ) (p part : TreeNode) (k : Kid) (e : EntryOf) (r : Removed) → n < length old → p ≡ get_or old n p → i < length p.kids.items → k ≡ get_or p.kids.items i k → p.height ≡ 0 → All IsSoundNode old → entry_of k ≡ e → IsSettled p i Emptied r part
     → IsShrunk old n e r (set old n part)
 shrunk_leaf old n i p part k e r inside is within at leaf sound same by =
@@ -99,7 +99,7 @@ module _ (root : Ref) (old : List TreeNode) (tree : IsTree root old) (n h i : �
       let t = tied_same root old tree n h i p k inside is up within at c.0 there.0 c.1 F in
       omega (arith, below.once F c.0 c.1, t, ap (λ h. node_left F (target k.1) h r1) c-h)
 
-  -- an entry that is taken out below the child at slot i
+  -- an entry is removed below the child at slot i
   pub shrunk_inner : (part : TreeNode) (r : Removed) → IsSettled p i r1 r part → IsShrunk old n e r (set ps1 n part)
   shrunk_inner part r by =
       record {
@@ -128,7 +128,7 @@ module _ (root : Ref) (old : List TreeNode) (tree : IsTree root old) (n h i : �
         whole = told_whole part by.sound r by.told;
       }
 
--- an entry that no child of a leaf is
+-- an entry that is not a child of a leaf
 hits_none : (test : BoxOf → Bool) (e : EntryOf) (ps : List TreeNode) (kids : List Kid) → count_by (is_entry e.0 e.1) kids ≡ 0 → sum_by (step_sum test 0 (hit e) ps 0) kids ≡ 0
 hits_none test e ps [] none = refl
 hits_none test e ps (k ∷ kids) none =
@@ -154,7 +154,7 @@ one_missing test e ps n i k within at none before =
     let w = step_sum test 0 (hit e) ps (height_at ps n) in
     omega (arith, sum_by_more w (kids_at ps n) i k within, ap w at, none, before)
 
--- the test that the way to a box asks
+-- the test on the path to a box
 pub way_up : (b : BoxOf) → GoesUp (λ a. contains a b)
 way_up b x y whole over h = over_trans x y b over h
 
@@ -165,7 +165,7 @@ none_there e root ps tree none i d within same =
     let one : w e ≡ 1 = ap (λ b. cond b (hit e e) 0) (over_self e.0) ∙ ap (λ b. cond (b && (e.1 == e.1)) 1 0) (same_self e.0) ∙ ap {B = ℕ} (λ b. cond b 1 0) (eq-eqb e.1 e.1 refl) in
     absurd (omega (arith, a, ap w same, one, none, walk_entries (λ a. contains a e.0) (way_up e.0) (hit e) root ps tree))
 
--- what is left of the whole tree
+-- the whole tree after the removal
 pub taken_out : (root : Ref) (old : List TreeNode) (tree : IsTree root old) (e : EntryOf) (r : Removed) (new : List TreeNode) → contains root.area e.0 ≡ true → height_at old root.node ≡ root.height → IsRemoved old root.node e r new → IsTakenOut root old e r new
 taken_out root old tree e Missing new over high none =
     none_there e root old tree (ap (λ b. cond b (walk_sum (λ a. contains a e.0) 0 (hit e) old root.height root.node) 0) over ∙ ap (λ h. walk_sum (λ a. contains a e.0) 0 (hit e) old h root.node) (sym high) ∙ none)
@@ -188,7 +188,7 @@ taken_out root old tree e Emptied new over high s = λ g.
 pub taken_early : (root : Ref) (old : List TreeNode) (tree : IsTree root old) (e : EntryOf) → contains root.area e.0 ≡ false → IsTakenOut root old e Missing old
 taken_early root old tree e out = none_there e root old tree (ap (λ b. cond b (walk_sum (λ a. contains a e.0) 0 (hit e) old root.height root.node) 0) out)
 
--- the child at a slot, as a loop that changed nothing reads it
+-- the child at a slot, as a loop reads it that changed nothing
 pub record Again (old : List TreeNode) (n i : ℕ) (p : TreeNode) (k : Kid) (number : ℕ) : Type 0 where
   pub is : p ≡ get_or old n p
   pub lower : Lower old n i p k number
@@ -210,7 +210,7 @@ lower_again root old tree n i p0 p kids k number count inside is0 up len within 
       at = lo.at ∙ ap (λ l. get_or l i k) (sym here);
     }
 
--- node n, below whose child at slot i an entry was taken out: the node is as it was
+-- node n, below whose child at slot i an entry was removed: the node itself is unchanged so far
 pub record LeftBeneath (old : List TreeNode) (n i : ℕ) (p : TreeNode) (k : Kid) (number : ℕ) (e : EntryOf) (r : Removed) (ps : List TreeNode) : Type 0 where
   pub again : Again old n i p k number
   pub below : IsShrunk old (target k.1) e r ps
@@ -231,7 +231,7 @@ left_beneath {root} {old} {now} {n} {i} {number} {p} {k} {e} {r} {ps} tree insid
       slot = omega (arith, lo.within, ap (λ (l : List Kid). length l) (kids_of ps n p there kept));
     }
 
--- what is said of a node once it is written down what became of its child
+-- the result for a node after the update for its child
 pub removed_beneath : {root : Ref} {old : List TreeNode} {n i number : ℕ} {p : TreeNode} {k : Kid} {e : EntryOf} {r left : Removed} {ps new : List TreeNode}
     → IsTree root old → n < length old → LeftBeneath old n i p k number e r ps → IsSettledAt ps n i r left new → IsRemoved old n e left new
 removed_beneath {root} {old} {n} {i} {number} {p} {k} {e} {r} {left} {ps} {new} tree inside b s =

@@ -1,4 +1,4 @@
--- Nodes that are sifted, level by level, and what the whole tree has then.
+-- Nodes are sifted level by level, and the contents of the whole tree then.
 use Rattle.std.proofs.Common.{◌≡◌, refl, ℕ, zero, suc, ◌+◌, ◌<◌, ◌≤◌, Bool, true, false, cond, not, ◌==◌, ◌&&◌, List, [], ◌∷◌, ◌++◌, length, get_or, set, take, arith, ap, sym, ◌∙◌, subst, ◌⊎◌, inl, inr, Option, Some, None}
 use Rattle.std.specs.Prelude.{All, sum_by, count_by, slice_get, option_and_then}
 use Rattle.std.specs.List.{cons_option, filter_map}
@@ -61,7 +61,7 @@ paired_nodes F G n (p ∷ ps) (q ∷ qs) len says =
     let rest = paired_nodes F G (n + 1) ps qs (omega (arith, len)) (λ i a b lt x y. let m : n + suc i ≡ n + 1 + i = omega arith in subst (λ m. live_of G m b ≡ live_of F m a) m (says (suc i) a b (omega (arith, lt)) x y)) in
     omega (arith, first, rest)
 
--- ---- a node that is sifted
+-- ---- a sifted node
 
 less_sums : {X : Type 0} (f g : X → ℕ) → ((x : X) → f x ≤ g x) → (xs : List X) → sum_by f xs ≤ sum_by g xs
 less_sums f g says [] = omega arith
@@ -98,7 +98,7 @@ module _ (ids : List ℕ) (ps : List TreeNode) (sound : All IsSoundNode ps) (h :
       by true = of_entry (is_among (target k.1) ids)
       by false = of_node (slice_get ps (target k.1)) refl
 
-  -- what is left of children that fit still fits
+  -- the children that are left still fit
   pub after_fit : (kids : List Kid) → count_by (λ k. not (is_fit h k)) kids ≡ 0 → count_by (λ k. not (is_fit h k)) (filter_map (left_kid ids ps h) kids) ≡ 0
   after_fit kids none = omega (arith, sum_left unfit (left_kid ids ps h) kids, less_sums (λ k. sum_option unfit (left_kid ids ps h k)) unfit after_less kids, none)
 
@@ -110,7 +110,7 @@ sifted_at ids old n p part inside is height sound kids =
       sifted = λ q at. subst (λ q. IsSiftedNode ids old q part) (same_read old n p q inside is at) (record { height = height; sound = sound; kids = kids });
     }
 
--- what was read of the node is what stands there
+-- what was read of the node is its current value
 pub read_left : (ids : List ℕ) (old ps : List TreeNode) (n : ℕ) (p q : TreeNode) (left : List Kid) → n < length old → ps ≡ old → p ≡ get_or old n p → q ≡ get_or old n q → left ≡ filter_map (left_kid ids ps q.height) q.kids.items → left ≡ filter_map (left_kid ids old p.height) p.kids.items
 read_left ids old ps n p q left inside same p-is q-is made =
     made ∙ ap (λ ps. filter_map (left_kid ids ps q.height) q.kids.items) same ∙ ap (λ (p : TreeNode). filter_map (left_kid ids old p.height) p.kids.items) (same_read old n q p inside q-is p-is)
@@ -124,7 +124,7 @@ slice_other (p ∷ ps) zero (suc m) q apart = refl
 slice_other (p ∷ ps) (suc n) zero q apart = refl
 slice_other (p ∷ ps) (suc n) (suc m) q apart = slice_other ps n m q (λ e. apart (ap suc e))
 
--- what is left of children that are not node n
+-- the children left by nodes other than node n
 left_apart : (ids : List ℕ) (ps : List TreeNode) (n : ℕ) (q : TreeNode) (h : ℕ) (kids : List Kid) → ((h ≡ 0 → ⊥) → All (λ k. target k.1 ≡ n → ⊥) kids) → filter_map (left_kid ids (set ps n q) h) kids ≡ filter_map (left_kid ids ps h) kids
 left_apart ids ps n q h kids apart = elim (eqb_tells h 0) [
   | inl z ↦ ap (λ b. filter_map (λ k. cond b (left_entry ids k) (left_node (set ps n q) k)) kids) z.0 ∙ sym (ap (λ b. filter_map (λ k. cond b (left_entry ids k) (left_node ps k)) kids) z.0)
@@ -135,7 +135,7 @@ left_apart ids ps n q h kids apart = elim (eqb_tells h 0) [
 ]
 
 module _ (ids : List ℕ) (root : Ref) (old : List TreeNode) (tree : IsTree root old) where
-  -- the children of a node that is no higher than node n are other nodes
+  -- the children of a node at most as high as node n are other nodes
   lower_kids : (i n : ℕ) (p c : TreeNode) → i < length old → p ≡ get_or old i p → n < length old → c ≡ get_or old n c → p.height ≤ c.height → (p.height ≡ 0 → ⊥) → All (λ k. target k.1 ≡ n → ⊥) p.kids.items
   lower_kids i n p c inside is there c-is low up j d lt same =
       let h = inner p.height up in
@@ -147,7 +147,7 @@ module _ (ids : List ℕ) (root : Ref) (old : List TreeNode) (tree : IsTree root
     inside_old : n < length ps → n < length old
     inside_old lt = omega (arith, lt, up.size)
 
-    -- a node that has another height is passed by
+    -- a node of another height is skipped
     pub pass_node : (q : TreeNode) → n < length ps → q ≡ get_or ps n q → (q.height ≡ h → ⊥) → IsSiftedUpTo ids old h (n + 1) ps
     pass_node q lt at other = record {
       size = up.size;
@@ -166,7 +166,7 @@ module _ (ids : List ℕ) (root : Ref) (old : List TreeNode) (tree : IsTree root
       rest = λ i p r inside p-is r-is behind. up.rest i p r inside p-is r-is (elim behind [ inl l ↦ inl l | inr l ↦ inr (l.0, let b = l.1 in omega (arith, b)) ]);
     }
 
-    -- a node of the height is as it was
+    -- a node of this height is not yet changed
     untouched : (p q : TreeNode) → n < length old → p ≡ get_or old n p → q ≡ get_or ps n q → q.height ≡ h → q ≡ p
     untouched p q lt p-is q-is high = elim (cases_lt p.height h) [
       | inl l ↦ absurd (omega (arith, l, high, (up.done n p q lt p-is q-is (inl l)).height))
@@ -241,7 +241,7 @@ module _ (ids : List ℕ) (root : Ref) (old : List TreeNode) (tree : IsTree root
 
 -- ---- the whole tree
 
--- what the entries without some ids sum up to
+-- the sum over the entries without some ids
 pub left_listed : (ids : List ℕ) (g : EntryOf → ℕ) (es : List EntryOf) → sum_by g (without_ids ids es) ≡ sum_by (λ e. cond (is_among e.1 ids) 0 (g e)) es
 left_listed ids g [] = refl
 left_listed ids g (e ∷ es) = omega (arith, sum_by-cons (λ e. cond (is_among e.1 ids) 0 (g e)) e es, by_test (is_among e.1 ids), left_listed ids g es)
@@ -274,7 +274,7 @@ module _ (ids : List ℕ) (root : Ref) (old : List TreeNode) (tree : IsTree root
           let s = by.each i p q lt p-is q-is in
           ap (λ (h : ℕ). leaf_sum g q.kids.items h) s.height ∙ ap (λ l. leaf_sum g l p.height) s.kids ∙ of_leaf (p.height == 0) p.kids.items
 
-  -- a node as it is referred to afterwards
+  -- a reference to a node afterwards
   abbrev ref_after : (Ref → ℕ) → ℕ → ℕ
   ref_after F n = sum_option (λ (p : TreeNode). live_of F n p) (slice_get new n)
 
@@ -364,7 +364,7 @@ module _ (ids : List ℕ) (root : Ref) (old : List TreeNode) (tree : IsTree root
   once_after : (F : Ref → ℕ) → ref_after F root.node + refs_sum F new ≡ nodes_sum F 0 new
   once_after F = omega (arith, tree.once (λ r. ref_after F r.node), refs_after F, nodes_after F)
 
-  -- an entry is left, and the root has its own box
+  -- an entry is left, and the result is the box of the root
   pub tree_left : (c : TreeNode) → c ≡ get_or new root.node c → 0 < length c.kids.items → IsTreeLeft root ids old (Some c.area) new
   tree_left c is live = (
     record {
@@ -383,7 +383,7 @@ module _ (ids : List ℕ) (root : Ref) (old : List TreeNode) (tree : IsTree root
           let p = node_at old root.node there in
           (by.each root.node p.0 c there p.1 is).height ∙ sym (height_of old root.node p.0 there p.1) ∙ root_height root old tree
 
-  -- none is
+  -- no entry is left
   pub tree_gone : (c : TreeNode) → c ≡ get_or new root.node c → length c.kids.items ≡ 0 → IsTreeLeft root ids old None new
   tree_gone c is dead g =
       let gone : (kids : List Kid) (n : ℕ) → length kids ≡ 0 → if_live kids n ≡ 0 = λ kids n h. no_live kids n h in

@@ -7,7 +7,7 @@ use Rattle.std.proofs.lemmas.List.Elements.{All-head, All-tail}
 use Rattle.mob_rtree_nodes.specs.Tree.{IsSoundNode, Kid, if_live, Ref, nodes_sum, kids_at, height_at}
 use Rattle.mob_rtree_nodes.specs.declared.node.TreeNode.{TreeNode}
 
--- equal terms, where each element meets P
+-- equal terms, if each element satisfies P
 pub same_sums : {X : Type 0} (f g : X → ℕ) (P : X → Type 0) → ((x : X) → P x → f x ≡ g x) → (xs : List X) → All P xs → sum_by f xs ≡ sum_by g xs
 same_sums f g P says [] all = refl
 same_sums f g P says (x ∷ xs) all = omega (arith, sum_by-cons f x xs, sum_by-cons g x xs, says x (All-head P x xs all), same_sums f g P says xs (All-tail P x xs all))
@@ -40,7 +40,7 @@ pub live_is : (kids : List Kid) (n : ℕ) → 0 < length kids → if_live kids n
 live_is [] n h = absurd (omega (arith, h))
 live_is (k ∷ kids) n h = refl
 
--- the sum over nodes by what the nodes are
+-- the sum over nodes, by their contents
 pub nodes_by : (F : Ref → ℕ) (G : TreeNode → ℕ) (i : ℕ) (ps : List TreeNode) → ((k : ℕ) (p : TreeNode) → k < length ps → p ≡ get_or ps k p → F (record { area = p.area; node = i + k; height = p.height }) ≡ G p) → nodes_sum F i ps ≡ sum_by (λ p. if_live p.kids.items (G p)) ps
 nodes_by F G i [] says = refl
 nodes_by F G i (p ∷ ps) says =
@@ -55,7 +55,7 @@ nodes_by F G i (p ∷ ps) says =
 pub nodes_from_zero : (F : Ref → ℕ) (G : TreeNode → ℕ) (ps : List TreeNode) → ((k : ℕ) (p : TreeNode) → k < length ps → p ≡ get_or ps k p → F (record { area = p.area; node = k; height = p.height }) ≡ G p) → nodes_sum F 0 ps ≡ sum_by (λ p. if_live p.kids.items (G p)) ps
 nodes_from_zero F G ps says = nodes_by F G 0 ps (λ k p h is. let n : 0 + k ≡ k = omega arith in rw n (says k p h is))
 
--- no node has the number
+-- no node has this number
 pub nodes_past : (F : Ref → ℕ) (t i : ℕ) (ps : List TreeNode) → t < i → nodes_sum (λ r. cond (r.node == t) (F r) 0) i ps ≡ 0
 nodes_past F t i [] h = refl
 nodes_past F t i (p ∷ ps) h =
@@ -70,7 +70,7 @@ nodes_none F t i (p ∷ ps) h =
     let e = ap (λ b. if_live p.kids.items (cond b (F r) 0)) (ne_eqb i t (omega arith)) in
     omega (arith, e, live_zero p.kids.items, nodes_none F t (i + 1) ps (omega arith))
 
--- the one term of a number
+-- the single term of a number
 pub nodes_one : (F : Ref → ℕ) (t i j : ℕ) (ps : List TreeNode) (p : TreeNode) → t ≡ i + j → j < length ps → p ≡ get_or ps j p → nodes_sum (λ r. cond (r.node == t) (F r) 0) i ps ≡ if_live p.kids.items (F (record { area = p.area; node = t; height = p.height }))
 nodes_one F t i j [] p n h is = absurd (omega arith)
 nodes_one F t i zero (q ∷ ps) p n h is =
@@ -83,7 +83,7 @@ nodes_one F t i (suc j) (q ∷ ps) p n h is =
     let e = ap (λ b. if_live q.kids.items (cond b (F (record { area = q.area; node = i; height = q.height })) 0)) (ne_eqb i t (omega arith)) in
     omega (arith, e, live_zero q.kids.items, nodes_one F t (i + 1) j ps p (omega arith) (omega arith) is)
 
--- what a node has, by its place
+-- the children of a node, by its place
 pub kids_of : (ps : List TreeNode) (n : ℕ) (p : TreeNode) → n < length ps → p ≡ get_or ps n p → kids_at ps n ≡ p.kids.items
 kids_of [] n p h is = absurd (omega arith)
 kids_of (q ∷ ps) zero p h is = ap (λ (p : TreeNode). p.kids.items) (sym is)
@@ -94,7 +94,7 @@ height_of [] n p h is = absurd (omega arith)
 height_of (q ∷ ps) zero p h is = ap (λ (p : TreeNode). p.height) (sym is)
 height_of (q ∷ ps) (suc n) p h is = height_of ps n p (omega arith) is
 
--- there is a node at each number
+-- each number has a node
 pub node_at : (ps : List TreeNode) (n : ℕ) → n < length ps → (p : TreeNode) × (p ≡ get_or ps n p)
 node_at [] n h = absurd (omega arith)
 node_at (p ∷ ps) zero h = (p, refl)

@@ -1,4 +1,4 @@
--- One child after another, in a walk.
+-- One child after another in a walk.
 use Rattle.std.proofs.Common.{◌≡◌, refl, ℕ, zero, suc, ◌+◌, ◌*◌, ◌<◌, ◌≤◌, Bool, true, false, cond, List, [], ◌∷◌, ◌++◌, length, get_or, take, arith, ap, sym, ◌∙◌, append_assoc, take_all, subst}
 use Rattle.std.specs.Prelude.{sum_by}
 use Rattle.std.proofs.lemmas.List.Sums.{sum_by-cons, sum_by-append, sum_by_more, sum_by-take-le}
@@ -8,7 +8,7 @@ use Rattle.mob_rtree_nodes.specs.declared.node.TreeNode.{TreeNode}
 use Rattle.mob_rtree_nodes.proofs.Sums.{kids_of, height_of}
 use Rattle.mob_rtree_nodes.proofs.Walks.{tied_height, walk_steps}
 
--- what an id gives, as what its entry gives
+-- a function of an id, as one of the entry
 abbrev pub by_id : (ℕ → ℕ) → EntryOf → ℕ
 by_id f e = f e.1
 

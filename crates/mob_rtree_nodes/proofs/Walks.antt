@@ -36,7 +36,7 @@ refers root ps tree n h i p k inside is up within at =
     let once = tree.once f in
     elim (cases_lt (target k.1) (length ps)) [ inl l ↦ l | inr m ↦ absurd (omega (arith, a, e, once, nodes_none (λ _. 1) (target k.1) 0 ps (omega arith))) ]
 
--- a node is as each reference to it says
+-- a node matches each reference to it
 pub tied : (root : Ref) (ps : List TreeNode) → IsTree root ps → (n h i : ℕ) (p : TreeNode) (k : Kid) → n < length ps → p ≡ get_or ps n p → p.height ≡ suc h → i < length p.kids.items → k ≡ get_or p.kids.items i k
     → (c : TreeNode) → (target k.1) < length ps → c ≡ get_or ps (target k.1) c → (F : Ref → ℕ) → F (record { area = k.0; node = target k.1; height = h }) ≤ F (record { area = c.area; node = target k.1; height = c.height })
 tied root ps tree n h i p k inside is up within at c there c-is F =
@@ -49,7 +49,7 @@ tied root ps tree n h i p k inside is up within at c there c-is F =
 pub one_same : (x y : ℕ) → 1 ≤ cond (x == y) 1 0 → x ≡ y
 one_same x y h = grind (arith, nat_tests)
 
--- so the two agree in each number
+-- so two references agree for each number
 pub tied_same : (root : Ref) (ps : List TreeNode) → IsTree root ps → (n h i : ℕ) (p : TreeNode) (k : Kid) → n < length ps → p ≡ get_or ps n p → p.height ≡ suc h → i < length p.kids.items → k ≡ get_or p.kids.items i k
     → (c : TreeNode) → (target k.1) < length ps → c ≡ get_or ps (target k.1) c → (F : Ref → ℕ) → F (record { area = c.area; node = target k.1; height = c.height }) ≡ F (record { area = k.0; node = target k.1; height = h })
 tied_same root ps tree n h i p k inside is up within at c there c-is F =
@@ -66,7 +66,7 @@ tied_height root ps tree n h i p k inside is up within at =
     let c = node_at ps (target k.1) there in
     (there, height_of ps (target k.1) c.0 there c.1 ∙ tied_same root ps tree n h i p k inside is up within at c.0 there c.1 (λ r. r.height))
 
--- and it has a child
+-- and it has children
 pub alive : (root : Ref) (ps : List TreeNode) → IsTree root ps → (n h i : ℕ) (p : TreeNode) (k : Kid) → n < length ps → p ≡ get_or ps n p → p.height ≡ suc h → i < length p.kids.items → k ≡ get_or p.kids.items i k
     → 0 < length (kids_at ps (target k.1))
 alive root ps tree n h i p k inside is up within at =
@@ -78,18 +78,18 @@ alive root ps tree n h i p k inside is up within at =
     let l = live_some c.0.kids.items (omega (arith, a, e, tree.once f, nodes_one (λ _. 1) (target k.1) 0 (target k.1) ps c.0 (omega arith) there c.1)) in
     omega (arith, l, ap (λ (l : List Kid). length l) (kids_of ps (target k.1) c.0 there c.1))
 
--- what a walk sums up at the nodes of height h whose boxes pass
+-- the sum of a walk over the nodes of height h whose boxes pass
 abbrev pub level_of : (BoxOf → Bool) → (own : ℕ) → (g : EntryOf → ℕ) → List TreeNode → ℕ → Ref → ℕ
 level_of test own g ps h r = cond (r.height == h && test r.area) (walk_sum test own g ps h r.node) 0
 
--- what is there up to height h
+-- the same up to height h
 abbrev pub own_upto : (BoxOf → Bool) → (own : ℕ) → ℕ → TreeNode → ℕ
 own_upto test own h p = if_live p.kids.items (cond (nat_le p.height h && test p.area) own 0)
 
 abbrev pub entries_of : (BoxOf → Bool) → (g : EntryOf → ℕ) → TreeNode → ℕ
 entries_of test g p = cond (p.height == 0) (sum_by (λ k. cond (test k.0) (g (entry_of k)) 0) p.kids.items) 0
 
--- no child of a node passes where the node does not
+-- if a node does not pass, none of its children does
 apart_one : (a b : BoxOf) (test : BoxOf → Bool) → GoesUp test → (w : ℕ) → is_whole a ≡ true → contains a b ≡ true → test a ≡ false → cond (test b) w 0 ≡ 0
 apart_one a b test up w whole over none = by_test (test b) refl
   where
@@ -154,7 +154,7 @@ level_more test up own g ps h p sound = by_kids p.kids.items (apart_sum test up 
     by_kids [] apart = omega (arith, kids_nil (level_of test own g ps h) p.height)
     by_kids (k ∷ kids) apart = more_cases h p.height (test p.area) own _ _ apart (kids_level test own g ps h p.height (k ∷ kids)) (kids_apart test own g ps h p.height (k ∷ kids))
 
--- the walks from the nodes of a height, where each node below height t is referred to
+-- the walks from the nodes of a height, if each node below height t is referred to
 level_walks : (test : BoxOf → Bool) → GoesUp test → (own : ℕ) (g : EntryOf → ℕ) (ps : List TreeNode) → All IsSoundNode ps → (t : ℕ) → ((h : ℕ) → h < t → refs_sum (level_of test own g ps h) ps ≡ nodes_sum (level_of test own g ps h) 0 ps)
     → (h : ℕ) → h ≤ t → nodes_sum (level_of test own g ps h) 0 ps ≡ sum_by (own_upto test own h) ps + sum_by (entries_of test g) ps
 unfolding walk_sum
@@ -172,7 +172,7 @@ level_walks test up own g ps sound t once (suc h) low =
     let b = same_sums (λ p. L p + own_upto test own h p) (λ p. own_upto test own (suc h) p + R p) IsSoundNode (λ p s. level_more test up own g ps h p s) ps sound in
     omega (arith, a, b, joined_sums L (own_upto test own h) ps, joined_sums (own_upto test own (suc h)) R ps, once h (omega (arith, low)), level_walks test up own g ps sound t once h (omega (arith, low)))
 
--- nothing is referred to at the height of the highest
+-- nothing refers to the greatest height
 pub top_free : (test : BoxOf → Bool) (own : ℕ) (g : EntryOf → ℕ) (ps : List TreeNode) (t : ℕ) → All (λ p. p.height ≤ t) ps → refs_sum (level_of test own g ps t) ps ≡ 0
 top_free test own g ps t low = zero_sum (λ p. kids_sum (level_of test own g ps t) p.height p.kids.items) (λ p. p.height ≤ t) (λ p low. kids_apart test own g ps t p.height p.kids.items (λ e. absurd (omega arith))) ps low
 
@@ -189,7 +189,7 @@ walk_all test up own g root ps tree =
         let none = ap (λ t. cond (t && test root.area) (walk_sum test own g ps h root.node) 0) (ne_eqb root.height h (omega (arith, less))) in
         omega (arith, none, tree.once (level_of test own g ps h))
 
--- where each node is referred to, there is none
+-- if each node is referred to, there are none
 pub all_dead : (g : EntryOf → ℕ) (ps : List TreeNode) (t : ℕ) → All IsSoundNode ps → All (λ p. p.height ≤ t) ps → ((f : Ref → ℕ) → refs_sum f ps ≡ nodes_sum f 0 ps) → sum_by (entries_of (λ _. true) g) ps ≡ 0
 all_dead g ps t sound low once =
     omega (arith, top_free (λ _. true) 0 g ps t low, once (level_of (λ _. true) 0 g ps t), level_walks (λ _. true) (λ a b w o h. refl) 0 g ps sound t (λ h l. once (level_of (λ _. true) 0 g ps h)) t (omega arith))

@@ -1,4 +1,4 @@
--- What a caller sees of the nodes, and what is reached from the root.
+-- What a caller sees of the nodes, and what can be reached from the root.
 use Rattle.std.specs.Prelude.{◌≡◌, ℕ, zero, suc, ◌+◌, ◌<◌, true, List, [], ◌∷◌, All, length, Option, Some, None, get_or, map, flat_map}
 use Rattle.mob_stbox.specs.Boxes.{BoxOf, contains}
 use Rattle.mob_rtree_nodes.specs.Tree.{Kid, EntryOf, entry_of, target, is_kind, IsLeastOver}
@@ -44,7 +44,7 @@ abbrev pub entries_below : List Branch → Kid → List EntryOf
 entries_below bs (b, Entry id) = (b, id) ∷ []
 entries_below bs (b, Node n) = entries_under bs n
 
--- a node stands at this depth: the root at 0, and a child of a node one deeper than that
+-- a node is at this depth: the root at 0, and a child of a node one deeper
 pub data StandsAtDepth : List Branch → Option ℕ → ℕ → ℕ → Type 0 where
   is_root : {bs : List Branch} {root : Option ℕ} {n : ℕ} → root ≡ Some n → StandsAtDepth bs root 0 n
   is_child : {bs : List Branch} {root : Option ℕ} {depth n m i : ℕ} {b : BoxOf} → StandsAtDepth bs root depth n → i < length (children bs n) → (b, Node m) ≡ get_or (children bs n) i (b, Node m) → StandsAtDepth bs root (suc depth) m
@@ -57,13 +57,13 @@ IsReachedNode bs root n = (depth : ℕ) × StandsAtDepth bs root depth n
 abbrev pub IsLeaf : List Branch → ℕ → Type 0
 IsLeaf bs n = All (λ k. is_kind 0 k.1 ≡ true) (children bs n)
 
--- all leaves stand at one depth
+-- all leaves are at one depth
 abbrev pub HaveOneDepth : List Branch → Option ℕ → Type 0
 HaveOneDepth bs root = (depth other n m : ℕ) → StandsAtDepth bs root depth n → StandsAtDepth bs root other m → IsLeaf bs n → IsLeaf bs m → depth ≡ other
 
--- what is said of the children of node n: each entry below it is below one of them, as often as it
--- is there, under a box that covers it; its children are entries where its height is 0, else nodes;
--- and a child that is a node is one lower and has the least box over its own children's
+-- the children of node n: each entry below it is below one of them, as often as it occurs, under a
+-- box that covers it; its children are entries if its height is 0, else nodes; and a child that is
+-- a node is one lower, with the bounding box of its own children
 pub record IsSpread (bs : List Branch) (n : ℕ) : Type 0 where
   pub some : 0 < length (children bs n)
   pub spread : entries_under bs n ≡ flat_map (entries_below bs) (children bs n)

@@ -1,4 +1,4 @@
--- How an arena of nodes changes where an entry is taken out.
+-- How an arena of nodes changes when an entry is removed.
 use Rattle.std.specs.Prelude.{◌≡◌, ℕ, ◌+◌, ◌<◌, ◌≤◌, ◌&&◌, Bool, true, cond, ◌==◌, List, [], All, sum_by, length, set, get_or}
 use Rattle.mob_stbox.specs.Boxes.{BoxOf, contains, is_whole, same_box}
 use Rattle.mob_rtree_nodes.specs.Tree.{Kid, EntryOf, target, Ref, IsTree, IsAdded, entries_list, IsSoundNode, nodes_sum, refs_sum, entries_sum, height_at, walk_sum}
@@ -19,25 +19,25 @@ is_whole_left Missing = true
 is_whole_left (Narrowed b) = is_whole b
 is_whole_left Emptied = true
 
--- f at what is left of a child
+-- f at a child after a removal
 abbrev pub kid_left : (Kid → ℕ) → Kid → Removed → ℕ
 kid_left f k Missing = 0
 kid_left f k (Narrowed b) = f (b, k.1)
 kid_left f k Emptied = 0
 
--- f at what is left of node n of height h, as it is referred to
+-- f at the reference to node n of height h after a removal
 abbrev pub node_left : (Ref → ℕ) → ℕ → ℕ → Removed → ℕ
 node_left f n h Missing = 0
 node_left f n h (Narrowed b) = f (record { area = b; node = n; height = h })
 node_left f n h Emptied = 0
 
--- what a node became is told
+-- the result describes the node
 abbrev pub IsNodeLeft : TreeNode → Removed → Type 0
 IsNodeLeft p Missing = ⊥
 IsNodeLeft p (Narrowed b) = (b ≡ p.area) × (0 < length p.kids.items)
 IsNodeLeft p Emptied = p.kids.items ≡ []
 
--- how a node is changed where this is left of a child
+-- how a node changes after this removal below a child
 pub record IsSettled (old : TreeNode) (slot : ℕ) (removed : Removed) (result : Removed) (new : TreeNode) : Type 0 where
   pub height : new.height ≡ old.height
   pub sound : IsSoundNode new
@@ -49,7 +49,7 @@ pub record IsSettledAt (old : List TreeNode) (n slot : ℕ) (removed : Removed) 
   pub nodes : new ≡ set old n part
   pub settled : (p : TreeNode) → p ≡ get_or old n p → IsSettled p slot removed result part
 
--- how the nodes are changed by one entry less below node n
+-- how the nodes change with one entry fewer below node n
 pub record IsShrunk (old : List TreeNode) (n : ℕ) (e : EntryOf) (result : Removed) (new : List TreeNode) : Type 0 where
   pub once : (f : Ref → ℕ) (p : TreeNode) → p ≡ get_or old n p
       → nodes_sum f 0 new + (refs_sum f old + f (record { area = p.area; node = n; height = p.height })) ≡ nodes_sum f 0 old + (refs_sum f new + node_left f n p.height result)
@@ -60,13 +60,13 @@ pub record IsShrunk (old : List TreeNode) (n : ℕ) (e : EntryOf) (result : Remo
   pub size : length new ≡ length old
   pub whole : is_whole_left result ≡ true
 
--- what is said where an entry was to be taken out below node n
+-- the result of removing an entry below node n
 abbrev pub IsRemoved : List TreeNode → ℕ → EntryOf → Removed → List TreeNode → Type 0
 IsRemoved old n e Missing new = walk_sum (λ a. contains a e.0) 0 (hit e) old (height_at old n) n ≡ 0
 IsRemoved old n e (Narrowed b) new = IsShrunk old n e (Narrowed b) new
 IsRemoved old n e Emptied new = IsShrunk old n e Emptied new
 
--- what is said where an entry was to be taken out of a tree
+-- the result of removing an entry from a tree
 abbrev pub IsTakenOut : Ref → List TreeNode → EntryOf → Removed → List TreeNode → Type 0
 IsTakenOut root old e Missing new = All (λ x. x ≡ e → ⊥) (entries_list old)
 IsTakenOut root old e (Narrowed b) new = IsTree (record { area = b; node = root.node; height = root.height }) new × IsAdded (entries_list new) e (entries_list old)

@@ -1,4 +1,4 @@
-//! How a tree is built of many entries: near ones beside one another, packed level upon level.
+//! Builds a tree of many entries: near ones are put next to each other, and packed level by level.
 ghost use Rattle.std.specs.Prelude.{◌≡◌, ℕ, ◌+◌, ◌*◌, ◌^◌, ◌<◌, ◌≤◌, sum_by, count_by, length, map, OnOk, IfOk, true, not, List, [], ◌∷◌, ◌++◌};
 ghost use Rattle.mob_rtree_nodes.specs.Tree.{IsTree, Kid, EntryOf, ref, is_fit, entries_sum, AreLive};
 ghost use Rattle.mob_rtree_nodes.specs.Builds.{kid_of, IsForest, IsPacking, IsClosed, leaf_sum};
@@ -11,8 +11,7 @@ use arrayvec::ArrayVec;
 use mob_stbox::StBox;
 use std::alloc::{AllocError, Global};
 
-/// Children with the places that they are to be ordered by, each computed once: neighbours among
-/// these numbers lie near one another.
+/// Children with their sort keys, each computed once: children with close keys are near each other.
 fn keyed(alloc: Global, kids: &[(StBox, Child)]) -> Result<Vec<(u64, (StBox, Child))>, AllocError>
     ensures kids { IfOk result (λ pairs. map (λ p. p.1) pairs.items ≡ kids.now) }
 {
@@ -41,7 +40,7 @@ fn unkeyed(
     Ok(kids)
 }
 
-/// These children with near ones beside one another.
+/// These children, with near ones next to each other.
 pub fn gather_near(
     alloc: Global,
     kids: &[(StBox, Child)],
@@ -65,7 +64,7 @@ pub fn leaf_kids(alloc: Global, entries: &[(StBox, u32)]) -> Result<Vec<(StBox, 
     Ok(kids)
 }
 
-/// Makes a node of these children, and puts it among those of its level.
+/// Makes a node of these children, and adds it to its level.
 fn close(
     nodes: &mut Vec<TreeNode>,
     above: &mut Vec<(StBox, Child)>,
@@ -91,7 +90,7 @@ fn close(
     Ok(())
 }
 
-/// Puts one more child into a level.
+/// Adds one more child to a level.
 fn pack_one(
     nodes: &mut Vec<TreeNode>,
     above: &mut Vec<(StBox, Child)>,
@@ -116,7 +115,7 @@ fn pack_one(
     Ok(next)
 }
 
-/// Packs the children of a level into nodes, and answers the level above.
+/// Packs the children of a level into nodes, and returns the level above.
 fn pack(
     alloc: Global,
     nodes: &mut Vec<TreeNode>,
@@ -139,7 +138,7 @@ fn pack(
     Ok(above)
 }
 
-/// Packs level upon level, and answers the root.
+/// Packs level by level, and returns the root.
 pub fn raise(
     alloc: Global,
     nodes: &mut Vec<TreeNode>,

@@ -1,4 +1,4 @@
-//! How an entry is put in below a node, and nodes are split.
+//! Inserts an entry below a node, and splits nodes.
 ghost use Rattle.std.specs.Prelude.{◌≡◌, ℕ, ◌+◌, ◌^◌, ◌<◌, sum_by, count_by, length, IfSome, All, true, not};
 ghost use Rattle.std.specs.Vec.{vec_len, vec_capacity};
 ghost use Rattle.arrayvec.specs.ArrayVec.{array_vec_len};
@@ -10,14 +10,14 @@ use crate::node::{Child, TreeNode};
 use arrayvec::ArrayVec;
 use mob_stbox::StBox;
 
-/// What a node became: its box, and the node that was split off.
+/// The result of an insertion at a node: its box, and the node that was split off.
 #[derive(Clone, Copy)]
 pub struct Grown {
     pub area: StBox,
     pub more: Option<(StBox, Child)>,
 }
 
-/// The least box over all.
+/// The bounding box of all.
 pub fn cover_all(kids: &[(StBox, Child)]) -> StBox
     requires some { 0 < length kids.now }
     requires whole { count_by (λ k. not (is_whole k.0)) kids.now ≡ 0 }
@@ -32,7 +32,7 @@ pub fn cover_all(kids: &[(StBox, Child)]) -> StBox
     area
 }
 
-/// The child whose box grows least, by the lengths of its sides.
+/// The child whose box grows least, by the lengths of its sides (Guttman 1984, ChooseLeaf).
 pub fn choose(kids: &[(StBox, Child)], area: &StBox) -> usize
     requires some { 0 < length kids.now }
     ensures there { result < length kids.now }
@@ -49,7 +49,7 @@ pub fn choose(kids: &[(StBox, Child)], area: &StBox) -> usize
     best
 }
 
-/// Orders the children along an axis.
+/// Sorts the children along an axis.
 fn arrange(kids: &mut ArrayVec<(StBox, Child), 16>, axis: Axis)
     ensures kids { (f : Kid → ℕ) → sum_by f kids.new.items ≡ sum_by f kids.old.items }
     ensures len { array_vec_len kids.new ≡ array_vec_len kids.old }
@@ -58,7 +58,7 @@ fn arrange(kids: &mut ArrayVec<(StBox, Child), 16>, axis: Axis)
         .sort_unstable_by_key(|kid| middle_of(&kid.0, axis));
 }
 
-/// Moves the last child over.
+/// Moves the last child to the other list.
 fn move_last(kids: &mut ArrayVec<(StBox, Child), 16>, second: &mut ArrayVec<(StBox, Child), 16>)
     requires some { 0 < array_vec_len kids.old }
     requires room { array_vec_len second.old < 16 }
@@ -71,7 +71,7 @@ fn move_last(kids: &mut ArrayVec<(StBox, Child), 16>, second: &mut ArrayVec<(StB
     }
 }
 
-/// Takes half of the children away, with one more on the side that fits it.
+/// Moves half of the children out, and adds one more to the half that it fits.
 fn split(
     kids: &mut ArrayVec<(StBox, Child), 16>,
     axis: Axis,
@@ -95,7 +95,7 @@ fn split(
     second
 }
 
-/// Adds a child to a node, and answers the node that was split off.
+/// Adds a child to a node, and returns the node that was split off, if any.
 pub fn add(part: &mut TreeNode, kid: (StBox, Child)) -> Option<TreeNode>
     requires sound { IsSoundNode part.old }
     requires fit { is_fit part.old.height kid ≡ true }
@@ -121,7 +121,8 @@ pub fn add(part: &mut TreeNode, kid: (StBox, Child)) -> Option<TreeNode>
     None
 }
 
-/// Puts a node where one was dropped, or behind all where there is none, and answers its number.
+/// Puts a node where one was dropped, or at the end if there is no such place, and returns its
+/// number.
 pub fn put_node(nodes: &mut Vec<TreeNode>, free: &mut Vec<u32>, part: TreeNode) -> u32
     requires free { IsFree free.old.items nodes.old.items }
     requires live { 0 < length part.kids.items }
@@ -146,7 +147,7 @@ pub fn put_node(nodes: &mut Vec<TreeNode>, free: &mut Vec<u32>, part: TreeNode) 
     }
 }
 
-/// Adds a child to the node of a number.
+/// Adds a child to the node of this number.
 pub fn place(
     nodes: &mut Vec<TreeNode>,
     free: &mut Vec<u32>,
@@ -182,7 +183,7 @@ pub fn place(
     }
 }
 
-/// Writes the new box beside a child.
+/// Replaces the box of a child by a wider one.
 pub fn widen(part: &mut TreeNode, slot: usize, area: StBox)
     requires slot { slot < length part.old.kids.items }
     requires sound { IsSoundNode part.old }

@@ -1,15 +1,15 @@
-//! About how long the sides of boxes are, in whole parts of 2^-62. Where an entry is put in is
-//! chosen by these numbers, and no clause speaks of them: a tree finds the same entries wherever
-//! they lie. Lengths tell apart boxes of no area too, as those of points.
+//! Approximate lengths of the sides of boxes, in units of 2^-62. They choose where an entry is
+//! inserted. No clause speaks of them: a tree finds the same entries wherever they are. Lengths
+//! distinguish boxes without area too, such as those of points.
 
 use mob_frac::Frac;
 use mob_span::Span;
 use mob_stbox::{Area, StBox};
 
-/// How many of these parts a whole has.
+/// How many of these units make 1.
 pub const PARTS: i128 = 4611686018427387904;
 
-/// About 2^62 times the fraction.
+/// The fraction, rounded to these units.
 pub fn rounded(f: &Frac) -> i128 {
     let parts = (f.num() as i128).saturating_mul(PARTS);
     if f.den() == 1 {
@@ -18,7 +18,7 @@ pub fn rounded(f: &Frac) -> i128 {
     parts.checked_div(f.den() as i128).unwrap_or(0)
 }
 
-/// How far the second number is past the first; 0 where it is not.
+/// How far the second number is above the first; 0 if it is not.
 fn past(from: &Frac, to: &Frac) -> i128 {
     if from.is_before(to) {
         return rounded(to).saturating_sub(rounded(from));
@@ -26,19 +26,19 @@ fn past(from: &Frac, to: &Frac) -> i128 {
     0
 }
 
-/// How much longer the sides of an area become over another one too.
+/// How much longer the sides of an area become if it also covers another.
 fn area_growth(a: &Area, b: &Area) -> i128 {
     let x = past(&b.xmin, &a.xmin).saturating_add(past(&a.xmax, &b.xmax));
     let y = past(&b.ymin, &a.ymin).saturating_add(past(&a.ymax, &b.ymax));
     x.saturating_add(y)
 }
 
-/// How much longer a span becomes over another one too.
+/// How much longer a span becomes if it also covers another.
 fn span_growth(s: &Span, r: &Span) -> i128 {
     past(r.lower(), s.lower()).saturating_add(past(s.upper(), r.upper()))
 }
 
-/// How much longer the sides of a box become over another one too.
+/// How much longer the sides of a box become if it also covers another.
 pub fn growth(b: &StBox, other: &StBox) -> i128 {
     let space = match (b.space(), other.space()) {
         (Some(x), Some(y)) => area_growth(x, y),
@@ -50,7 +50,7 @@ pub fn growth(b: &StBox, other: &StBox) -> i128 {
     }
 }
 
-/// The axes of a box, two in space.
+/// The axes of a box: two of space, one of time.
 #[derive(Clone, Copy)]
 pub enum Axis {
     X,
@@ -58,7 +58,7 @@ pub enum Axis {
     Time,
 }
 
-/// Where a box begins and ends along an axis; 0 where it has none.
+/// The two ends of a box along an axis; 0 if it has none.
 pub fn ends_of(b: &StBox, axis: Axis) -> (Frac, Frac) {
     match (axis, b.space(), b.time()) {
         (Axis::X, Some(area), _) => (area.xmin, area.xmax),
@@ -68,13 +68,13 @@ pub fn ends_of(b: &StBox, axis: Axis) -> (Frac, Frac) {
     }
 }
 
-/// Twice where its middle is along an axis.
+/// Twice the middle of a box along an axis.
 pub fn middle_of(b: &StBox, axis: Axis) -> i128 {
     let (least, greatest) = ends_of(b, axis);
     rounded(&least).saturating_add(rounded(&greatest))
 }
 
-/// How long its side is along an axis.
+/// The length of a box along an axis.
 fn length_of(b: &StBox, axis: Axis) -> u128 {
     let (least, greatest) = ends_of(b, axis);
     rounded(&greatest).abs_diff(rounded(&least))

@@ -1,7 +1,7 @@
-//! The nodes of an R-tree over boxes of the plane and of time, in one `Vec`: how an entry is put
-//! in, looked for and taken out.
+//! The nodes of an R-tree over boxes of the plane and of time, in one `Vec`: insertion, search and
+//! removal of entries (Guttman 1984).
 //!
-//! A tree is told by what its nodes have, and no contract speaks of how they are chosen.
+//! Contracts describe a tree by the contents of its nodes; none depends on how nodes are chosen.
 //! `mob_rtree` has the tree itself.
 #![tactic(auto)]
 

@@ -1,4 +1,4 @@
-//! The nodes of a tree and what stands in them.
+//! The nodes of a tree and their children.
 ghost use Rattle.std.specs.Prelude.{◌≡◌};
 ghost use Rattle.mob_rtree_nodes.specs.Tree.{target};
 ghost use Rattle.mob_rtree_nodes.specs.declared.node.Child.TheVariants.{Node};
@@ -6,7 +6,7 @@ ghost use Rattle.mob_rtree_nodes.specs.declared.node.Child.TheVariants.{Node};
 use arrayvec::ArrayVec;
 use mob_stbox::StBox;
 
-/// What lies below a box in a node: a node by its number, or an entry by its id.
+/// A child below a box in a node: a node by its number, or an entry by its id.
 #[derive(Clone, Copy, Debug)]
 pub enum Child {
     Node(u32),
@@ -16,7 +16,7 @@ pub enum Child {
 impl Default for Child {
     ghost is_default = { λ c. c ≡ Node 0 };
 
-    /// The node 0. It stands where an array wants something to begin with.
+    /// The node 0, which fills the unused slots of an array.
     fn default() -> Child {
         Child::Node(0)
     }
@@ -34,8 +34,8 @@ impl Child {
     }
 }
 
-/// A node: its box, its height above the leaves, and its children. Without children it is no part
-/// of the tree.
+/// A node: its box, its height above the leaves, and its children. A node without children is not
+/// part of the tree.
 #[derive(Drop)]
 pub struct TreeNode {
     pub area: StBox,

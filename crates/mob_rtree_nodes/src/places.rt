@@ -1,6 +1,6 @@
-//! Where the children of a tree that is built are packed: by their ranks along each axis, so that
-//! no outlier crowds the others together. No clause speaks of it: a tree finds the same entries
-//! wherever they lie.
+//! The places by which a built tree is packed. They are ranks along each axis, so that an outlier
+//! does not crowd the others together. No clause speaks of them: a tree finds the same entries
+//! wherever they are.
 
 use crate::lengths::{Axis, PARTS, ends_of, rounded};
 use crate::node::Child;
@@ -8,8 +8,8 @@ use mob_frac::Frac;
 use mob_stbox::StBox;
 use std::alloc::{AllocError, Global};
 
-/// A fraction by which fractions are put in order: its whole parts of 2^-62, and those of 2^-124 in
-/// what is left. No two fractions with parts below 2^62 lie as near to one another as 2^-124.
+/// A key by which fractions are sorted: the whole units of 2^-62, and those of 2^-124 in the
+/// remainder. Two different fractions with parts below 2^62 differ by more than 2^-124.
 type Exact = (i128, i128);
 
 fn exact(f: &Frac) -> Exact {
@@ -21,7 +21,7 @@ fn exact(f: &Frac) -> Exact {
     (whole, fine.checked_div(den).unwrap_or(0))
 }
 
-/// The ends of these children along an axis in order, each with the number of its child.
+/// The ends of these children along an axis, sorted, each with the number of its child.
 fn ordered_ends(
     alloc: Global,
     kids: &[(StBox, Child)],
@@ -44,7 +44,7 @@ pub struct Ranks {
 }
 
 impl Ranks {
-    /// The ranks of these children, in their order: children with the same ends have the same one.
+    /// The ranks of these children, in their order. Children with the same ends have the same rank.
     pub fn along(alloc: Global, kids: &[(StBox, Child)], axis: Axis) -> Result<Ranks, AllocError> {
         let ends = ordered_ends(alloc, kids, axis)?;
         let mut of = vec![in alloc; 0u64; kids.len()]?;
@@ -62,8 +62,8 @@ impl Ranks {
         Ok(Ranks { of, greatest })
     }
 
-    /// The place of a child along the axis, from 0 to below 2^21, with its bits taken apart, so
-    /// that those of two other axes fit between each two.
+    /// The place of a child along the axis, from 0 to below 2^21, with its bits spread so that two
+    /// other axes fit between them.
     pub fn spread_place(&self, kid: usize) -> u64 {
         let rank = match self.of.get(kid) {
             Some(rank) => *rank,
@@ -73,7 +73,7 @@ impl Ranks {
     }
 }
 
-/// Takes the bits of a number apart, so that two others fit between each two.
+/// Spreads the bits of a number so that two others fit between each two.
 fn spread(number: u64) -> u64 {
     let mut n = number;
     n = (n | (n << 32)) & 0x1f00000000ffff;

@@ -1,4 +1,4 @@
-//! How an entry is taken out below a node.
+//! Removes an entry below a node.
 ghost use Rattle.std.specs.Prelude.{◌≡◌, ◌<◌, ◌≤◌, count_by, length, All, get_or, IfNone, IfSome, true};
 ghost use Rattle.std.specs.Vec.{vec_capacity};
 ghost use Rattle.mob_stbox.specs.Boxes.{is_whole};
@@ -10,8 +10,8 @@ use crate::insert::{cover_all, widen};
 use crate::node::{Child, TreeNode};
 use mob_stbox::StBox;
 
-/// What became of a node when an entry was to be taken out below it: it was not there, the node has
-/// a narrower box, or it has no child any more.
+/// The result of a removal below a node: the entry was not there, the node has a narrower box, or
+/// the node has no children left.
 #[derive(Clone, Copy)]
 pub enum Removed {
     Missing,
@@ -33,7 +33,7 @@ fn position(kids: &[(StBox, Child)], b: &StBox, id: u32) -> Option<usize>
     None
 }
 
-/// Takes a child out.
+/// Removes a child.
 fn take_out(part: &mut TreeNode, slot: usize) -> Removed
     requires slot { slot < length part.old.kids.items }
     requires sound { IsSoundNode part.old }
@@ -47,8 +47,7 @@ fn take_out(part: &mut TreeNode, slot: usize) -> Removed
     Removed::Narrowed(part.area)
 }
 
-/// Writes a child's narrower box down at a node. Where the box is the one that is there, the node
-/// stays as it is.
+/// Replaces the box of a child by a narrower one. If the box is the same, the node stays unchanged.
 fn narrow(part: &mut TreeNode, slot: usize, area: StBox) -> Removed
     requires slot { slot < length part.old.kids.items }
     requires sound { IsSoundNode part.old }
@@ -63,7 +62,7 @@ fn narrow(part: &mut TreeNode, slot: usize, area: StBox) -> Removed
     Removed::Narrowed(part.area)
 }
 
-/// Writes down at a node what became of a child.
+/// Updates a node after a removal below a child.
 fn settle(part: &mut TreeNode, slot: usize, removed: Removed) -> Removed
     requires slot { slot < length part.old.kids.items }
     requires sound { IsSoundNode part.old }
@@ -77,8 +76,8 @@ fn settle(part: &mut TreeNode, slot: usize, removed: Removed) -> Removed
     }
 }
 
-/// Writes down at the node of this number what became of a child. The number is free where the node
-/// has no child any more.
+/// Updates the node of this number after a removal below a child. If the node has no children left,
+/// its number becomes free.
 fn settle_at(
     nodes: &mut Vec<TreeNode>,
     free: &mut Vec<u32>,
@@ -109,7 +108,7 @@ fn settle_at(
     }
 }
 
-/// Takes an entry out of a leaf.
+/// Removes an entry of a leaf.
 fn remove_entry(
     nodes: &mut Vec<TreeNode>,
     free: &mut Vec<u32>,
@@ -136,7 +135,7 @@ fn remove_entry(
     }
 }
 
-/// Takes an entry out below a node.
+/// Removes an entry below a node.
 pub(crate) fn remove_at(
     nodes: &mut Vec<TreeNode>,
     free: &mut Vec<u32>,

@@ -1,4 +1,4 @@
-//! How entries are looked for below a node.
+//! Searches below a node.
 ghost use Rattle.std.specs.Prelude.{◌≡◌, ℕ, ◌+◌, ◌*◌, ◌<◌, ◌≤◌, sum_by, length, OnOk, List, ◌++◌};
 ghost use Rattle.mob_stbox.specs.Boxes.{overlaps};
 ghost use Rattle.mob_rtree_nodes.specs.Tree.{IsTree, height_at, walk_sum, Ref};

@@ -1,4 +1,4 @@
-//! How the entries of many ids are taken out in one pass: level by level, from the leaves on.
+//! Removes the entries of many ids in one pass, level by level from the leaves.
 ghost use Rattle.std.specs.Prelude.{◌≡◌, ℕ, ◌+◌, ◌^◌, ◌<◌, ◌≤◌, count_by, sum_by, length, List, All, not, ◌++◌, []};
 ghost use Rattle.std.specs.List.{cons_option, filter_map};
 ghost use Rattle.std.specs.List.Sorted.{IsNonDecreasing};
@@ -13,7 +13,7 @@ use arrayvec::ArrayVec;
 use mob_live::rows::is_among;
 use mob_stbox::StBox;
 
-/// What is left of an entry.
+/// An entry, unless it is removed.
 fn entry_after(kid: &(StBox, Child), ids: &[u32]) -> Option<(StBox, Child)>
     requires rising { IsNonDecreasing ids.now }
     ensures left { result ≡ left_entry ids.now kid.now }
@@ -24,7 +24,7 @@ fn entry_after(kid: &(StBox, Child), ids: &[u32]) -> Option<(StBox, Child)>
     Some(*kid)
 }
 
-/// What is left of a child that is a node.
+/// A child that is a node, with the node's new box, unless the node is empty now.
 fn node_after(nodes: &[TreeNode], kid: &(StBox, Child)) -> Option<(StBox, Child)>
     ensures left { result ≡ left_node nodes.now kid.now }
 {
@@ -35,7 +35,7 @@ fn node_after(nodes: &[TreeNode], kid: &(StBox, Child)) -> Option<(StBox, Child)
     Some((part.area, kid.1))
 }
 
-/// What is left of a child of a node of this height.
+/// A child of a node of this height after the removal, if it is left.
 fn kid_after(
     nodes: &[TreeNode],
     height: u32,
@@ -51,7 +51,7 @@ fn kid_after(
     node_after(nodes, kid)
 }
 
-/// Puts a child that is left behind the others.
+/// Adds a child that is left to the others.
 fn push_left(left: &mut ArrayVec<(StBox, Child), 16>, kid: Option<(StBox, Child)>)
     requires room { array_vec_len left.old < 16 }
     ensures items { left.new.items ≡ left.old.items ++ cons_option kid [] }
@@ -63,7 +63,7 @@ fn push_left(left: &mut ArrayVec<(StBox, Child), 16>, kid: Option<(StBox, Child)
     }
 }
 
-/// What is left of the children of a node.
+/// The children of a node that are left.
 fn kids_after(nodes: &[TreeNode], part: &TreeNode, ids: &[u32]) -> ArrayVec<(StBox, Child), 16>
     requires rising { IsNonDecreasing ids.now }
     ensures left { result.items ≡ filter_map (left_kid ids.now nodes.now part.now.height) part.now.kids.items }
@@ -76,7 +76,7 @@ fn kids_after(nodes: &[TreeNode], part: &TreeNode, ids: &[u32]) -> ArrayVec<(StB
     left
 }
 
-/// Gives a node what is left of its children, with the least box over them.
+/// Gives a node the children that are left, and their bounding box.
 fn settle_left(part: &mut TreeNode, left: ArrayVec<(StBox, Child), 16>)
     requires sound { IsSoundNode part.old }
     requires fit { count_by (λ k. not (is_fit part.old.height k)) left.items ≡ 0 }
@@ -91,7 +91,7 @@ fn settle_left(part: &mut TreeNode, left: ArrayVec<(StBox, Child), 16>)
     part.area = cover_all(part.kids.as_slice());
 }
 
-/// Sifts the node of a number.
+/// Sifts the node of this number.
 fn sift_node(nodes: &mut Vec<TreeNode>, node: usize, ids: &[u32])
     requires there { node < length nodes.old.items }
     requires sound { All IsSoundNode nodes.old.items }
@@ -105,7 +105,7 @@ fn sift_node(nodes: &mut Vec<TreeNode>, node: usize, ids: &[u32])
     settle_left(part, left);
 }
 
-/// Sifts the node of a number where it has this height.
+/// Sifts the node of this number if it has this height.
 fn sift_at(nodes: &mut Vec<TreeNode>, node: usize, height: u32, ids: &[u32])
     requires there { node < length nodes.old.items }
     requires sound { All IsSoundNode nodes.old.items }
@@ -147,7 +147,7 @@ pub(crate) fn sift(nodes: &mut Vec<TreeNode>, top: u32, ids: &[u32])
     sift_level(nodes, top, ids);
 }
 
-/// Says that a node is free where it has no child.
+/// Marks a node as free if it has no children.
 fn free_one(nodes: &[TreeNode], free: &mut Vec<u32>, node: usize)
     requires there { node < length nodes.now }
     requires small { length nodes.now ≤ 2 ^ 32 }
@@ -161,7 +161,7 @@ fn free_one(nodes: &[TreeNode], free: &mut Vec<u32>, node: usize)
     }
 }
 
-/// The numbers of the nodes that have no child.
+/// The numbers of the nodes without children.
 pub(crate) fn number_free(nodes: &[TreeNode], free: &mut Vec<u32>)
     requires small { length nodes.now ≤ 2 ^ 32 }
     requires room { length nodes.now ≤ vec_capacity free.old }

@@ -1,4 +1,4 @@
-//! What is done with a whole tree: entries are put in, looked for and taken out below its root.
+//! Operations on a whole tree: insertion, search and removal below its root.
 ghost use Rattle.std.specs.Prelude.{◌≡◌, ℕ, ◌+◌, ◌*◌, ◌^◌, ◌<◌, ◌≤◌, count_by, length, OnOk, OnErr, IfOk, All, true, List, [], ◌++◌, IsSorted};
 ghost use Rattle.std.specs.List.Sorted.{IsNonDecreasing};
 ghost use Rattle.std.specs.Ordering.{nat_cmp};
@@ -21,7 +21,7 @@ use mob_steps::Steps;
 use std::alloc::{AllocError, Global};
 use std::sync::ledger::Ledger;
 
-/// Adds an entry below the root, and answers the new root.
+/// Adds an entry below the root, and returns the new root.
 pub(crate) fn put(
     nodes: &mut Vec<TreeNode>,
     free: &mut Vec<u32>,
@@ -58,7 +58,7 @@ pub(crate) fn put(
     Root { area, node, height }
 }
 
-/// Puts the first entry in.
+/// Inserts the first entry.
 pub(crate) fn put_first(nodes: &mut Vec<TreeNode>, kid: (StBox, Child)) -> Root
     requires none { nodes.old.items ≡ [] }
     requires fit { is_fit 0 kid ≡ true }
@@ -83,7 +83,7 @@ pub(crate) fn put_first(nodes: &mut Vec<TreeNode>, kid: (StBox, Child)) -> Root
     }
 }
 
-/// Adds an entry, be there one or none.
+/// Adds an entry to a tree, which may be empty.
 pub fn put_any(
     nodes: &mut Vec<TreeNode>,
     free: &mut Vec<u32>,
@@ -108,7 +108,7 @@ pub fn put_any(
     put(nodes, free, root, kid)
 }
 
-/// Appends the ids of the entries that overlap a box, in rising order.
+/// Appends the ids of the entries that overlap a box, in ascending order.
 pub fn gather<L: Ledger>(
     nodes: &[TreeNode],
     root: &Root,
@@ -132,7 +132,7 @@ pub fn gather<L: Ledger>(
     Ok(())
 }
 
-/// Takes an entry out below the root.
+/// Removes an entry below the root.
 pub fn take_entry(
     nodes: &mut Vec<TreeNode>,
     free: &mut Vec<u32>,
@@ -156,8 +156,8 @@ pub fn take_entry(
     remove_at(nodes, free, root.node, b, id)
 }
 
-/// Takes the entries of these ids out in one pass over the nodes. It answers the box of the root,
-/// or None where no entry is left.
+/// Removes the entries of these ids in one pass over the nodes. Returns the box of the root, or
+/// `None` if no entry is left.
 pub fn take_ids(
     nodes: &mut Vec<TreeNode>,
     free: &mut Vec<u32>,
@@ -183,7 +183,7 @@ pub fn take_ids(
     Some(part.area)
 }
 
-/// Makes the nodes of these entries, and answers the root.
+/// Makes the nodes of these entries, and returns the root. The only error is a failed allocation.
 pub fn raise_entries(
     alloc: Global,
     nodes: &mut Vec<TreeNode>,

@@ -84,7 +84,7 @@ over_zero : typed_script (asked (tree (Sign (codes "/")) 8 (pair (number (codes 
 unfolding typed_statement typed_expression typed_operands typed_before_operands finished digits_of digits_in table type_words geometry_words
 over_zero = refl
 
--- SELECT 1 + 'x', b: what stands first by the order decides
+-- SELECT 1 + 'x', b: the first in the order decides
 the_first_of_two : typed_script (select (record { distinct = false; items = one (tree (Sign (codes "+")) 9 (pair (number (codes "1") 7) (string (codes "x") 11))) None ∷ one (column (codes "b") 16) None ∷ []; from = []; cond = None; groups = []; keys = []; limit = None }) ∷ []) ≡ refused kind.NoSuchOperator 9
 unfolding typed_statement typed_expression typed_operands typed_before_operands finished digits_of digits_in table type_words geometry_words
 the_first_of_two = refl

@@ -16,8 +16,8 @@ use Rattle.mob_typing.specs.Statements.{node_value, typed_statement, typed_scrip
 use Rattle.mob_typed.specs.Statements.{new_table, new_rows, query}
 use Rattle.mob_script_rows.proofs.Examples.{word, type_word, leaf, number, string, literal, column, refused, refused_in}
 
--- the column of this name and type, whose type stands two bytes behind the beginning of a name of
--- one letter
+-- the column of this name and type, whose type is two bytes after the beginning of a name of one
+-- letter
 abbrev new_column : List ℕ → ℕ → List ℕ → Word × TypeWord
 new_column name p ty = (word name p, type_word ty (p + 2))
 
@@ -30,7 +30,7 @@ a_bare_name_of_two_tables : typed_script (create_table (word (codes "t") 13) (ne
 unfolding typed_statement typed_expression typed_operands typed_before_operands finished digits_of digits_in node_value table type_words geometry_words
 a_bare_name_of_two_tables = refl
 
--- SELECT 5 AS n ORDER BY n: the key is the column of this name, and no second constant
+-- SELECT 5 AS n ORDER BY n: the key is the column of this name, without a second constant
 a_key_by_its_name : typed_script (select (record { distinct = false; items = one (number (codes "5") 7) (Some (word (codes "n") 12)) ∷ []; from = []; cond = None; groups = []; keys = record { value = column (codes "n") 23; descending = false } ∷ []; limit = None }) ∷ [])
     ≡ Ok (record { statements = query (record { distinct = false; items = (typed (op.Const 0) sql.Int 7 no_args, codes "n") ∷ []; from = []; names = []; joins = []; cond = None; grouped = false; groups = []; aggs = None ∷ []; keys = (typed (op.Const 0) sql.Int 7 no_args, false) ∷ []; key_items = Some 0 ∷ []; limit = None }) ∷ []; consts = record { ty = sql.Int; text = codes "5"; statement = 1; place = 7 } ∷ [] })
 unfolding typed_statement typed_expression typed_operands typed_before_operands finished digits_of digits_in node_value table type_words geometry_words
@@ -41,8 +41,8 @@ a_star_without_tables : typed_script (select (record { distinct = false; items =
 unfolding typed_statement typed_expression typed_operands typed_before_operands finished digits_of digits_in node_value table type_words geometry_words
 a_star_without_tables = refl
 
--- c00 int, c01 int, ..: so many columns from the one of number k on, in a table whose first column
--- stands at byte 16
+-- c00 int, c01 int, ..: this many columns, from the one of number k on, in a table whose first
+-- column is at byte 16
 abbrev numbered : ℕ → List ℕ
 numbered k = codes "c" ++ (48 + k / 10) ∷ (48 + k % 10) ∷ []
 
@@ -68,7 +68,7 @@ a_column_too_many = refl
 abbrev ints_and_texts : StatementParts
 ints_and_texts = create_table (word (codes "t") 13) (new_column (codes "a") 16 (codes "int") ∷ new_column (codes "b") 23 (codes "text") ∷ [])
 
--- the same; INSERT INTO t VALUES with one row, whose bracket stands at byte 53
+-- the same; INSERT INTO t VALUES with one row, whose bracket is at byte 53
 abbrev with_row : List Tree → List StatementParts
 with_row values = ints_and_texts ∷ insert (word (codes "t") 44) (record { place = 53; values = values } ∷ []) ∷ []
 
@@ -78,7 +78,7 @@ a_row_of_both : typed_script (with_row (tree (Sign (codes "-")) 54 (leaf (number
 unfolding typed_statement typed_expression typed_operands typed_before_operands finished digits_of digits_in node_value table type_words geometry_words
 a_row_of_both = refl
 
--- .. VALUES (NULL, 5): a NULL takes no constant, and a number is read as the column's type
+-- .. VALUES (NULL, 5): a NULL needs no constant, and a number is read as the column's type
 a_row_with_a_null : typed_script (with_row (tree Null 54 none ∷ number (codes "5") 60 ∷ []))
     ≡ Ok (record { statements = new_table 0 (codes "t") ((codes "a", sql.Int) ∷ (codes "b", sql.Text) ∷ []) ∷ new_rows 0 ((None ∷ Some 0 ∷ []) ∷ []) (53 ∷ []) ∷ []; consts = record { ty = sql.Text; text = codes "5"; statement = 2; place = 60 } ∷ [] })
 unfolding typed_statement typed_expression typed_operands typed_before_operands finished digits_of digits_in node_value table type_words geometry_words

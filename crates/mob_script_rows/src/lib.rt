@@ -1,5 +1,5 @@
 //! Tests of scripts before they run, as tables: their tokens and trees, the table of operators, and
-//! types. Which scripts are refused stands in `checks/rows`.
+//! types. Which scripts are refused is in `checks/rows`.
 #![tactic(auto)]
 
 #[cfg(test)]

@@ -1,4 +1,4 @@
-// The look-up in the table of operators.
+//! Tests of look-ups in the table of operators.
 
 use mob_ast::{Cmp, SqlType};
 use mob_operators::{
@@ -13,7 +13,7 @@ type Expected = (
     Option<(Op, SqlType)>,
 );
 
-// Each operator once at types that it takes.
+// Each operator once, for types that it takes.
 static TAKEN: [Expected; 46] = [
     (
         Form::Word,
@@ -339,7 +339,7 @@ static TAKEN: [Expected; 46] = [
     ),
 ];
 
-// Each operator once at types that it does not take.
+// Each operator once, for types that it does not take.
 static REFUSED: [Expected; 34] = [
     (Form::Word, "not", &[SqlType::TBool], false, None),
     (
@@ -535,7 +535,7 @@ fn functions_are_known(rt: HostRuntime) {
     assert!(rt; is_irrational(Form::Call, "tdwithin") && is_irrational(Form::Sign, "<->"));
 }
 
-// Each aggregate at a type that it takes, and at one that it does not.
+// Each aggregate, for a type that it takes and for one that it does not take.
 static AGGREGATES: [(&str, SqlType, Option<(AggKind, SqlType)>); 17] = [
     (
         "count",

@@ -1,5 +1,4 @@
-//! Trees as text, for tests: each node with its place behind `@`, and behind it its arguments in
-//! brackets.
+//! Trees as text, for tests: each node with its place after `@`, then its arguments in brackets.
 
 use mob_ast::{
     Expr, FromTable, Item, Key, Node, Quoted, Row, SelectTree, Statement, TypeWord, Word,
@@ -17,7 +16,7 @@ fn put(
     into.push_str(format!(in alloc; "{}{}@{}", mark, text, place)?.as_str())
 }
 
-// A word behind a mark.
+// A word after a mark.
 fn put_word(alloc: Global, mark: &str, word: &Word, into: &mut String) -> Result<(), AllocError> {
     put(alloc, mark, word.text.as_str(), word.place, into)
 }
@@ -36,7 +35,7 @@ fn show_type(
     Ok(())
 }
 
-// A column behind its table; one alone, with its place where that is not the place of the node.
+// A column after its table; on its own, with its place if that is not the place of the node.
 fn show_column(
     alloc: Global,
     table: &Option<Word>,
@@ -54,7 +53,7 @@ fn show_column(
     put_word(alloc, "", column, into)
 }
 
-// A text in place of a string.
+// A text, printed like a string.
 fn show_text(alloc: Global, text: &str, into: &mut String) -> Result<(), AllocError> {
     into.push_str(format!(in alloc; "'{}", text)?.as_str())
 }
@@ -128,7 +127,7 @@ fn show_alias(alloc: Global, alias: &Option<Word>, into: &mut String) -> Result<
     into.push(';')
 }
 
-// A condition behind its word.
+// A condition after its word.
 fn show_cond(
     alloc: Global,
     word: &str,
@@ -262,7 +261,7 @@ fn show_copy(
     into.push(';')
 }
 
-/// A statement as text; an empty one is a point.
+/// A statement as text; an empty one is a full stop.
 pub fn show_statement(
     alloc: Global,
     statement: &Statement,

@@ -1,4 +1,4 @@
-// Texts with their tokens and their faults, found by hand.
+//! Texts with their tokens and their faults, determined by hand.
 
 use mob_chars::laws::{faults_are_stuck, tokens_are_in_order, tokens_are_laid};
 use mob_chars::lexer::tokens;
@@ -7,7 +7,7 @@ use mob_chars::token::{Token, TokenKind};
 use mob_list::fault::Fault;
 use std::alloc::{AllocError, Global};
 
-// Texts, each with its tokens: what each is, and its two places.
+// Texts, each with its tokens: the kind of each, and its two places.
 static TEXTS: [(&str, &[(TokenKind, u32, u32)]); 7] = [
     ("", &[(End, 0, 0)]),
     (
@@ -136,7 +136,7 @@ fn laws_of_tokens_are_called() {
     tokens_are_in_order();
 }
 
-// A text of the greatest length that a script may have.
+// A text of the greatest length that a script can have.
 fn long_text(alloc: Global) -> Result<String, AllocError> {
     let mut text = String::new(alloc);
     for _ in 0..524288 {

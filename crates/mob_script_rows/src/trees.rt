@@ -1,5 +1,5 @@
-// Scripts and their trees, each node with its place. Which scripts are refused, and where, stands
-// in `checks/rows`.
+//! Scripts and their trees, each node with its place. Which scripts are refused, and where, is in
+//! `checks/rows`.
 
 use crate::shown::show_statement;
 use mob_grammar::laws::{few_nodes, one_first_wrong, one_tree};
@@ -8,7 +8,7 @@ use mob_parse::laws::one_refusal;
 use mob_parse::script::parse;
 use std::alloc::{AllocError, Global};
 
-// The statements of a script, one behind the other.
+// The statements of a script, in order.
 fn shown(alloc: Global, script: &str) -> Result<String, AllocError> {
     let mut into = String::new(alloc);
     if script.len() > 1000 {

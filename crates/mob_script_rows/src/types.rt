@@ -1,5 +1,5 @@
-// Scripts and the type of their first item, and the names of refusals. Which scripts are refused
-// stands in `checks/rows`.
+//! Scripts and the type of their first item, and the names of refusals. Which scripts are refused
+//! is in `checks/rows`.
 
 use mob_ast::{Kind, SqlType};
 use mob_operators::Op;

@@ -4,7 +4,7 @@ use Rattle.std.proofs.Common.{◌≡◌, sym, ap, subst, inl, inr, refl, append_
 use Rattle.mob_tagg.specs.Rows.{IsItem, IsTuple, earlier, IsRowFault}
 use Rattle.mob_tuples.specs.Tuples.{StandsIn}
 
--- an entry of the rest of a list is one of the list
+-- an entry of the tail of a list is in the list
 pub stands_behind : {X : Type 0} (x y : X) (xs : List X) → StandsIn y xs → StandsIn y (x ∷ xs)
 stands_behind x y xs h = (x ∷ h.0, h.1, ap (λ zs. x ∷ zs) h.2)
 
@@ -24,7 +24,7 @@ module _ {T I V F : Type 0} (evaluates : T → I → Result V F → Type 0) (add
   item_fails group t f (i ∷ among) (inl h) = (i, ([], among, refl), subst (λ g. IsItem evaluates adds group t i (Some g)) (sym (same_some f h.0 h.2)) h.1)
   item_fails group t f (i ∷ among) (inr h) = let later = item_fails group t f among h.1 in (later.0, stands_behind i later.0 among later.1, later.2)
 
-  -- a fault in an item of a tuple, where these stand before it
+  -- a fault in an item of a tuple, with those before it
   pub record FailsAt (all : List T) (at : T × F) : Type 0 where
     pub before : List T
     pub behind : List T

@@ -85,7 +85,7 @@ write_the_same one other differ input text h = other_text one other differ input
 
 -- ---- indexes
 
--- the tuples on which WHERE is true, by the store and the rows that are there
+-- the tuples on which WHERE is true, by the store and the live rows
 abbrev MeetOn : TypedSelectParts → ℤ → List (List ℕ) → Store → List TableHead → Type 0
 MeetOn select day kept store heads = AreThoseThatMeet (conditions select) (λ visit. IsMet (condition_at select visit.on) (scene store select.from visit.tuple day)) (live_of heads) select.from kept
 

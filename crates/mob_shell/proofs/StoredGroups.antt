@@ -1,4 +1,4 @@
--- What a column of GROUP BY reads is told by its field.
+-- The field of a column of GROUP BY determines its value.
 use Rattle.std.proofs.Common.{◌≡◌, inl, inr, subst, ℕ, ℤ, List, [], Some, arith, refl}
 use Rattle.std.specs.List.{AllByRecursion}
 use Rattle.mob_list.proofs.Each.{each_on}

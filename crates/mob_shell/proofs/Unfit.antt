@@ -25,7 +25,7 @@ use Rattle.mob_shell.specs.Program.{StopsWith}
 use Rattle.mob_shell.specs.Runs.{RunState, Stops}
 use Rattle.mob_shell.proofs.GroupFaults.{FailsAt, stands_behind, tuple_fails}
 
--- what is made of each entry has its first fault by one of them
+-- the first fault over a list comes from one of its entries
 failing_entry : {X Y F : Type 0} (R : X → Result Y F → Type 0) (xs : List X) (f : F) → IsMadeOfEach R xs (Err f) → (x : X) × StandsIn x xs × R x (Err f)
 failing_entry R [] f h = absurd h
 failing_entry R (x ∷ xs) f (inl h) = (x, ([], xs, refl), h)

@@ -1,4 +1,4 @@
--- The groups of a query are those of the values of its columns of GROUP BY.
+-- A query is grouped by the values of its columns of GROUP BY.
 use Rattle.std.specs.Prelude.{◌≡◌, ◌↔◌, ℕ, ℤ, List, Some, true, slice_get}
 use Rattle.std.specs.List.{AllByRecursion}
 use Rattle.mob_typed.specs.Selects.{TypedSelectParts}
@@ -12,16 +12,16 @@ use Rattle.mob_shell.specs.Inputs.{Input}
 use Rattle.mob_shell.specs.Program.{WritesFirst}
 use Rattle.mob_shell.specs.ReadAsStored.{IsLiveTuple}
 
--- two tuples are of one group exactly where each column of GROUP BY has the same value on both,
--- NULL as NULL
+-- two tuples are in one group exactly if each column of GROUP BY has the same value on both, where
+-- NULL equals NULL
 abbrev pub IsGroupedByValues : Catalogue → TypedSelectParts → ℤ → List ℕ → List ℕ → Type 0
 IsGroupedByValues c q day t u = (same_group q c.store day t u ≡ true) ↔ AllByRecursion (HasSameValue q c.store day t u) q.groups
 
--- So it is with rows of the tables of a catalogue for which the query is typed.
+-- This holds for rows of the tables of a catalogue for which the query is typed.
 abbrev pub TypedQueriesGroupByValues : Type 0
 TypedQueriesGroupByValues = (c : Catalogue) (q : TypedSelectParts) (day : ℤ) (t u : List ℕ) → IsTypedFor c q → IsLiveTuple c q.joins q.from t → IsLiveTuple c q.joins q.from u → IsGroupedByValues c q day t u
 
--- So it is with a query that is next in a run.
+-- It holds for the next query of a run.
 abbrev pub QueriesGroupByValues : Type 0
 QueriesGroupByValues = (settings : Settings) (input : Input) (count : ℕ) (text : List ℕ) (run : WritesFirst settings input count text) (q : TypedSelectParts) (t u : List ℕ)
     → slice_get run.out.statements count ≡ Some (query q) → IsLiveTuple run.stands.catalogue q.joins q.from t → IsLiveTuple run.stands.catalogue q.joins q.from u → IsGroupedByValues run.stands.catalogue q settings.epoch t u

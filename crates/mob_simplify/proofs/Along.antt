@@ -21,7 +21,7 @@ use Rattle.mob_simplify.specs.Walk.{continues_run, stays, leg_over, legs_along, 
 use Rattle.mob_simplify.specs.declared.breaks.Break.{Break}
 use Rattle.mob_simplify.proofs.InTurn.{IsWithin}
 
--- what it takes to go on
+-- what it takes to continue a run
 pub record IsGoing (s r : Slice PlaneLine) : Type 0 where
   pub first_long : before s.span.lower s.span.upper ≡ true
   pub next_long : before r.span.lower r.span.upper ≡ true
@@ -65,7 +65,7 @@ module _ (d : Ratio) (all : List (Slice PlaneLine)) (s : Slice PlaneLine) (betwe
     abbrev wide : List Break
     wide = between ++ start_of r ∷ []
 
-    -- the breaks between lie between, up to the start of the next
+    -- the breaks in `between` are between the kept break and the start of the next
     pub within_next : continues_run l r ≡ true → AllByRecursion (IsReached s.span.lower r.span.lower) wide
     within_next g =
         let k = going l r g in
@@ -92,7 +92,7 @@ module _ (d : Ratio) (all : List (Slice PlaneLine)) (s : Slice PlaneLine) (betwe
     walking_fails : (f : Formula) → IsFirst front (Some f) → IsFirst (all_tests d all) (Some f)
     walking_fails f bad = m.firsts (Some f) (subst (λ z. IsFirst (tests_along d s between l z) (Some f)) (sym e) (first_front front (behind (stays d s wide l r)) f bad))
 
-    -- what refuses the next slice refuses all
+    -- a fault at the next slice is a fault of all
     pub walking_refused : (e : Fault Formula) → OnCause (λ f. IsFirst front (Some f)) e → OnCause (λ f. IsFirst (all_tests d all) (Some f)) e
     walking_refused (Because f) bad = walking_fails f bad
     walking_refused NoMemory bad = tt

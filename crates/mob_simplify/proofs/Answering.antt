@@ -1,4 +1,4 @@
--- What the walk over a normal value gives, and what is said of it.
+-- The result of the walk over a normal value, and its properties.
 use Rattle.std.specs.Prelude.{◌≡◌, true, List, Option, Some, None, Result, refl}
 use Rattle.std.specs.List.{flat_map}
 use Rattle.std.proofs.Common.{ap, sym, ◌∙◌, subst}
@@ -33,14 +33,14 @@ legs_ordered d a n = all_ordered d a (ordered (λ c. c.from) (λ c. c.to) plane_
 abbrev pub At : List (Slice PlaneLine) → Ratio → Option Point
 At v t = value_at plane_value_of v t
 
--- the same values, so the same in all
+-- a value with the same instants and values has the same properties
 pub is_thin : (d : Ratio) (a thin : List (Slice PlaneLine)) → IsNormalLines thin → ((t : Ratio) → At thin t ≡ At (all_legs d a) t) → IsThin d a thin
 is_thin d a thin n same = let f = found d a in record { runs = f.runs; of = f.of; normal = n; same = λ t. same t ∙ ap (λ z. At z t) (sym f.legs) }
 
 pub is_near : (d : Ratio) (a thin : List (Slice PlaneLine)) → ((t : Ratio) → At thin t ≡ At (all_legs d a) t) → (t : Ratio) → AreNear (d *ℚ d) (At thin t) (At a t)
 is_near d a thin same t = subst (λ z. AreNear (d *ℚ d) z (At a t)) (sym (same t)) (all_near d t a)
 
--- where the distance is 0 two values that are near are one
+-- if the distance is 0, two near values are equal
 near_one : (D : Ratio) (x y : Option Point) → D ≡ nil → AreNear D x y → x ≡ y
 near_one D None None e h = refl
 near_one D (Some x) (Some y) e h = ap Some (one_place x y (subst (λ z. up_to (distance_squared x y) z ≡ true) e h))

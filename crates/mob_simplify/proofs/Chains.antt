@@ -1,4 +1,4 @@
--- The slices from one kept break to the next, and the straight course that stands for them.
+-- The slices from one kept break to the next, and the straight course that replaces them.
 use Rattle.std.specs.Prelude.{◌≡◌, Bool, true, false, cond, ◌||◌, List, [], ◌∷◌, map, Option, Some, None, refl}
 use Rattle.std.proofs.Common.{arith, sym, subst}
 use Rattle.std.proofs.lemmas.Bool.{and_parts}
@@ -58,7 +58,7 @@ module _ (D : Ratio) (k : PlaneLine) (P N : Ratio) (wide : before P N ≡ true) 
   either_near true b x y rest h i = h
   either_near false b x y rest h i = i
 
-  -- and so near all of a chain
+  -- and so is near all of a chain
   chain_near : (s : Slice PlaneLine) (more : List (Slice PlaneLine)) → before s.span.lower s.span.upper ≡ true → IsChain s more → IsNearAt (start_of s) → AreNearAt more → IsNearAt (end_of (last_slice s more)) → (t : Ratio) → AreNear D (cond (has (span_of s more) t) (Some (at_k t)) None) (value_at plane_value_of (s ∷ more) t)
   chain_near s [] long c h hs i t = slice_near s long h i t (has s.span t) refl
   chain_near s (r ∷ more) long c h hs i t =
@@ -71,12 +71,12 @@ module _ (D : Ratio) (k : PlaneLine) (P N : Ratio) (wide : before P N ≡ true) 
       (slice_near s long h at_end t (has s.span t) refl)
       (chain_near r more g.next_long c.1 hs.0 hs.1 i t))
 
--- what passes is near at each start
+-- if a break passes, the course is near at each start
 starts_near : (d : Ratio) (p n : Break) (more : List (Slice PlaneLine)) (wide : before p.instant n.instant ≡ true) → passes d p (map start_of more) n ≡ true → AreNearAt (d *ℚ d) (straight p n) p.instant n.instant wide more
 starts_near d p n [] wide h = tt
 starts_near d p n (r ∷ more) wide h = let k = and_parts (up_to (off_course p n (start_of r)) (d *ℚ d)) (passes d p (map start_of more) n) h in (k.0, starts_near d p n more wide k.1)
 
--- the slices from a kept break on, that all go on and pass so far
+-- the slices from a kept break on, which all continue the run and pass so far
 pub record IsStretch (d : Ratio) (s : Slice PlaneLine) (more : List (Slice PlaneLine)) : Type 0 where
   pub chain : IsChain s more
   pub passed : passes d (start_of s) (map start_of more) (end_of (last_slice s more)) ≡ true

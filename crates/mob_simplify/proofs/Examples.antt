@@ -26,12 +26,12 @@ piece p q = record { span = record { lower = p.instant; upper = q.instant; lower
 abbrev bent : List (Slice PlaneLine)
 bent = piece (at 0 0 0) (at 1 1 1) ∷ piece (at 1 1 1) (at 2 2 0) ∷ piece (at 2 2 0) (at 4 4 0) ∷ []
 
--- within 1 one straight course stands for it
+-- within 1, one straight course replaces it
 within_one : all_legs (n 1) bent ≡ piece (at 0 0 0) (at 4 4 0) ∷ []
 unfolding over gcd gcd_steps in_lowest_terms whole ◌+ℚ◌ neg_ℚ ◌*ℚ◌ inverse turned before same line_at line_value continues_run
 within_one = refl
 
--- within 1/2 each break is kept: from 1 to 4 the straight course passes 2 at the height 2/3
+-- within 1/2, each break is kept: from 1 to 4 the straight course passes 2 at the height 2/3
 within_half : all_legs (over (pos 1) 2) bent ≡ bent
 unfolding over gcd gcd_steps in_lowest_terms whole ◌+ℚ◌ neg_ℚ ◌*ℚ◌ inverse turned before same line_at line_value continues_run
 within_half = refl
@@ -49,17 +49,17 @@ its_formulas : entries_of_test (over (pos 1) 2) (at 1 1 1) (at 4 4 0) (at 2 2 0)
 unfolding over gcd gcd_steps in_lowest_terms whole ◌+ℚ◌ neg_ℚ ◌*ℚ◌ inverse turned before same line_at line_value
 its_formulas = refl
 
--- the tests in order: within 1 the break at 2, then that at 4 at the two between
+-- the tests in order: within 1 the break at 2, then the one at 4 at the two between
 tests_within_one : all_tests (n 1) bent ≡ entries_of_test (n 1) (at 0 0 0) (at 2 2 0) (at 1 1 1) ++ (entries_of_test (n 1) (at 0 0 0) (at 4 4 0) (at 1 1 1) ++ entries_of_test (n 1) (at 0 0 0) (at 4 4 0) (at 2 2 0))
 unfolding over gcd gcd_steps in_lowest_terms whole ◌+ℚ◌ neg_ℚ ◌*ℚ◌ inverse turned before same line_at line_value continues_run
 tests_within_one = refl
 
--- within 1/2 the break at 2 fails for 0, and that at 4 for 1; for 2 there is nothing to test
+-- within 1/2 the break at 2 fails for 0, and the one at 4 for 1; for 2 nothing is tested
 tests_within_half : all_tests (over (pos 1) 2) bent ≡ entries_of_test (over (pos 1) 2) (at 0 0 0) (at 2 2 0) (at 1 1 1) ++ entries_of_test (over (pos 1) 2) (at 1 1 1) (at 4 4 0) (at 2 2 0)
 unfolding over gcd gcd_steps in_lowest_terms whole ◌+ℚ◌ neg_ℚ ◌*ℚ◌ inverse turned before same line_at line_value continues_run
 tests_within_half = refl
 
--- a jump ends a run, also where the two sides are near: nothing is tested over it
+-- a jump ends a run, even if its two sides are near: nothing is tested across it
 abbrev jump : List (Slice PlaneLine)
 jump = piece (at 0 0 0) (at 1 1 0) ∷ record { span = record { lower = n 1; upper = n 2; lower_inc = true; upper_inc = true }; course = record { from = (at 1 1 1).place; to = (at 2 2 1).place } } ∷ []
 

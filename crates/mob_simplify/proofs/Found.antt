@@ -15,7 +15,7 @@ use Rattle.mob_simplify.specs.Walk.{continues_run, leg_over, legs_along, tests_a
 use Rattle.mob_simplify.specs.declared.breaks.Break.{Break}
 use Rattle.mob_simplify.proofs.NearAlong.{goes_on_is, is_goes_on, last_more, starts_more, chain_more, legs_more}
 
--- where r goes on from s, the end of s and the start of r are one break
+-- if r continues s, the end of s and the start of r are one break
 pub one_break : (s r : Slice PlaneLine) → GoesOn s r → start_of r ≡ end_of s
 one_break s r g = λ i. record { instant = (sym g.meets.at_one) i; place = (sym g.level) i }
 
@@ -34,7 +34,7 @@ tests_joined d p bs (x ∷ xs) ys h =
     ∙ sym (append_assoc (tests_of d p bs x) (tests_after d p (bs ++ x ∷ []) xs) (tests_after d p (bs ++ x ∷ xs) ys))
     ∙ ap (λ z. (tests_of d p bs x ++ cond z (tests_after d p (bs ++ x ∷ []) xs) []) ++ tests_after d p (bs ++ x ∷ xs) ys) (sym h.0)
 
--- and where the next fails, it has the last of the tests
+-- and if the next fails, it has the last of the tests
 tests_stop : (d : Ratio) (p : Break) (bs : List Break) (n : Break) (ns : List Break) → passes d p bs n ≡ false → tests_after d p bs (n ∷ ns) ≡ tests_of d p bs n
 tests_stop d p bs n ns h = ap (λ z. tests_of d p bs n ++ cond z (tests_after d p (bs ++ n ∷ []) ns) []) h ∙ append-nil (tests_of d p bs n)
 
@@ -55,19 +55,19 @@ starts_joined : (more : List (Slice PlaneLine)) (r : Slice PlaneLine) (xs : List
 starts_joined [] r xs ys = refl
 starts_joined (q ∷ more) r xs ys = ap (λ z. start_of q ∷ z) (starts_joined more r xs ys)
 
--- the breaks after s, up to the end of l and behind it
+-- the breaks after s, up to the end of l and after it
 later_joined : (s : Slice PlaneLine) (more : List (Slice PlaneLine)) (r : Slice PlaneLine) (xs : List (Slice PlaneLine)) → GoesOn (last_slice s more) r → later_breaks s (more ++ r ∷ xs) ≡ map start_of more ++ end_of (last_slice s more) ∷ later_breaks r xs
 later_joined s more r xs g =
     ap (λ z. map start_of (more ++ r ∷ xs) ++ end_of z ∷ []) (last_joined s more r xs)
     ∙ starts_joined more r xs (end_of (last_slice r xs) ∷ [])
     ∙ ap (λ z. map start_of more ++ z ∷ later_breaks r xs) (one_break (last_slice s more) r g)
 
--- ---- the slices from a kept break on, that all go on and pass so far
+-- ---- the slices from a kept break on, which all continue the run and pass so far
 record IsSoFar (d : Ratio) (s : Slice PlaneLine) (more : List (Slice PlaneLine)) : Type 0 where
   pub chain : IsChain s more
   pub all : AllPass d (start_of s) [] (later_breaks s more)
 
--- runs of which the first begins with s, with their legs and their tests
+-- runs, the first of which begins with s, with their legs and their tests
 pub record IsFound (d : Ratio) (s : Slice PlaneLine) (slices out : List (Slice PlaneLine)) (entries : List Entry) : Type 0 where
   pub more : List (Slice PlaneLine)
   pub kept : List KeptBreak
@@ -108,7 +108,7 @@ module _ (d : Ratio) where
     tests = ap (λ z. (before s more ++ []) ++ z) f.tests ∙ append_assoc (before s more) [] tests;
   }
 
-  -- it goes on with r, whose end does not pass
+  -- it continues with r, whose end does not pass
   fails_first : (s : Slice PlaneLine) (more : List (Slice PlaneLine)) (r : Slice PlaneLine) (xs : List (Slice PlaneLine)) → IsChain r xs → passes d (start_of s) (later_breaks s more) (end_of r) ≡ false → OfHead (λ m n. passes d (start_of s) (map start_of more ++ m ∷ []) n ≡ false) (end_of (last_slice s more)) (later_breaks r xs)
   fails_first s more r [] c e = e
   fails_first s more r (q ∷ xs) c e = subst (λ z. passes d (start_of s) (later_breaks s more) z ≡ false) (sym (one_break r q c.0)) e

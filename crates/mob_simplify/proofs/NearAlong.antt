@@ -1,4 +1,4 @@
--- What the walk makes is within d of what it walks, at each instant.
+-- The result of the walk is within d of the slices, at each instant.
 use Rattle.std.specs.Prelude.{◌≡◌, Bool, true, false, cond, not, List, [], ◌∷◌, ◌++◌, map, Option, Some, None, refl}
 use Rattle.std.proofs.Common.{arith, ap, sym, ◌∙◌, subst, append_assoc}
 use Rattle.std.proofs.lemmas.Bool.{and_parts}
@@ -19,7 +19,7 @@ use Rattle.mob_simplify.specs.Thinned.{AreNear}
 use Rattle.mob_simplify.specs.Walk.{continues_run, stays, leg_over, legs_along, all_legs}
 use Rattle.mob_simplify.proofs.Chains.{IsStretch, stretch_near}
 
--- ---- what the test says
+-- ---- the meaning of the test
 pub goes_on_is : (s r : Slice PlaneLine) → continues_run s r ≡ true → GoesOn s r
 unfolding continues_run
 goes_on_is s r h =

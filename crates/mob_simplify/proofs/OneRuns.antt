@@ -39,7 +39,7 @@ more_same s (x ∷ xs) (y ∷ ys) rest rest' e c k h i =
 
 -- ---- the kept breaks
 module _ (d : Ratio) (p : Break) where
-  -- where x is the last that passes, no further one is
+  -- if x is the last that passes, no later one does
   not_further : (bs : List Break) (x y : Break) (u ys v : List Break) → u ≡ ys ++ y ∷ v → AllPass d p (bs ++ x ∷ []) (ys ++ y ∷ []) → OfHead (λ m n. passes d p (bs ++ m ∷ []) n ≡ false) x u → ⊥
   not_further bs x y u [] v e h k = true≢false (sym h.0 ∙ subst (λ z. OfHead (λ m n. passes d p (bs ++ m ∷ []) n ≡ false) x z) e k)
   not_further bs x y u (q ∷ ys) v e h k = true≢false (sym h.0 ∙ subst (λ z. OfHead (λ m n. passes d p (bs ++ m ∷ []) n ≡ false) x z) e k)

@@ -1,4 +1,4 @@
--- What the walk makes is ordered, where what it walks is.
+-- The result of the walk is ordered if its slices are.
 use Rattle.std.specs.Prelude.{◌≡◌, ◌≢◌, Bool, true, false, cond, List, [], ◌∷◌, ◌++◌, refl}
 use Rattle.std.proofs.Common.{arith, sym, ◌∙◌, subst, true≢false}
 use Rattle.std.proofs.lemmas.Bool.{and_parts}
@@ -22,7 +22,7 @@ sound_by : (s l : Slice PlaneLine) → before s.span.lower l.span.upper ≡ true
 sound_by s l h = record { some = grind (arith, h); level = λ k. absurd (true≢false (sym h ∙ k)) }
 
 module _ (d : Ratio) where
-  -- what is clear of r is clear of the legs that begin with r
+  -- a slice that is before r is before the legs that begin with r
   head_step : (q s : Slice PlaneLine) (legs legs' : List (Slice PlaneLine)) (l : Slice PlaneLine) → IsClearOf q s → OfHead IsClearOf q legs → (b : Bool) → OfHead IsClearOf q (cond b legs (leg_over s l ∷ legs'))
   head_step q s legs legs' l h k true = k
   head_step q s legs legs' l h k false = h

@@ -1,5 +1,5 @@
--- Where a straight course is at an instant between its ends, from what the ends, the instant and
--- each coordinate give.
+-- The place of a straight course at an instant between its ends, from the parts of the ends, the
+-- instant and each coordinate.
 use Rattle.std.specs.Prelude.{◌≡◌, Bool, true, false, cond, ◌&&◌, ◌++◌, [], ◌∷◌, Result, Ok, Err, refl}
 use Rattle.std.proofs.Common.{arith, ap, sym, ◌∙◌, subst}
 use Rattle.std.proofs.lemmas.Bool.{and_parts}
@@ -26,7 +26,7 @@ before_end : (t u : Ratio) → before t u ≡ true → same t u ≡ false
 unfolding same
 before_end t u h = grind (arith, h)
 
--- ---- what the code computes in turn
+-- ---- what the code computes, in order
 pub part_is : {E : Type 0} (r : Result Ratio E) (l u t a b : Ratio) → (a ≡ t -ℚ l) × Fits (t -ℚ l) → (b ≡ u -ℚ l) × Fits (u -ℚ l) → IsExact (a /ℚ b) r → IsFormula (parts_gone l u t) (part_gone l u t) r
 part_is (Ok f) l u t a b ha hb h =
     let e : a /ℚ b ≡ part_gone l u t = ap (λ z. z /ℚ b) ha.0 ∙ ap (λ z. (t -ℚ l) /ℚ z) hb.0 in
@@ -114,7 +114,7 @@ module _ (p n b : Break) (after : before p.instant b.instant ≡ true) (until : 
   time_by true false x y e h = gone_by p.instant n.instant b.instant after until p.place.y n.place.y y (all_second (line_parts p.place.x n.place.x p.instant n.instant b.instant) (line_parts p.place.y n.place.y p.instant n.instant b.instant) h)
   time_by false d x y e h = gone_by p.instant n.instant b.instant after until p.place.x n.place.x x (all_first (line_parts p.place.x n.place.x p.instant n.instant b.instant) (line_parts p.place.y n.place.y p.instant n.instant b.instant) h)
 
-  -- it is not, and the part of the time does not fit
+  -- it is not, and the fraction of the time does not fit
   pub time_unfit : same_point p.place n.place ≡ false → (AllFit (parts_gone p.instant n.instant b.instant) → ⊥) → AllStraight → ⊥
   time_unfit e h k = h (time_by (same p.place.x n.place.x) (same p.place.y n.place.y) refl refl e k)
 
@@ -122,7 +122,7 @@ module _ (p n b : Break) (after : before p.instant b.instant ≡ true) (until : 
     abbrev AllMoved : Ratio → Type 0
     AllMoved z = AllFit (moved_parts p.place.x n.place.x z ++ moved_parts p.place.y n.place.y z)
 
-    -- it does, and a coordinate does not
+    -- the fraction fits, and a coordinate does not
     pub place_unfit : (AllMoved q → ⊥) → AllStraight → ⊥
     place_unfit h k = h (subst (λ z. AllMoved z) (sym is)
         (all_both (moved_parts p.place.x n.place.x gone) (moved_parts p.place.y n.place.y gone)

@@ -1,4 +1,4 @@
--- The simplified moving point has no breaks but those of the point, and prints no more instants.
+-- The simplified moving point has only breaks of the point, and prints no more instants.
 use Rattle.std.specs.Prelude.{◌≡◌, ◌≢◌, ◌≤◌, ◌+◌, ◌⊎◌, Bool, true, false, cond, ◌&&◌, not, List, [], ◌∷◌, ◌++◌, refl}
 use Rattle.std.proofs.Common.{arith, ap, sym, ◌∙◌, subst, inl, inr, true≢false, append_assoc, append-nil}
 use Rattle.std.proofs.lemmas.Bool.{and_parts}
@@ -80,9 +80,9 @@ join_apart s r ss sr clear m = record {
 }
 
 -- ---- all of them
--- P holds of each break of what is walked
+-- P holds for each break of the slices
 module _ (P : Break → Type 0) where
-  -- normal slices in place of s and the rest, behind o
+  -- normal slices in place of s and the rest, after o
   record IsTidied (o : List (Slice PlaneLine)) (s : Slice PlaneLine) (rest : List (Slice PlaneLine)) : Type 0 where
     made : List (Slice PlaneLine)
     some : made ≢ []
@@ -153,7 +153,7 @@ module _ (P : Break → Type 0) where
         let most = most_two a (followed a (b ∷ rest)) in
         two_made a b (join_two plane_laws s r h.0 h.2.0 m c inc long e) (record { lower = refl; inc = refl; from = refl }) refl refl refl refl (omega (arith, two, most)) (let k = moved_alike rest in omega (arith, k))
 
-    -- whichever they become
+    -- whichever case it is
     made_by : Meets s.span r.span ⊎ (Meets s.span r.span → ⊥) → (c u l p : Bool) → plane_continued s.course r.course s.span.lower s.span.upper r.span.upper ≡ c → s.span.upper_inc ≡ u → before s.span.lower s.span.upper ≡ l → same_point s.course.to r.course.from ≡ p → IsTidied o s (r ∷ rest)
     made_by (inr m) c u l p ec eu el ep = kept_made (join_apart s r h.0 h.2.0 h.1 m)
     made_by (inl m) true u l p ec eu el ep = one_made (record { span = joined s.span r.span; course = record { from = s.course.from; to = r.course.to } }) (join_one plane_laws s r h.0 h.2.0 m ec) (record { lower = refl; inc = refl; from = refl }) refl refl
@@ -167,7 +167,7 @@ module _ (P : Break → Type 0) where
   tidy (r ∷ rest) o s n h = made_by o s r rest n h (tidy rest) (meets_or s.span r.span _ _ _ refl refl refl) _ _ _ _ refl refl refl refl
 
 -- ---- the normal slices with the values of ordered ones
--- they have no breaks but those of v, and print no more instants
+-- they have only breaks of v, and print no more instants
 record IsOf (P : Break → Type 0) (v slices : List (Slice PlaneLine)) : Type 0 where
   breaks : HaveBreaks P v → HaveBreaks P slices
   count : printed_instants slices ≤ printed_instants v
@@ -181,7 +181,7 @@ normal_of P (s ∷ rest) slices o n same =
     let is : k.made ≡ slices = unique plane_laws k.made slices k.normal n (λ t. k.same t ∙ sym (same t)) in
     record { breaks = λ b. subst (HaveBreaks P) is (k.breaks b); count = subst (λ z. printed_instants z ≤ printed_instants (s ∷ rest)) is k.count }
 
--- what holds of all breaks of the ordered slices holds of theirs
+-- what holds for all breaks of the ordered slices holds for theirs
 pub normal_breaks : (P : Break → Type 0) (v slices : List (Slice PlaneLine)) → AreOrderedLines v → AreNormalLines slices → ((t : Ratio) → At slices t ≡ At v t) → HaveBreaks P v → HaveBreaks P slices
 normal_breaks P v slices o n same = (normal_of P v slices o n same).breaks
 
@@ -216,7 +216,7 @@ module _ (d : Ratio) where
       cond_starts s (stays d s (between ++ start_of r ∷ []) l r) (legs_along d s (between ++ start_of r ∷ []) r rest) (leg_over s l ∷ legs_along d r [] r rest)
       (starts_along s (between ++ start_of r ∷ []) r rest) (record { lower = refl; inc = refl; from = refl })
 
-  -- where the straight course is longer than an instant, the slice at whose end it ends is so too
+  -- if the straight course is longer than an instant, so is the slice at whose end it ends
   abbrev IsLate : Slice PlaneLine → Slice PlaneLine → Type 0
   IsLate s l = before s.span.lower l.span.upper ≡ true → before l.span.lower l.span.upper ≡ true
 
@@ -247,7 +247,7 @@ module _ (d : Ratio) where
   of_all : (P : Break → Type 0) (slices thin : List (Slice PlaneLine)) → IsNormalLines slices → IsThin d slices thin → IsOf P (all_legs d slices) thin
   of_all P slices thin n h = normal_of P (all_legs d slices) thin (legs_ordered d slices n) h.normal.chained (same_values d slices thin h)
 
--- what holds of all breaks of the point holds of its breaks
+-- what holds for all breaks of the point holds for its breaks
 pub thin_breaks : (P : Break → Type 0) (d : Ratio) (slices thin : List (Slice PlaneLine)) → IsNormalLines slices → IsThin d slices thin → HaveBreaks P slices → HaveBreaks P thin
 thin_breaks P d slices thin n h b = (of_all d P slices thin n h).breaks (leg_breaks d P slices b)
 

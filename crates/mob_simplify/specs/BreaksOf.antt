@@ -13,16 +13,16 @@ abbrev pub IsBreakOf : List (Slice PlaneLine) → Break → Type 0
 IsBreakOf [] b = ⊥
 IsBreakOf (s ∷ rest) b = ((b ≡ start_of s) ⊎ (b ≡ end_of s)) ⊎ IsBreakOf rest b
 
--- this holds of each break of the slices
+-- this holds for each break of the slices
 abbrev pub HaveBreaks : (Break → Type 0) → List (Slice PlaneLine) → Type 0
 HaveBreaks P slices = AllByRecursion (λ s. P (start_of s) × P (end_of s)) slices
 
--- the end of s is the start of the next slice, which holds it
+-- the end of s is the start of the next slice, which includes it
 abbrev pub followed : Slice PlaneLine → List (Slice PlaneLine) → Bool
 followed s [] = false
 followed s (r ∷ rest) = same s.span.upper r.span.lower && (r.span.lower_inc && not s.span.upper_inc) && same_point s.course.to r.course.from
 
--- A slice prints its start, and its end where it is longer than an instant and the next slice does
+-- A slice prints its start; and its end, if it is longer than an instant and the next slice does
 -- not print that.
 abbrev pub instants_by : Slice PlaneLine → Bool → ℕ
 instants_by s next = cond next 1 (1 + cond (before s.span.lower s.span.upper) 1 0)

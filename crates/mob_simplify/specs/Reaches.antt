@@ -1,5 +1,5 @@
--- The formulas of a straight course, cut into what its ends give, what the instant gives, and what
--- each coordinate gives.
+-- The formulas of a straight course, split into the parts from its ends, from the instant, and from
+-- each coordinate.
 use Rattle.std.specs.Prelude.{cond, List, [], ◌∷◌}
 use Rattle.mob_ratio.specs.Ratio.{Ratio, ◌+ℚ◌, ◌-ℚ◌, ◌*ℚ◌, ◌/ℚ◌}
 use Rattle.mob_ratio.specs.Order.{same}
@@ -12,20 +12,20 @@ use Rattle.mob_simplify.specs.declared.passing.Reach.{Reach}
 abbrev pub IsSquared : Limit → Type 0
 IsSquared limit = IsExact (limit.distance *ℚ limit.distance) limit.square
 
--- the time from p to n, and the ways to the east and to the north
+-- the time from p to n, and the extents in x and y
 pub record IsBreakReach (p n : Break) (reach : Reach) : Type 0 where
   pub time : IsExact (n.instant -ℚ p.instant) reach.time
   pub east : IsExact (n.place.x -ℚ p.place.x) reach.east
   pub north : IsExact (n.place.y -ℚ p.place.y) reach.north
 
--- the part of the time from l to u that has gone at t
+-- the fraction of the time from l to u that has passed at t
 abbrev pub part_gone : Ratio → Ratio → Ratio → Ratio
 part_gone l u t = (t -ℚ l) /ℚ (u -ℚ l)
 
 abbrev pub parts_gone : Ratio → Ratio → Ratio → List Ratio
 parts_gone l u t = (t -ℚ l) ∷ (u -ℚ l) ∷ part_gone l u t ∷ []
 
--- a coordinate that goes from x0 to x1, where the part q of its time has gone
+-- a coordinate that goes from x0 to x1, after the fraction q of its time
 abbrev pub moved_at : Ratio → Ratio → Ratio → Ratio
 moved_at x0 x1 q = cond (same x0 x1) x0 (x0 +ℚ (x1 -ℚ x0) *ℚ q)
 

@@ -20,9 +20,8 @@ use Rattle.mob_simplify.specs.declared.breaks.Break.{Break}
 abbrev pub leg : Bool → Break → Break → Bool → Slice PlaneLine
 leg lower_inc p m upper_inc = record { span = record { lower = p.instant; upper = m.instant; lower_inc = lower_inc; upper_inc = upper_inc }; course = straight p m }
 
--- The straight courses between kept breaks, p the first of them: each has the instant of the break
--- at which it starts, but the first has it where the run has it; the last has the end where the run
--- has it.
+-- The straight courses between kept breaks, the first of which is p. Each includes the instant at
+-- which it starts, but the first only if the run does; the last includes its end if the run does.
 abbrev pub legs_from : Bool → Break → List KeptBreak → Bool → List (Slice PlaneLine)
 legs_from lower_inc p [] upper_inc = []
 legs_from lower_inc p (m ∷ []) upper_inc = leg lower_inc p m.at upper_inc ∷ []
@@ -32,7 +31,7 @@ legs_from lower_inc p (m ∷ k ∷ kept) upper_inc = leg lower_inc p m.at false 
 abbrev pub legs_of : RunOf → List (Slice PlaneLine)
 legs_of g = legs_from g.first.span.lower_inc (first_kept g).at g.kept (last_slice g.first g.more).span.upper_inc
 
--- the tests of a run: for each kept break in turn those of the breaks after it
+-- the tests of a run: for each kept break in order those of the breaks after it
 abbrev pub tests_of_run : Ratio → RunOf → List Entry
 tests_of_run d g = flat_map (λ k. tests_after d k.at [] k.later) (first_kept g ∷ g.kept)
 
@@ -44,11 +43,11 @@ pub record IsThin (d : Ratio) (slices thin : List (Slice PlaneLine)) : Type 0 wh
   pub normal : IsNormal (λ c. c.from) (λ c. c.to) plane_continued thin
   pub same : (t : Ratio) → value_at plane_value_of thin t ≡ value_at plane_value_of (flat_map legs_of runs) t
 
--- there is one list of runs with their kept breaks, and what it says of it
+-- there is one list of runs with their kept breaks, and this holds for it
 abbrev pub OnRuns : Ratio → List (Slice PlaneLine) → (List RunOf → Type 0) → Type 0
 OnRuns d slices P = (runs : List RunOf) × AreRuns d runs slices × P runs
 
--- two values at one instant are both missing, or both there with a squared distance of at most D
+-- two values at one instant are both missing, or both exist with a squared distance of at most D
 abbrev pub AreNear : Ratio → Option Point → Option Point → Type 0
 AreNear D None None = Unit {0}
 AreNear D (Some x) (Some y) = up_to (distance_squared x y) D ≡ true

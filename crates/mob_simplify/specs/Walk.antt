@@ -1,5 +1,5 @@
--- The walk along the slices that finds the kept breaks, as the code takes it. (What it finds is
--- told by Runs.)
+-- The walk along the slices that finds the kept breaks, as the code does it. `Runs` has the meaning
+-- of its result.
 use Rattle.std.specs.Prelude.{Bool, cond, ◌&&◌, not, List, [], ◌∷◌, ◌++◌}
 use Rattle.mob_ratio.specs.Ratio.{Ratio}
 use Rattle.mob_ratio.specs.Order.{before, same}
@@ -12,12 +12,12 @@ use Rattle.mob_simplify.specs.Tests.{tests_of}
 use Rattle.mob_simplify.specs.Thinned.{leg}
 use Rattle.mob_simplify.specs.declared.breaks.Break.{Break}
 
--- whether r goes on from s
+-- whether r continues the run of s
 unfoldable pub continues_run : Slice PlaneLine → Slice PlaneLine → Bool
 continues_run s r = before s.span.lower s.span.upper && before r.span.lower r.span.upper && same s.span.upper r.span.lower && not s.span.upper_inc && r.span.lower_inc && same_point s.course.to r.course.from
 
--- whether r goes on from l, and its end passes after the start of s, `between` being the breaks
--- between
+-- whether r continues the run of l, and its end passes after the start of s, where `between` are
+-- the breaks between
 abbrev pub stays : Ratio → Slice PlaneLine → List Break → Slice PlaneLine → Slice PlaneLine → Bool
 stays d s between l r = continues_run l r && passes d (start_of s) between (end_of r)
 
@@ -25,13 +25,13 @@ stays d s between l r = continues_run l r && passes d (start_of s) between (end_
 abbrev pub leg_over : Slice PlaneLine → Slice PlaneLine → Slice PlaneLine
 leg_over s l = leg s.span.lower_inc (start_of s) (end_of l) l.span.upper_inc
 
--- s starts at the kept break, `between` are the breaks after it up to the start of l, and all
--- slices to l pass
+-- the courses from here: s starts at the kept break, `between` are the breaks after it up to the
+-- start of l, and all slices up to l pass
 abbrev pub legs_along : Ratio → Slice PlaneLine → List Break → Slice PlaneLine → List (Slice PlaneLine) → List (Slice PlaneLine)
 legs_along d s between l [] = leg_over s l ∷ []
 legs_along d s between l (r ∷ rest) = cond (stays d s (between ++ start_of r ∷ []) l r) (legs_along d s (between ++ start_of r ∷ []) r rest) (leg_over s l ∷ legs_along d r [] r rest)
 
--- the tests on that walk
+-- the tests of that walk
 abbrev pub tests_along : Ratio → Slice PlaneLine → List Break → Slice PlaneLine → List (Slice PlaneLine) → List Entry
 tests_along d s between l [] = []
 tests_along d s between l (r ∷ rest) =

@@ -1,4 +1,4 @@
-//! Whether a straight course may stand for a run from one break to another.
+//! Whether a straight course may replace a run from one break to another.
 
 ghost use Rattle.std.specs.Prelude.{◌≡◌, ◌++◌, [], ◌∷◌, true, IfOk};
 ghost use Rattle.std.specs.List.{AllByRecursion};
@@ -20,7 +20,7 @@ use mob_frac::{Frac, Overflow};
 use mob_plane::Point;
 use mob_slice::Formula;
 
-/// A distance, with its square. A test judges the square where it comes to it.
+/// A distance and its square. A square that overflows is reported by the first test that needs it.
 #[derive(Clone, Copy, Drop)]
 pub struct Limit {
     /// The distance.
@@ -40,15 +40,15 @@ pub fn with_square(d: &Frac) -> Limit
     }
 }
 
-/// How long a straight course takes from its start to its end, and how far it goes to the east and
-/// to the north. A test judges each where it comes to it.
+/// The duration of a straight course, and its extent in x and y. One that overflows is reported by
+/// the first test that needs it.
 #[derive(Clone, Copy, Drop)]
 pub struct Reach {
-    /// The time.
+    /// The duration.
     pub time: Result<Frac, Overflow>,
-    /// The way to the east.
+    /// The extent in x.
     pub east: Result<Frac, Overflow>,
-    /// The way to the north.
+    /// The extent in y.
     pub north: Result<Frac, Overflow>,
 }
 
@@ -63,7 +63,7 @@ fn reach_of(p: &Break, n: &Break) -> Reach
     }
 }
 
-// The part of the course's time that has gone at an instant.
+// The fraction of the course's duration that has passed at an instant.
 fn part_gone(
     start: &Frac,
     end: &Frac,
@@ -81,7 +81,7 @@ fn part_gone(
     }
 }
 
-// A coordinate of the course where a part of its time has gone.
+// A coordinate of the course after a fraction of its duration.
 fn moved(
     from: &Frac,
     to: &Frac,
@@ -102,7 +102,7 @@ fn moved(
     from.add(&gone)
 }
 
-// Both coordinates, where a part of its time has gone.
+// Both coordinates after a fraction of the duration.
 fn moved_place(p: &Break, n: &Break, reach: &Reach, part: &Frac) -> Result<Point, Overflow>
     requires reach { IsBreakReach p.now n.now reach.now }
     ensures value { IsFormula (moved_parts p.now.place.x n.now.place.x part.now ++ moved_parts p.now.place.y n.now.place.y part.now) (record { x = moved_at p.now.place.x n.now.place.x part.now; y = moved_at p.now.place.y n.now.place.y part.now }) result }
@@ -112,7 +112,7 @@ fn moved_place(p: &Break, n: &Break, reach: &Reach, part: &Frac) -> Result<Point
     Ok(Point { x, y })
 }
 
-// Where the straight course from `p` to `n` is at the instant of `b`.
+// The place of the straight course from `p` to `n` at the instant of `b`.
 fn straight_at(p: &Break, n: &Break, reach: &Reach, b: &Break) -> Result<Point, Formula>
     requires reach { IsBreakReach p.now n.now reach.now }
     requires after { before p.now.instant b.now.instant ≡ true }
@@ -147,7 +147,7 @@ fn difference(a: &Point, b: &Point) -> Result<Point, Formula>
     Ok(Point { x, y })
 }
 
-// The square of the length of a vector, and whether it is at most that of the limit.
+// The squared length of a vector, and whether it is at most that of the limit.
 fn length_within(v: &Point, limit: &Limit) -> Result<bool, Overflow>
     requires square { IsSquared limit.now }
     ensures value { IsFormula (square_parts v.now.x v.now.y ++ distance_parts limit.now.distance) (up_to (length_squared v.now.x v.now.y) (limit.now.distance *ℚ limit.now.distance)) result }
@@ -161,7 +161,7 @@ fn length_within(v: &Point, limit: &Limit) -> Result<bool, Overflow>
     }
 }
 
-// Whether the straight course from `p` to `n` is at the break `b` within the limit of its place.
+// Whether the straight course from `p` to `n` is within the limit of the break `b`.
 fn is_near(p: &Break, n: &Break, reach: &Reach, b: &Break, limit: &Limit) -> Result<bool, Formula>
     requires reach { IsBreakReach p.now n.now reach.now }
     requires square { IsSquared limit.now }
@@ -179,9 +179,8 @@ fn is_near(p: &Break, n: &Break, reach: &Reach, b: &Break, limit: &Limit) -> Res
 }
 
 /// Whether the break `n` passes after the kept break `p`: at each break between, the straight
-/// course from `p` to `n` is within the limit of the place there. The fault names the formula of
-/// the first test that has a part that does not fit; behind the first test that fails there is
-/// none.
+/// course from `p` to `n` is within the limit of the place there. `Passed` has the formula of the
+/// first test with a part that does not fit. The tests stop at the first that fails.
 pub fn passes(p: &Break, between: &[Break], n: &Break, limit: &Limit) -> Result<bool, Formula>
     requires square { IsSquared limit.now }
     requires between { AllByRecursion (λ b. (before p.now.instant b.instant ≡ true) × (before b.instant n.now.instant ≡ true)) between.now }

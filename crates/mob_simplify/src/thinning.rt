@@ -1,3 +1,4 @@
+//! The simplification of a moving point.
 ghost use Rattle.std.specs.Prelude.{◌≡◌, true, IfOk};
 ghost use Rattle.std.specs.List.{flat_map};
 ghost use Rattle.mob_ratio.specs.Ratio.{Ratio, ◌*ℚ◌};
@@ -16,17 +17,18 @@ use mob_normal::normal;
 use mob_slice::{Formula, Moving, PlaneLine};
 use std::alloc::Global;
 
-/// The moving point with straight courses in place of its runs, each within the distance `d` of it:
-/// a run goes straight from each kept break to the next, and that is the last one up to which all
-/// breaks pass.
+/// The moving point with straight courses in place of its runs, each within the distance `d`. A run
+/// goes straight from each kept break to the next; the next is the last one up to which all breaks
+/// pass.
 ///
-/// At every instant it is within `d` of the point, it is somewhere exactly where the point is, and
-/// with `d` 0 it is the point.
+/// At every instant the result is within `d` of the point, and it is defined exactly where the
+/// point is. With `d` 0 it is the point.
 ///
-/// The fault names the formula of the first test that has a part that does not fit: by run, kept
-/// break, break that is tested, and break between, each F1, the straight course at the break
-/// between, F2, the difference by coordinate, and F6, the square of its length and that of `d`. For
-/// a kept break the tests stop at the first that fails.
+/// `Passed` has the formula of the first test with a part that does not fit. The tests are in the
+/// order of the runs, their kept breaks, the tested breaks, and the breaks between. Each test has
+/// F1, the straight course at the break between; F2, the difference by coordinate; and F6, the
+/// square of its length and that of `d`. For a kept break the tests stop at the first that fails.
+/// `NoMemory` comes if an allocation fails.
 pub fn thin(
     alloc: Global,
     a: &Moving<PlaneLine>,

@@ -1,4 +1,4 @@
-//! The walk along the slices that finds which breaks are kept.
+//! The walk along the slices that finds the kept breaks.
 
 ghost use Rattle.std.specs.Prelude.{◌≡◌, ◌≢◌, [], ◌++◌, ◌∷◌, true, cond, IfOk, OnOk};
 ghost use Rattle.std.specs.List.{AllByRecursion};
@@ -17,7 +17,7 @@ use mob_slice::{Formula, PlaneLine, Slice};
 use mob_span::Span;
 use std::alloc::Global;
 
-// Whether `next` goes on from `slice` in one run.
+// Whether `next` continues the run of `slice`.
 #[tactic(auto, unfolding(crate::specs::Walk::continues_run))]
 fn continues_run(slice: &Slice<PlaneLine>, next: &Slice<PlaneLine>) -> bool
     ensures value { result ≡ continues_run slice.now next.now }
@@ -30,8 +30,8 @@ fn continues_run(slice: &Slice<PlaneLine>, next: &Slice<PlaneLine>) -> bool
         && slice.course.to.is_same(&next.course.from)
 }
 
-// Whether `next` goes on from `last`, and the break at its end passes after the one at which
-// `first` starts.
+// Whether `next` continues the run of `last`, and the break at its end passes after the one at
+// which `first` starts.
 fn stays(
     first: &Slice<PlaneLine>,
     between: &[Break],
@@ -50,7 +50,8 @@ fn stays(
     passes(&start_of(first), between, &end_of(next), limit)
 }
 
-// Puts the break at which `next` starts behind those between, and tells whether `next` stays.
+// Appends the break at which `next` starts to those between, and returns whether `next` stays in
+// the leg.
 fn next_stays(
     first: &Slice<PlaneLine>,
     between: &mut Vec<Break>,
@@ -96,8 +97,7 @@ fn leg_over(first: &Slice<PlaneLine>, last: &Slice<PlaneLine>) -> Slice<PlaneLin
     }
 }
 
-/// The straight courses that stand for the slices, and the first test that has a part that does not
-/// fit.
+/// The straight courses that replace the slices, or the first test with a part that does not fit.
 pub fn walked(
     alloc: Global,
     slices: &[Slice<PlaneLine>],

@@ -25,8 +25,8 @@ module _ {E S : Type 0} (step wider : E → S → E → List ℕ → Type 0) (wi
   ends_wider stops more admit s left all out NoMemory h = (h.0, h.1, first_wider s all h.0 h.1 out.told_before out.told_now h.2)
   ends_wider stops more admit s left all out _ h = absurd h
 
--- statements that can be run in every state that those before them may leave can be run where those
--- before them have taken the first one
+-- statements that can run in every state that those before them may leave can run in those to which
+-- they lead
 pub can_at : {E S : Type 0} (step : E → S → E → List ℕ → Type 0) (can : E → S → Type 0) (all : List S) (s : E) → CanAllRun step can s all → CanRunEach step can s all
 can_at step can [] s h j t text x ran at = absurd (cc)
 can_at step can (y ∷ ys) s h zero t text x ran at =

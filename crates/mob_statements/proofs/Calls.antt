@@ -1,4 +1,4 @@
--- What a call tells by its answer, and what follows for a closure of which each call is known.
+-- The meaning of a call's result, and what follows for a closure if each call is known.
 use Rattle.std.proofs.Common.{refl, subst, ℕ, List, take, Result, Ok, Err, IfOk, IfErr}
 use Rattle.std.specs.Borrow.{Bor, MutBor}
 use Rattle.std.specs.Fn.{Shared}
@@ -13,7 +13,7 @@ use Rattle.mob_statements.proofs.Alike.{can_at, ends_wider, ran_wider}
 use Rattle.mob_list.specs.declared.fault.Fault.TheVariants.{Because, NoMemory}
 use Rattle.mob_list.specs.Faults.{OnCause}
 
--- the second of two facts, where the type is found later
+-- the second of two facts, whose type is found later
 pub second : {P Q : Type 0} → P × Q → Q
 second h = h.1
 
@@ -50,10 +50,10 @@ module _ {F S X A : Type 0} (g : Shared F (A × (MutBor S × (Bor X × Unit {0})
         (subst (λ z. faults k.shown.now z (rows, (place, formula))) k.reads
         (does k.alloc k.shown k.statement k.left (Err (Because f)) k.met).1)
 
-    -- so where its calls have taken the state, statements that can be run by steps can be run
+    -- so in the states to which its calls lead, statements that can run by steps can run
     pub can_by_calls : (all : List X) (s : S) → CanAllRun step can s all → CanRunEach (CallRuns g f) can s all
     can_by_calls all s h j t text x ran at = can_at step can all s h j t text x (ran_wider (CallRuns g f) step does_step (take j all) s t text ran) at
 
-    -- and where its calls end them, so do the steps
+    -- and if its calls end them, so do the steps
     pub end_by_calls : (s left : S) (all : List X) (out : StreamSeen) (ending : Ending) → StatementsEnd (CallRuns g f) (CallStops g f) s left all out ending → StatementsEnd step faults s left all out ending
     end_by_calls s left all out ending h = ends_wider (CallRuns g f) step does_step (CallStops g f) faults has_fault s left all out ending h

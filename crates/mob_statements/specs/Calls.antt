@@ -1,4 +1,4 @@
--- What a closure does that runs one statement on a state.
+-- The meaning of a closure that runs one statement on a state.
 use Rattle.std.specs.Prelude.{◌≡◌, ℕ, List, Result, Ok, Err}
 use Rattle.std.specs.Borrow.{Bor, MutBor}
 use Rattle.std.specs.Fn.{Shared}
@@ -8,11 +8,11 @@ use Rattle.mob_list.specs.declared.fault.Fault.{Fault}
 use Rattle.mob_list.specs.declared.fault.Fault.TheVariants.{Because}
 
 module _ {F S X A : Type 0} (g : Shared F (A × (MutBor S × (Bor X × Unit {0}))) (Result (Vec ℕ A) (Fault TupleFault) × (MutBor S × Unit {0}))) (f : F) where
-  -- it may be called at a state and a statement
+  -- it may be called for a state and a statement
   abbrev pub CallCanRun : S → X → Type 0
   CallCanRun s x = (a : A) (p : MutBor S) (q : Bor X) → p.now ≡ s → q.now ≡ x → g.pre f (a, (p, (q, tt)))
 
-  -- a call at s and x may give this, and leave t
+  -- a call for s and x may return this, and leave t
   pub record CallGives (s : S) (x : X) (given : Result (Vec ℕ A) (Fault TupleFault)) (t : S) : Type 0 where
     pub alloc : A
     pub shown : MutBor S
@@ -23,7 +23,7 @@ module _ {F S X A : Type 0} (g : Shared F (A × (MutBor S × (Bor X × Unit {0})
     pub met : g.post f (alloc, (shown, (statement, tt))) (given, (left, tt))
     pub leaves : left.now ≡ t
 
-  -- it runs the statement x, takes s to t, and answers the text
+  -- it runs the statement x, takes s to t, and returns the text
   abbrev pub CallRuns : S → X → S → List ℕ → Type 0
   CallRuns s x t text = (answer : Vec ℕ A) × CallGives s x (Ok answer) t × (answer.items ≡ text)
 

@@ -1,4 +1,4 @@
-// Statements that run one after another, each with the text of its answer.
+//! Runs statements one after another, and writes the text of each answer.
 ghost use Rattle.std.specs.Prelude.{◌≤◌, IfOk, IfErr, OnOk};
 ghost use Rattle.mob_outside.specs.EndsSeen.{stream_seen};
 ghost use Rattle.mob_list.specs.Faults.{OnCause};
@@ -12,10 +12,10 @@ use mob_list::fault::Fault;
 use mob_outside::{Sink, put_all};
 use std::alloc::Global;
 
-/// Runs all statements by calls of `execute`, and puts each answer before the next statement runs.
-/// Where all ran, the state is left as the last of them left it. Each has to be one that can be run
-/// wherever those before it have taken the state. It ends by `Done`, by the fault of a statement,
-/// by a fault of `out` or out of memory.
+/// Runs all statements by calls of `execute`, and writes each answer before the next statement
+/// runs. If all ran, the state is as the last one left it. Each statement must be able to run in
+/// every state to which those before it may lead. The ending is `Done`, the fault of a statement, a
+/// fault of `out`, or out of memory.
 pub fn run_all<S, X, F: Fn(Global, &mut S, &X) -> Result<Vec<u8>, QueryFault>, K: Sink>(
     alloc: Global,
     state: &mut S,
@@ -33,8 +33,8 @@ pub fn run_all<S, X, F: Fn(Global, &mut S, &X) -> Result<Vec<u8>, QueryFault>, K
     }
 }
 
-// Runs the statements one after another. The error is the ending at the first one that does not
-// run, or whose answer is not put.
+// Runs the statements one after another. The error is the ending at the first one that fails, or
+// whose answer cannot be written.
 fn run_each<S, X, F: Fn(Global, &mut S, &X) -> Result<Vec<u8>, QueryFault>, K: Sink>(
     alloc: Global,
     state: &mut S,
@@ -65,7 +65,7 @@ fn run_each<S, X, F: Fn(Global, &mut S, &X) -> Result<Vec<u8>, QueryFault>, K: S
     Ok(())
 }
 
-// Runs one statement, and answers the text of its answer.
+// Runs one statement, and returns the text of its answer.
 fn run_one<S, X, F: Fn(Global, &mut S, &X) -> Result<Vec<u8>, QueryFault>>(
     alloc: Global,
     state: &mut S,
@@ -79,7 +79,7 @@ fn run_one<S, X, F: Fn(Global, &mut S, &X) -> Result<Vec<u8>, QueryFault>>(
     execute(alloc, state, statement)
 }
 
-// The ending where the statement of this number has this fault.
+// The ending for this fault of the statement of this number.
 fn ended_by(statement: u32, fault: QueryFault) -> Ending
     ensures end { EndsByFault statement fault result }
 {

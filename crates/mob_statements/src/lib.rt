@@ -1,5 +1,5 @@
-//! Statements that run one after another, each with the text of its answer, and how they end. What
-//! one of them does is told by the closure that runs it, so this crate knows no tables.
+//! Statements that run one after another, each with the text of its answer, and how they end. A
+//! closure runs each statement, so this crate knows nothing of tables.
 #![tactic(auto)]
 
 mod engine;

@@ -123,7 +123,7 @@ count_same n m e = ap (λ z. Number (z +ℚ whole (pos 1))) e ∙ ap Number (cou
 entries_same : (n : ℕ) (m : Ratio) (before : Value) (f : Option Formula) → m ≡ whole (pos n) → before ≡ counted n → IsFirst (arithmetic_entries Added sql.Numeric (Number m) (Number (whole (pos 1)))) f → IsFirst (arithmetic_entries Added sql.Numeric before (counted 1)) f
 entries_same n m before f e h k = subst (λ z. IsFirst (arithmetic_entries Added sql.Numeric z (counted 1)) f) (ap Number e ∙ sym h) k
 
--- a count that has no number is none
+-- a count without a number is impossible
 pub no_count : (ty : SqlType) (before v r : Value) → number_in before ≡ None → IsAggregateWith false CountAll ty before v (Ok r)
 no_count ty before v r h = λ vs e. no_number before (length vs) h e
 
@@ -177,7 +177,7 @@ module _ (ty : SqlType) (before v : Value) (b : Ratio) (is : number_in v ≡ Som
   abbrev NumberEntries : Value → List Entry
   NumberEntries z = arithmetic_entries Added sql.Numeric z (Number b)
 
-  -- a sum with a number is that of some numbers
+  -- a sum that is a number is the sum of some numbers
   sum_is : (a : Ratio) → number_in before ≡ Some a → (vs : List Value) → IsAggregated Sum ty vs before → {P : Type 0} → ((c : Ratio) (ns : List Ratio) → numbers_of vs ≡ c ∷ ns → total (c ∷ ns) ≡ a → before ≡ Number a → P) → P
   sum_is a n vs e {P} f = by (numbers_of vs) refl
     where
@@ -271,7 +271,7 @@ one_some : (b : Bool) → some_holds (b ∷ []) ≡ b
 one_some true = refl
 one_some false = refl
 
--- what one value has is the aggregate of it
+-- the aggregate of one value is what that value has
 alone_there : {C B : Type 0} (value : C → Ratio → Ratio → Ratio → B) (f : List B → B) → ((x : B) → f (x ∷ []) ≡ x) → (a : Option (List (Slice C))) (t : Ratio) → MatchOption a (slices_there value a t ≡ None) (λ w. value_at value w t ≡ option_map (λ x. f (x ∷ [])) (slices_there value a t))
 alone_there value f one None t = refl
 alone_there {C} {B} value f one (Some w) t = by (value_at value w t)
@@ -292,7 +292,7 @@ all_alone v n = over_one (steady_course same_bool) MovingBool truths_of seen_tru
 pub some_alone : (v : Value) → MatchOption (truths_of v) (Unit {0}) (AreNormalBy (steady_course same_bool)) → IsAggregate truth_there steady_value steady_limit steady_limit (steady_course same_bool).continues some_holds (v ∷ []) (truths_of v)
 some_alone v n = over_one (steady_course same_bool) MovingBool truths_of seen_truths one_holds some_holds some_joins truth_there v (truths_of v) n (λ t. alone_there steady_value some_holds one_some (truths_of v) t)
 
--- what is an aggregate over time is seen as its slices
+-- an aggregate over time is its slices
 before_is : {C B Z : Type 0} (course : CourseOf C Z) (make : List (Slice C) → Value) (see : Value → Option (List (Slice C))) → ((r : Option (List (Slice C))) → see (or_nothing make r) ≡ r) → (f : List B → Z) (there : Value → Ratio → Option B) (vs : List Value) (before : Value) → IsOverTime course make f there vs before → or_nothing make (see before) ≡ before
 before_is course make see seen f there vs before h = ap (or_nothing make) (ap see h.2 ∙ seen h.0) ∙ sym h.2
 
@@ -326,7 +326,7 @@ one_counted (Some x) = refl
 pub ones_over : {B : Type 0} (ty : SqlType) (v r : Value) (o : Ratio → Option B) → ((t : Ratio) → one_there v t ≡ one_where (o t)) → IsFunction (steady_course same) MovingInt (λ t. one_where (o t)) r → IsAggregated TCount ty (v ∷ []) r
 ones_over ty v r o e h = (Some h.0, (h.2, λ t. h.1 t ∙ one_counted (o t) ∙ ap (λ z. made_of count (put_there z [])) (sym (e t))), h.3)
 
--- ---- a value that is left out
+-- ---- a value that is ignored
 
 over_same : {C B Z : Type 0} (course : CourseOf C Z) (make : List (Slice C) → Value) (f : List B → Z) (there : Value → Ratio → Option B) (vs : List Value) (before v : Value) → ((t : Ratio) → there v t ≡ None) → IsOverTime course make f there vs before → IsOverTime course make f there (vs ++ v ∷ []) before
 over_same course make f there vs before v e h = (h.0, aggregate_same there course.value course.start course.end course.continues f vs (v ∷ []) h.0 (λ t. ap (λ z. put_there z []) (e t)) h.1, h.2)
@@ -388,7 +388,7 @@ left_out_with kind ty before v h =
     let null : v ≡ Null = left_null kind v (sym h) in
     subst (λ b. IsAggregateWith b kind ty before v (Ok before)) h (subst (λ z. IsAggregateWith true kind ty before z (Ok before)) (sym null) (null_out kind ty before (ap (leaves_out kind) (sym null) ∙ sym h)))
 
--- what holds of a value of one kind holds of it where the kind is that one and the value is not
--- left out
+-- what holds of a value for one kind holds for the kind at hand, if it is that one and the value is
+-- not ignored
 pub at_kind : (kind one : AggKind) (ty : SqlType) (before v : Value) (r : Result Value (Fault Formula)) → kind ≡ one → false ≡ leaves_out kind v → IsAggregateWith false one ty before v r → IsAggregateWith (leaves_out kind v) kind ty before v r
 at_kind kind one ty before v r e f h = subst (λ b. IsAggregateWith b kind ty before v r) f (subst (λ k. IsAggregateWith false k ty before v r) (sym e) h)

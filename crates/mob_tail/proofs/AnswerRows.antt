@@ -1,4 +1,4 @@
--- Rows as values, and as they are printed.
+-- Rows as values, and as printed.
 use Rattle.std.proofs.Common.{◌≡◌, ℕ, ℤ, ◌+◌, Bool, List, [], ◌∷◌, ◌++◌, Ok, Err, inl, inr, length, map, take, drop, refl, sym, ap, subst, ◌∙◌, arith}
 use Rattle.std.specs.List.{AllZip}
 use Rattle.std.proofs.Math.Seq.{take-append_seam, drop-append_seam}
@@ -80,7 +80,7 @@ group_row select store day tuples columns keys row made h e =
     let is : answer_row select day row ≡ record { fields = map (field_text day) columns; keys = keys } = ap (answer_row select day) e ∙ row_is select day keys columns count in
     subst (IsGroupRow select store day tuples) (sym is) (row_made select store day tuples columns (record { fields = map (field_text day) columns; keys = keys }) made refl h)
 
--- what holds of each thing and what its entry is seen as
+-- what holds of each thing and its entry as seen
 pub all_seen : {X Y Z : Type 0} (R : X → Z → Type 0) (see : Y → Z) (xs : List X) (ys : List Y) → AllZip (λ x y. R x (see y)) xs ys → AllZip R xs (map see ys)
 all_seen R see [] [] h = h
 all_seen R see [] (y ∷ ys) h = h

@@ -1,4 +1,4 @@
--- No count over kept tuples passes a formula.
+-- No count over kept tuples overflows.
 use Rattle.std.specs.Prelude.{◌≡◌, ◌+◌, ◌<◌, ◌^◌, Bool, true, false, ℕ, ℤ, List, Option, Some, None, option_map, length}
 use Rattle.std.proofs.Common.{arith, sym}
 use Rattle.std.proofs.lemmas.Slice.Zip.{AllZip-long}

@@ -1,4 +1,4 @@
--- No count of a list of fewer than 2^62 values passes a formula.
+-- No count of a list of fewer than 2^62 values overflows.
 use Rattle.std.specs.Prelude.{◌≡◌, ◌+◌, ◌<◌, ◌≤◌, ◌^◌, Bool, true, false, cond, not, ℕ, pos, refl, List, [], ◌∷◌, map, filter, length, Option, Some, None}
 use Rattle.std.specs.List.{AllByRecursion, flat_map}
 use Rattle.std.proofs.Common.{ap, sym, ◌∙◌, subst, inl, arith}
@@ -92,7 +92,7 @@ module _ (P Q : Ratio → Type 0) (fits : (x y : Ratio) → P x → Q y → Fits
 
 -- ---- counts
 
--- a whole number, no more than so many
+-- a whole number of at most this size
 abbrev IsCountTo : ℕ → Ratio → Type 0
 IsCountTo most x = (n : ℕ) × (x ≡ whole (pos n)) × (n ≤ most)
 
@@ -108,7 +108,7 @@ count_to : (xs : List Ratio) (x : Ratio) → Some x ≡ made_of count xs → x �
 count_to [] x e = none_some x (sym e)
 count_to (y ∷ xs) x e = some_is x (whole (pos (length (y ∷ xs)))) e
 
--- the steps of a count over time are counts of no more than all values
+-- the steps of a count over time are counts of at most all values
 count_steps : (vs : List Value) (m : StepSlices Ratio) → IsAggregate one_there steady_value steady_limit steady_limit (steady_course same).continues count vs (Some m) → AllByRecursion (λ s. IsCountTo (length vs) s.course.value) m
 count_steps vs m h = steps_each (IsCountTo (length vs)) m (ordered steady_limit steady_limit (steady_course same).continues m h.0.chained)
     (λ t x e. (length (values_at one_there vs t), count_to (values_at one_there vs t) x (sym e ∙ h.1 t), few_there one_there vs t))
@@ -136,7 +136,7 @@ fewer test (x ∷ xs) = by (test x) (fewer test xs)
     by true h = omega (arith, h)
     by false h = omega (arith, h)
 
--- adding one more to a count of so few values passes nothing
+-- adding one more to a count of so few values does not overflow
 pub count_fits : (kind : AggKind) (ty : SqlType) (vs : List Value) (v r a : Value) → is_count kind ≡ true → length vs + 1 < 2 ^ 62 → IsAggregated kind ty vs r → IsAggregated kind ty (v ∷ []) a → IsFirst (adding_entries kind ty r a) None
 count_fits CountAll ty vs v r a is few h k = subst (λ z. IsFirst (arithmetic_entries Added sql.Numeric z a) None) (sym h) (subst (λ z. IsFirst (arithmetic_entries Added sql.Numeric (counted (length vs)) z) None) (sym k) (plain (length vs) 1 few))
 count_fits Count ty vs v r a is few h k =

@@ -1,4 +1,4 @@
--- Two values of one column have the same field only where they are the same value.
+-- Two values of one column have the same field only if they are the same value.
 use Rattle.std.proofs.Common.{◌≡◌, ◌∙◌, inl, inr, ℤ, Ok, ap, sym, subst, true≢false}
 use Rattle.mob_ast.specs.declared.types.SqlType.{SqlType}
 use Rattle.mob_value.specs.declared.value.Value.{Value}
@@ -10,7 +10,7 @@ use Rattle.mob_literal.proofs.FieldsAgain.{field_again, null_again}
 use Rattle.mob_literal.proofs.SqlReading.{one_sql_reading}
 use Rattle.mob_tail.specs.GroupLaws.{IsStoredAs}
 
--- NULL has a field of its own
+-- the field of NULL differs from all others
 own_field : {R : Type 0} (type : SqlType) (day : ℤ) (v : Value) → IsReadableAs type day v → field_text day Null ≡ field_text day v → R
 own_field type day v h e = absurd (true≢false (sym (null_again type day) ∙ ap (is_null_field type) e ∙ (field_again type day v h).there))
 

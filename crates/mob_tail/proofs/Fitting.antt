@@ -15,7 +15,7 @@ module _ {X : Type 0} (P : X → Type 0) where
   each_at see (x ∷ ws) zero w lt is h = subst (λ z. P (see z)) (sym is) h.0
   each_at see (x ∷ ws) (suc i) w lt is h = let k : i < length ws = omega (arith, lt) in each_at see ws i w k is h.1
 
--- a list that is seen as two lists, split where the first ends
+-- a list that is seen as two lists, split at the end of the first
 pub halves : {W X : Type 0} (see : W → X) (ws front back : List W) (xs ys : List X) → ws ≡ front ++ back → length front ≡ length xs → map see ws ≡ xs ++ ys → (map see front ≡ xs) × (map see back ≡ ys)
 halves see ws front back xs ys parts count seen =
     let both : map see front ++ map see back ≡ xs ++ ys = sym (map-append see front back) ∙ ap (map see) (sym parts) ∙ seen in

@@ -11,7 +11,7 @@ use Rattle.mob_value.specs.declared.store.Store.{Store}
 use Rattle.mob_tail.specs.Aggregated.{counted, IsAggregated, AddingPasses}
 use Rattle.mob_tail.specs.Groups.{groups_on}
 
--- count(*) counts NULL, count does not, and the sum of no number is NULL
+-- count(*) counts NULL, count does not, and the sum of no numbers is NULL
 rows_counted : IsAggregated CountAll sql.Int (Null ∷ Null ∷ []) (counted 2)
 rows_counted = refl
 
@@ -27,7 +27,7 @@ nothing_summed = refl
 nothing_over_time : IsAggregated TCount sql.TInt (Null ∷ []) Null
 nothing_over_time = (None, λ t. refl, refl)
 
--- a first value passes no formula
+-- a first value never overflows
 first_adds : AddingPasses false TAnd sql.TBool [] (Truth true) None
 first_adds = (Null, (None, λ t. refl, refl), (Null, (None, λ t. refl, refl), refl))
 
@@ -45,7 +45,7 @@ of_all = record { distinct = false; items = []; from = 0 ∷ []; names = []; joi
 two_groups : groups_on by_column store (pos 10957) ((0 ∷ []) ∷ (1 ∷ []) ∷ (2 ∷ []) ∷ []) ≡ ((0 ∷ []) ∷ (2 ∷ []) ∷ []) ∷ ((1 ∷ []) ∷ []) ∷ []
 two_groups = refl
 
--- without GROUP BY there is one group, also of nothing
+-- without GROUP BY there is one group, even of no tuples
 one_group : groups_on of_all store (pos 10957) ((0 ∷ []) ∷ (1 ∷ []) ∷ []) ≡ ((0 ∷ []) ∷ (1 ∷ []) ∷ []) ∷ []
 one_group = refl
 

@@ -14,7 +14,7 @@ use Rattle.mob_tagg.specs.Rows.{earlier}
 use Rattle.mob_tail.specs.declared.group_cells.Group.{Group}
 use Rattle.mob_tail.specs.Groups.{is_bare, column_on, group_fields, same_texts, same_group, under_fields, has_groups}
 
--- each two keys differ
+-- any two keys differ
 abbrev pub AreApart : {K : Type 0} → (K → K → Bool) → List K → Type 0
 AreApart same [] = Unit {0}
 AreApart same (k ∷ ks) = (list_any (same k) ks ≡ false) × AreApart same ks
@@ -68,7 +68,7 @@ module _ {K : Type 0} (same : K → K → Bool) (equal : IsEquivalence same) whe
       by true e f = refl
       by false e f = any_left j k (first_keys same ks) e ∙ f
 
-  -- a key of a list is found there
+  -- a key in a list is found in it
   pub any_at : {X : Type 0} (f : X → K) (xs : List X) (i : ℕ) (x : X) → i < length xs → x ≡ get_or xs i x → list_any (same (f x)) (map f xs) ≡ true
   any_at f [] i x lt is = absurd (omega (arith, lt))
   any_at f (y ∷ xs) zero x lt is = ap (λ b. b || list_any (same (f x)) (map f xs)) (ap (λ z. same (f x) (f z)) (sym is) ∙ equal.refl (f x))
@@ -144,7 +144,7 @@ module _ (select : TypedSelectParts) (store : Store) (day : ℤ) where
     any_same j k [] e = refl
     any_same j k (l ∷ ks) e = ap₂ (λ a b. a || b) (texts_equal.congr j k l e) (any_same j k ks e)
 
-    -- the group of a tuple is there
+    -- the group of a tuple exists
     pub group_there : (keys : List (List (List ℕ))) (groups : List Group) (ts : List (List ℕ)) (t : List ℕ) (old : Group) → list_any (same_texts (Fields t)) keys ≡ true → Of keys ts groups → old ≡ get_or groups (position_or_len (same_texts (Fields t)) keys) old
         → (position_or_len (same_texts (Fields t)) keys < length groups) × ((k : List (List ℕ)) × (same_texts (Fields t) k ≡ true) × P (With k ts) old)
     group_there [] groups ts t old h k is = absurd (true≢false (sym h))

@@ -1,4 +1,4 @@
--- How far a loop is that brings tuples into their groups.
+-- The invariant of the loop that adds tuples to their groups.
 use Rattle.std.specs.Prelude.{◌≡◌, ◌⊎◌, Bool, true, false, cond, not, ◌||◌, ℕ, ◌+◌, ◌<◌, ℤ, refl, List, [], ◌∷◌, ◌++◌, Some, None, is_none, map, length, get_or, set, take, drop, filter, ◌≤◌, ◌^◌, zero, suc}
 use Rattle.std.specs.List.{AllZip, AllByRecursion, list_any, position_or_len}
 use Rattle.std.proofs.Common.{ap, ap₂, sym, ◌∙◌, subst, inl, inr, arith}
@@ -60,7 +60,7 @@ module _ (select : TypedSelectParts) (store : Store) (day : ℤ) where
   start_groups (k ∷ keys) [] columns e h n = absurd (omega (arith, n))
   start_groups (k ∷ keys) (g ∷ groups) columns e h n = (record { first = h.0.first; cells = subst (λ z. AllZip (IsCellOf select store day []) z g.cells.items) e (start_cells columns g.cells.items h.0.cells) }, start_groups keys groups columns e h.1 (omega (arith, n)))
 
-  -- ---- one tuple more
+  -- ---- one more tuple
 
   abbrev There : List ℕ → Scene
   There t = scene store select.from t day
@@ -74,7 +74,7 @@ module _ (select : TypedSelectParts) (store : Store) (day : ℤ) where
   group_err : (group : List (List ℕ)) (t : List ℕ) (old : Group) (f : PlacedFormula) → length group + 1 < 2 ^ 62 → IsGroupOf select store day group old → FailsInCells (There t) (is_none old.first) old.cells.items f → IsTuple (IsArgumentOn select store day) IsAddingTo group t (columns_of select) (Some f)
   group_err group t old f few h fails = cells_err select store day group t (columns_of select) old.cells.items (is_none old.first) f (ap is_none h.first) few fails h.cells
 
-  -- a group has no more tuples than there are
+  -- a group has at most as many tuples as there are
   few_with : (k : List (List ℕ)) (ts : List (List ℕ)) → length (With select store day k ts) ≤ length ts
   few_with k [] = omega arith
   few_with k (t ∷ ts) = by (same_texts k (group_fields select store day t)) (few_with k ts)
@@ -187,7 +187,7 @@ module _ (select : TypedSelectParts) (store : Store) (day : ℤ) where
 
   -- ---- rows
 
-  -- the values that are held for a group
+  -- the values of the states of a group
   cells_made : (group : List (List ℕ)) (columns : List Column) (cells : List GroupCell) → AllZip (IsCellOf select store day group) columns cells → (values : List Value) × AllZip IsCellHeld values cells × AllZip (IsColumnValue select store day group) columns values
   cells_made group [] [] h = ([], tt, tt)
   cells_made group [] (c ∷ cells) h = absurd h

@@ -1,4 +1,4 @@
--- Tuples are of one group exactly where the columns of GROUP BY have the same values on both.
+-- Tuples are in one group exactly if the columns of GROUP BY have the same values on both.
 use Rattle.std.proofs.Common.{◌≡◌, ◌∙◌, inl, inr, ℕ, ℤ, List, [], ◌∷◌, map, Bool, true, false, Ok, Err, refl, sym, ap, ap₂, subst, true≢false, codes}
 use Rattle.std.specs.Prelude.{if◌then◌else◌}
 use Rattle.std.specs.List.{AllByRecursion}
@@ -50,7 +50,7 @@ far_told : (t u : Ratio) → Fits t → Fits u → far_text t ≡ far_text u →
 unfolding far_text
 far_told t u f g e = number_told t u f g (append_cancel_right (number_text t) (number_text u) (codes ")") (append_cancel_left (codes "epoch+(") _ _ e))
 
--- the text of a moment of these years is no text of a far one
+-- the text of a moment in these years is never that of a moment outside them
 never_both : {R : Type 0} (day : ℤ) (t u : Ratio) → Fits t → is_dated day t ≡ true → is_dated day u ≡ false → moment_text day t ≡ moment_text day u → R
 unfolding is_dated
 never_both day t u f there far e =

@@ -1,4 +1,4 @@
--- The groups of keys, seen as what they refer to.
+-- The groups of keys that are references, as groups of what they refer to.
 use Rattle.std.specs.Prelude.{◌≡◌, Bool, true, false, cond, not, ℕ, ◌+◌, refl, List, [], ◌∷◌, map, filter, length, nat_eq}
 use Rattle.std.specs.List.{position_or_len}
 use Rattle.std.specs.Borrow.{Bor}

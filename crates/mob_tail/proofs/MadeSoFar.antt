@@ -1,11 +1,11 @@
--- How far a loop is that takes a list apart and makes something of each.
+-- The invariant of a loop that takes a list apart and makes something of each entry.
 use Rattle.std.specs.Prelude.{◌≡◌, refl, List, [], ◌∷◌, ◌++◌}
 use Rattle.std.specs.List.{AllZip}
 use Rattle.std.proofs.Common.{ap, sym, ◌∙◌, subst, append_assoc, append-nil}
 use Rattle.mob_tail.proofs.TupleSteps.{zip_more}
 
 module _ {A B C : Type 0} (R : A → B → Type 0) (Q : A → C → Type 0) where
-  -- Of what the list is of, the front is made, and what is left is of the rest.
+  -- The first entries of the list are made, and the rest is left.
   pub record IsMadeSoFar (all : List A) (made : List C) (left : List B) : Type 0 where
     pub front : List A
     pub back : List A
@@ -32,7 +32,7 @@ module _ {A B C : Type 0} (R : A → B → Type 0) (Q : A → C → Type 0) wher
   pub made_all : (all : List A) (made : List C) (left : List B) → left ≡ [] → IsMadeSoFar all made left → AllZip Q all made
   made_all all made left e h = end_by all h.front h.back made h.both h.done (subst (λ u. AllZip R h.back u) e h.rest)
 
--- lists of which each two are the same are the same
+-- two lists with equal entries are equal
 pub same_lists : {A : Type 0} (xs ys : List A) → AllZip (λ x y. y ≡ x) xs ys → ys ≡ xs
 same_lists [] [] h = refl
 same_lists [] (y ∷ ys) h = absurd h

@@ -1,4 +1,4 @@
--- How far a loop is that makes something of each entry of a list.
+-- The invariant of a loop that makes something of each entry of a list.
 use Rattle.std.proofs.Common.{◌≡◌, inl, inr, ℕ, ◌+◌, ◌<◌, List, [], ◌∷◌, ◌++◌, Result, Ok, Err, length, map, take, drop, get_or, ◌≤◌, refl, sym, ap, subst, ◌∙◌, arith}
 use Rattle.std.proofs.lemmas.List.{take_more, take_all, take-append-drop}
 use Rattle.mob_tail.specs.IsMadeOfEach.{IsMadeOfEach}
@@ -32,7 +32,7 @@ module _ {X Y F : Type 0} (R : X → Result Y F → Type 0) where
   made_length [] ys h = ap length h
   made_length (x ∷ xs) ys h = let e = made_length xs h.2.0 h.2.2 in let all = ap length h.2.1 in omega (arith, e, all)
 
--- what is made of what each entry is seen as
+-- making something of an entry through what it is seen as
 module _ {W X Y F : Type 0} (R : X → Result Y F → Type 0) (see : W → X) where
   pub made_seen : (ws : List W) (ys : List Y) → IsMadeOfEach (λ w. R (see w)) ws (Ok ys) → IsMadeOfEach R (map see ws) (Ok ys)
   made_seen [] ys h = h

@@ -1,4 +1,4 @@
--- A grouped query has one first fault, or none, and one row for each group.
+-- A grouped query has one first fault or none, and one row for each group.
 use Rattle.std.proofs.Common.{◌≡◌, ℕ, ℤ, Bool, true, false, List, [], ◌∷◌, Option, Some, None, Ok, refl, sym, ap, ap₂, subst, ◌∙◌, map}
 use Rattle.std.specs.Prelude.{option_map}
 use Rattle.std.specs.List.{AllZip}

@@ -1,4 +1,4 @@
--- A walk over steps and names: each makes a line, and behind the last step all lines are made.
+-- A walk over steps and names: each makes a line, and after the last step all lines are made.
 use Rattle.std.proofs.Common.{◌≡◌, ◌∙◌, ◌+◌, ◌<◌, sym, ap, arith, ℕ, zero, suc, List, [], ◌∷◌, ◌++◌, append-nil, append_assoc, drop, get_or, length, map, Option, Some}
 use Rattle.std.specs.Prelude.{is_some, slice_get}
 use Rattle.std.proofs.lemmas.List.{drop_more}
@@ -9,7 +9,7 @@ use Rattle.mob_plan.specs.declared.steps.Step.{Step}
 use Rattle.mob_plan.specs.Plans.{step_seen}
 use Rattle.mob_tail.specs.PlanAnswers.{plan_line, plan_rows}
 
--- the names from a place on, of which the first is there
+-- the names from a place on, where the first exists
 names_there : (names : List (List ℕ)) (place : ℕ) (name : List ℕ) → slice_get names place ≡ Some name → drop place names ≡ name ∷ drop (suc place) names
 names_there [] zero name is = absurd (cc is)
 names_there [] (suc place) name is = absurd (cc is)

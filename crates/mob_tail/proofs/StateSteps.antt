@@ -38,7 +38,7 @@ use Rattle.mob_slice.specs.declared.formula.Formula.{Formula}
 none_some : {A R : Type 0} (x : A) → None ≡ Some x → R
 none_some x e = cc
 
--- ---- parts that are together a value
+-- ---- parts that together are a value
 
 module _ {B : Type 0} (is_same : B → B → Bool) (exact : (a b : B) → IsTrue (is_same a b) ↔ (a ≡ b)) (make : StepSlices B → Value) (see : Value → Option (StepSlices B)) (seen : (r : Option (StepSlices B)) → see (or_nothing make r) ≡ r) (op : B → B → B) where
   held_as : (parts : List (Part (Steady B) B)) (o : Option (StepSlices B)) → MatchOption o (Unit {0}) (AreNormalBy (steady_course is_same)) → ((t : Ratio) → united_all op (parts_at steady_value parts t) ≡ slices_there steady_value o t) → AreTogether is_same make see op parts (or_nothing make o)
@@ -48,11 +48,11 @@ module _ {B : Type 0} (is_same : B → B → Bool) (exact : (a b : B) → IsTrue
     at_each = λ t. e t ∙ ap (λ z. slices_there steady_value z t) (sym (seen o));
   }
 
-  -- no part
+  -- no parts
   pub none_together : (parts : List (Part (Steady B) B)) → parts ≡ [] → AreTogether is_same make see op parts Null
   none_together parts e = held_as parts None tt (λ t. ap (λ z. united_all op (parts_at steady_value z t)) e)
 
-  -- one value more among the parts
+  -- one more value among the parts
   held_more : (parts new : List (Part (Steady B) B)) (r : Value) (w : StepSlices B) → AreTogether is_same make see op parts r → AreNormalBy (steady_course is_same) w
       → ((t : Ratio) → united_all op (parts_at steady_value new t) ≡ united_by op (united_all op (parts_at steady_value parts t)) (value_at steady_value w t)) → (u : Value) × AreTogether is_same make see op new u × IsUnion (steady_course is_same) make op (see r) (Some w) r u
   held_more parts new r w h n e = by (see r) h.normal (λ t. e t ∙ ap (λ z. united_by op z (value_at steady_value w t)) (h.at_each t))
@@ -92,12 +92,12 @@ module _ {B : Type 0} (is_same : B → B → Bool) (exact : (a b : B) → IsTrue
   left_alone None = refl
   left_alone (Some x) = refl
 
-  -- what the parts are together is that value
+  -- the parts together are that value
   pub together_is : (parts : List (Part (Steady B) B)) (r : Value) (o : Option (StepSlices B)) → AreTogether is_same make see op parts r → MatchOption o (Unit {0}) (AreNormalBy (steady_course is_same))
       → ((t : Ratio) → whole_at steady_value o t ≡ united_by op (united_all op (parts_at steady_value parts t)) None) → or_nothing make o ≡ r
   together_is parts r o h n e = ap (or_nothing make) (one_option o (see r) n h.normal (λ t. e t ∙ left_alone (united_all op (parts_at steady_value parts t)) ∙ h.at_each t)) ∙ sym h.seen
 
--- ---- what is held as it is
+-- ---- an aggregate held as one value
 
 held_whole : (kind : AggKind) (v r : Value) → IsHeld kind (Whole v) r → (is_in_parts kind ≡ false) × (v ≡ r)
 held_whole CountAll v r h = (refl, h)
@@ -135,16 +135,16 @@ whole_err left_out kind ty before v (Because g) f = λ r held vs h.
     f is.0 vs (subst (λ z. IsAggregated kind ty vs z) (sym is.1) h)
 whole_err left_out kind ty before v NoMemory f = tt
 
--- one value more of what is held as it is
+-- one more value in an aggregate that is held as one value
 pub whole_in : (left_out : Bool) (kind : AggKind) (ty : SqlType) (before new v : Value) (r : Result (Unit {0}) (Fault Formula)) → (is_in_parts kind ≡ false → IsAggregateWith left_out kind ty before v (made_in r new)) → IsStateWith left_out kind ty (Whole before) v (made_in r (Whole new))
 whole_in left_out kind ty before new v (Ok u) f = whole_ok left_out kind ty before v new f
 whole_in left_out kind ty before new v (Err e) f = whole_err left_out kind ty before v e f
 
--- a value that is left out
+-- a value that is ignored
 pub left_out_state : (kind : AggKind) (ty : SqlType) (s : State) (v : Value) → true ≡ leaves_out kind v → IsStateWith (leaves_out kind v) kind ty s v (Ok s)
 left_out_state kind ty s v e = λ r held vs h few. let both = left_out_with kind ty r v e vs h in (r, held, both.0, both.1)
 
--- ---- what is held in parts
+-- ---- an aggregate held in parts
 
 not_held : (left_out : Bool) (kind : AggKind) (ty : SqlType) (s : State) (v : Value) (r : Result State (Fault Formula)) → ((x : Value) → IsHeld kind s x → ⊥) → IsStateWith left_out kind ty s v r
 not_held left_out kind ty s v (Ok x) never = λ r held. absurd (never r held)
@@ -184,7 +184,7 @@ any_held TSum parts r h = absurd h
 any_held TCount parts r h = absurd h
 any_held TAnd parts r h = absurd h
 
--- what holds of the one kind that is held so holds of every kind
+-- what holds of the one kind that is held like this holds of every kind
 pub counts_at : (kind : AggKind) (ty : SqlType) (parts : CountParts) (v : Value) (r : Result State (Fault Formula)) → false ≡ leaves_out kind v → IsStateWith false TCount ty (Counts parts) v r → IsStateWith (leaves_out kind v) kind ty (Counts parts) v r
 counts_at TCount ty parts v r e h = subst (λ b. IsStateWith b TCount ty (Counts parts) v r) e h
 counts_at CountAll ty parts v r e h = not_held (leaves_out CountAll v) CountAll ty (Counts parts) v r (λ x k. k)
@@ -212,7 +212,7 @@ any_at TSum ty parts v r e h = not_held (leaves_out TSum v) TSum ty (Any parts) 
 any_at TCount ty parts v r e h = not_held (leaves_out TCount v) TCount ty (Any parts) v r (λ x k. k)
 any_at TAnd ty parts v r e h = not_held (leaves_out TAnd v) TAnd ty (Any parts) v r (λ x k. k)
 
--- ---- one value more
+-- ---- one more value
 
 -- what is counted of one value
 counted_as : (ty : SqlType) (v : Value) (o : Option (StepSlices Ratio)) → IsAggregated TCount ty (v ∷ []) (or_nothing MovingInt o) → IsAggregate one_there steady_value steady_limit steady_limit (steady_course same).continues count (v ∷ []) o
@@ -281,7 +281,7 @@ start_all parts e = λ ty. (Null, none_together same_bool same_bool_exact Moving
 pub start_any : (parts : TruthParts) → parts ≡ [] → IsStartState TOr (Any parts)
 start_any parts e = λ ty. (Null, none_together same_bool same_bool_exact MovingBool truths_of seen_truths one_holds parts e, (None, λ t. refl, refl))
 
--- ---- the value that is held
+-- ---- the value of a state
 
 pub counts_is : (kind : AggKind) (parts : CountParts) (r : Value) (o : Option (StepSlices Ratio)) → IsHeld kind (Counts parts) r → MatchOption o (Unit {0}) (AreNormalBy (steady_course same)) → ((t : Ratio) → whole_at steady_value o t ≡ united_by sum_of (united_all sum_of (parts_at steady_value parts t)) None) → or_nothing MovingInt o ≡ r
 counts_is kind parts r o h n e = together_is same same_exact MovingInt steps_of seen_steps sum_of parts r o (counts_held kind parts r h) n e

@@ -31,11 +31,11 @@ pub length_more : {A : Type 0} (xs : List A) (x : A) → length (xs ++ x ∷ [])
 length_more [] x = omega arith
 length_more (y ∷ xs) x = let e = length_more xs x in omega (arith, e)
 
--- what is made of the entries up to one, and of that one
+-- the results for the entries up to one, and for that one
 pub map_more : {A B : Type 0} (f : A → B) (xs : List A) (i : ℕ) (x : A) → i < length xs → x ≡ get_or xs i x → map f (take i xs) ++ f x ∷ [] ≡ map f (take (i + 1) xs)
 map_more f xs i x lt is = sym (ap (map f) (take_more xs i x lt ∙ ap (λ z. take i xs ++ z ∷ []) (sym is)) ∙ map-append f (take i xs) (x ∷ []))
 
--- the same of what is made of them in two steps
+-- the same in two steps
 pub mapped_more : {A B C : Type 0} (f : A → B) (g : B → C) (xs : List A) (i : ℕ) (x : A) → i < length xs → x ≡ get_or xs i x → (made next : List C) (y : C) → made ≡ map g (map f (take i xs)) → y ≡ g (f x) → next ≡ made ++ y ∷ [] → next ≡ map g (map f (take (i + 1) xs))
 mapped_more f g xs i x lt is made next y h k e =
     e ∙ ap₂ (λ ys z. ys ++ z ∷ []) h k ∙ sym (map-append g (map f (take i xs)) (f x ∷ [])) ∙ ap (map g) (map_more f xs i x lt is)
@@ -46,7 +46,7 @@ got_map f (y ∷ xs) zero x d lt is = ap f (sym is)
 got_map f (y ∷ xs) (suc i) x d lt is = got_map f xs i x d (omega (arith, lt)) is
 
 module _ (select : TypedSelectParts) (store : Store) (day : ℤ) where
-  -- a column that is no aggregate has no argument
+  -- a column that is not an aggregate has no argument
   abbrev nulls : List (List ℕ) → List Value
   nulls [] = []
   nulls (t ∷ ts) = Null ∷ nulls ts
@@ -93,7 +93,7 @@ module _ (select : TypedSelectParts) (store : Store) (day : ℤ) where
   cells_err group t (column ∷ columns) (c ∷ old) first f i few (inr h) k =
       inr ((column_ok group t column c.state h.0 first i few (subst (λ z. IsColumnWith (scene store select.from t day) z c.state first (Ok h.0)) k.0.0 h.1) k.0.1).1, cells_err group t columns old first f i few h.2 k.1)
 
--- a fault in a cell behind cells that have none
+-- a fault in a cell after cells that have none
 pub fails_at : (s : Scene) (first : Bool) (n : ℕ) (old now : List GroupCell) (c : GroupCell) (f : PlacedFormula) → n < length now → c ≡ get_or now n c → AreChanged (IsCellWith s first) n old now → IsColumnWith s (column_seen c.column) c.state first (Err f) → FailsInCells s first old f
 fails_at s first n [] [] c f lt is h k = absurd (omega (arith, lt))
 fails_at s first n [] (b ∷ now) c f lt is h k = absurd h
@@ -101,7 +101,7 @@ fails_at s first n (a ∷ old) [] c f lt is h k = absurd h
 fails_at s first zero (a ∷ old) (b ∷ now) c f lt is h k = inl (subst (λ z. IsColumnWith s (column_seen z.column) z.state first (Err f)) (is ∙ h.0) k)
 fails_at s first (suc n) (a ∷ old) (b ∷ now) c f lt is h k = inr (b.state, h.0.state, fails_at s first n old now c f (omega (arith, lt)) is h.1 k)
 
--- a value is what is held, where that is what is held of it for each kind
+-- a value of the state, if it is so for each kind
 pub held_value : (c : Column) (x : State) (r : Value) → IsHeldOf c x r → (v : Value) → ((kind : AggKind) (r : Value) → IsHeld kind x r → v ≡ r) → v ≡ r
 held_value (e, None) x r h v f = f CountAll r (subst (λ z. IsHeld CountAll z r) (sym h) refl)
 held_value (e, Some agg) x r h v f = f agg.kind r h

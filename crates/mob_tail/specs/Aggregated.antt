@@ -1,5 +1,4 @@
--- What an aggregate makes of the values of its argument in a group, and what adding one more value
--- passes.
+-- The aggregate of the values of an argument in a group, and the overflow of adding one more value.
 use Rattle.std.specs.Prelude.{◌≡◌, not, Bool, true, false, ℕ, pos, List, [], ◌∷◌, ◌++◌, filter, length, Option, Some, None, option_map, Result, Ok, Err}
 use Rattle.mob_ratio.specs.Ratio.{Ratio, whole}
 use Rattle.mob_ratio.specs.Order.{same}
@@ -28,7 +27,7 @@ use Rattle.mob_ordinary.specs.Ordinary.{is_null}
 use Rattle.mob_tagg.specs.United.{AreUnited}
 use Rattle.mob_tagg.specs.Aggregates.{put_there, made_of, IsAggregate, total, count, all_hold, some_holds}
 
--- so many, as a value
+-- a count, as a value
 abbrev pub counted : ℕ → Value
 counted n = Number (whole (pos n))
 
@@ -36,7 +35,7 @@ counted n = Number (whole (pos n))
 abbrev pub known_of : List Value → List Value
 known_of vs = filter (λ v. not (is_null v)) vs
 
--- the plain number that a value is
+-- the number of a plain number
 abbrev pub number_in : Value → Option Ratio
 number_in (Number a) = Some a
 number_in _ = None
@@ -59,13 +58,13 @@ abbrev pub lines_of : Value → Option (List (Slice Line))
 lines_of (MovingFrac m) = Some m
 lines_of _ = None
 
--- what slices have at an instant, where there are any
+-- the value of slices at an instant, if there are slices
 abbrev pub slices_there : {C B : Type 0} → (C → Ratio → Ratio → Ratio → B) → Option (List (Slice C)) → Ratio → Option B
 slices_there value None t = None
 slices_there value (Some slices) t = value_at value slices t
 
--- what a value has at an instant: a truth value, a number that goes by steps, a number that changes
--- evenly
+-- the value at an instant: a truth value, a number that changes in steps, a number that changes
+-- linearly
 abbrev pub truth_there : Value → Ratio → Option Bool
 truth_there v t = slices_there steady_value (truths_of v) t
 
@@ -75,7 +74,7 @@ step_there v t = slices_there steady_value (steps_of v) t
 abbrev pub line_there : Value → Ratio → Option Ratio
 line_there v t = slices_there line_value_of (lines_of v) t
 
--- 1, where a temporal value of any type is defined
+-- 1 where a temporal value of any type is defined
 abbrev pub one_where : {B : Type 0} → Option B → Option Ratio
 one_where o = option_map (λ x. whole (pos 1)) o
 
@@ -87,14 +86,14 @@ one_there (MovingText m) t = one_where (step_function m t)
 one_there (MovingPoint m) t = one_where (plane_function m t)
 one_there _ t = None
 
--- v is the one normal value that is at each instant f of what the values have there, or NULL where
--- they have nothing at any instant
+-- v is the one normal value that is, at each instant, f of the values that are defined there; or
+-- NULL if none is defined at any instant
 abbrev pub IsOverTime : {C B Z : Type 0} → CourseOf C Z → (List (Slice C) → Value) → (List B → Z) → (Value → Ratio → Option B) → List Value → Value → Type 0
 IsOverTime {C} course make f there vs v = (r : Option (List (Slice C))) × IsAggregate there course.value course.start course.end course.continues f vs r × (v ≡ or_nothing make r)
 
--- What an aggregate of this type makes of values: count(*) the number of all, count that of those
--- that are not NULL, sum their sum; tCount, tSum, tAnd and tOr at each instant how many are defined
--- there, their sum, whether all are true, and whether one is.
+-- The aggregate of values of this type. count(*) is the number of all values, count the number of
+-- those that are not NULL, sum their sum. At each instant tCount is how many are defined there,
+-- tSum their sum, tAnd whether all are true, and tOr whether one is.
 abbrev pub IsAggregated : AggKind → SqlType → List Value → Value → Type 0
 IsAggregated CountAll ty vs v = v ≡ counted (length vs)
 IsAggregated Count ty vs v = v ≡ counted (length (known_of vs))
@@ -121,14 +120,14 @@ adding_entries TAnd ty r a = []
 adding_entries TOr ty r a = []
 adding_entries kind ty r a = arithmetic_entries Added (adding_type kind ty) r a
 
--- whether an aggregate leaves a value out: all but count(*) leave out NULL
+-- whether an aggregate ignores a value: all but count(*) ignore NULL
 abbrev pub leaves_out : AggKind → Value → Bool
 leaves_out CountAll v = false
 leaves_out _ v = is_null v
 
--- The first formula that adding a value to the aggregate of those before it passes, or none. What
--- is added is the aggregate of this value alone: 1 for a count, and for tCount 1 where it is
--- defined. A first value is added to NULL or to 0, which passes no formula.
+-- The first formula that overflows when a value is added to the aggregate of those before it, or
+-- none. What is added is the aggregate of this value alone: 1 for a count, and for tCount 1 where
+-- it is defined. A first value is added to NULL or to 0, which never overflows.
 abbrev pub AddingPasses : Bool → AggKind → SqlType → List Value → Value → Option Formula → Type 0
 AddingPasses true kind ty before v f = f ≡ None
 AddingPasses false kind ty before v f = (r : Value) × IsAggregated kind ty before r × ((a : Value) × IsAggregated kind ty (v ∷ []) a × IsFirst (adding_entries kind ty r a) f)
@@ -136,18 +135,17 @@ AddingPasses false kind ty before v f = (r : Value) × IsAggregated kind ty befo
 abbrev pub IsAdding : Agg → List Value → Value → Option Formula → Type 0
 IsAdding agg before v f = AddingPasses (leaves_out agg.kind v) agg.kind agg.ty before v f
 
--- ---- one value more
+-- ---- one more value
 
--- r is two values over time together, by an operation where both are defined; the first where the
--- second is none, and the second where the first is none
+-- r joins two values over time: by an operation where both are defined, else it is the one that is
+-- defined
 abbrev pub IsUnion : {C B : Type 0} → CourseOf C B → (List (Slice C) → Value) → (B → B → B) → Option (List (Slice C)) → Option (List (Slice C)) → Value → Value → Type 0
 IsUnion {C} course make op (Some t) (Some a) before r = (u : List (Slice C)) × (r ≡ make u) × AreNormalBy course u × AreUnited course.value op t a u
 IsUnion course make op None (Some a) before r = r ≡ make a
 IsUnion course make op t None before r = r ≡ before
 
 -- What holds of the aggregate of values with one more, where `before` is that of the values without
--- it; or of the formula that adding it passes. The first argument says whether the value is left
--- out.
+-- it; or of the formula that overflows. The first argument is whether the value is ignored.
 abbrev pub IsAggregateWith : Bool → AggKind → SqlType → Value → Value → Result Value (Fault Formula) → Type 0
 IsAggregateWith left_out kind ty before v (Ok r) = (vs : List Value) → IsAggregated kind ty vs before → IsAggregated kind ty (vs ++ v ∷ []) r × AddingPasses left_out kind ty vs v None
 IsAggregateWith left_out kind ty before v (Err (Because f)) = (vs : List Value) → IsAggregated kind ty vs before → AddingPasses left_out kind ty vs v (Some f)

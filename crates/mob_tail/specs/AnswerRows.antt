@@ -6,11 +6,11 @@ use Rattle.mob_value.specs.declared.store.Store.{Store}
 use Rattle.mob_arrange.specs.Keyed.{Keyed, row_of_values}
 use Rattle.mob_tail.specs.GroupedAnswers.{IsGroupRow}
 
--- for each key whether it falls
+-- for each key, whether it is descending
 abbrev pub falls_of : TypedSelectParts → List Bool
 falls_of select = map (λ key. key.1) select.keys
 
--- the row of the values of its keys, and behind them of those of its fields
+-- the row: the values of its keys, then those of its fields
 abbrev pub answer_row : TypedSelectParts → ℤ → List Value → Keyed
 answer_row select day values = row_of_values day (length (falls_of select)) values
 

@@ -8,6 +8,6 @@ use Rattle.mob_records.specs.AnswerText.{answer_text}
 abbrev pub answer_names : TypedSelectParts → List (List ℕ)
 answer_names select = map (λ item. item.1) select.items
 
--- the text of the names and of rows that are an answer
+-- the text of the names and of the rows of an answer
 abbrev pub IsAnswerText : TypedSelectParts → (Result (List (List (List ℕ))) TupleFault → Type 0) → List ℕ → Type 0
 IsAnswerText select IsAnswer text = (rows : List (List (List ℕ))) × IsAnswer (Ok rows) × (text ≡ answer_text (answer_names select) rows)

@@ -1,4 +1,4 @@
--- What a query answers.
+-- The answer of a query.
 use Rattle.std.specs.Prelude.{◌≡◌, ◌⊎◌, ℤ, ℕ, List, Bool, true, false, Result, Ok, Err, map}
 use Rattle.mob_typed.specs.Trees.{TypedTree}
 use Rattle.mob_typed.specs.Selects.{TypedSelectParts}
@@ -13,16 +13,17 @@ use Rattle.mob_tail.specs.IsMadeOfEach.{IsMadeOfEach}
 use Rattle.mob_tail.specs.GroupedAnswers.{IsGroupedAnswer}
 use Rattle.mob_arrange.specs.Rows.{AreArranged}
 
--- the printed field of an entry of the select list
+-- the printed field of an entry of the select list, or its fault
 abbrev pub IsField : Scene → TypedTree × List ℕ → Result (List ℕ) PlacedFormula → Type 0
 IsField s item (Ok field) = (v : Value) × TreeEvaluatesTo s item.0 (Ok v) × (field ≡ field_text s.day v)
 IsField s item (Err f) = TreeEvaluatesTo s item.0 (Err f)
 
--- the value of a key
+-- the value of a key, or its fault
 abbrev pub IsKey : Scene → TypedTree × Bool → Result Value PlacedFormula → Type 0
 IsKey s key r = TreeEvaluatesTo s key.0 r
 
--- The fields of the select list on a tuple, and then the keys; or the first fault in this order.
+-- The fields of the select list on a tuple and the values of its keys, or the first fault. The
+-- fields are evaluated first.
 abbrev pub IsRowOf : TypedSelectParts → Scene → Result Keyed PlacedFormula → Type 0
 IsRowOf select s (Ok row) = IsMadeOfEach (IsField s) select.items (Ok row.fields) × IsMadeOfEach (IsKey s) select.keys (Ok row.keys)
 IsRowOf select s (Err f) = IsMadeOfEach (IsField s) select.items (Err f) ⊎ ((fields : List (List ℕ)) × IsMadeOfEach (IsField s) select.items (Ok fields) × IsMadeOfEach (IsKey s) select.keys (Err f))
@@ -39,8 +40,8 @@ IsPlainAnswer select store day kept (Ok answer) =
     (rows : List Keyed) × IsMadeOfEach (IsTupleRow select store day) kept (Ok rows) × AreArranged (map (λ key. key.1) select.keys) select.distinct select.limit rows answer
 IsPlainAnswer select store day kept (Err f) = IsMadeOfEach (IsTupleRow select store day) kept (Err f)
 
--- The rows of the answer on the kept tuples, or the first fault, where the first argument says
--- whether the query is grouped.
+-- The rows of the answer on the kept tuples, or the first fault. The first argument is whether the
+-- query is grouped.
 abbrev pub IsAnswerBy : Bool → TypedSelectParts → Store → ℤ → List (List ℕ) → Result (List (List (List ℕ))) TupleFault → Type 0
 IsAnswerBy false select store day kept r = IsPlainAnswer select store day kept r
 IsAnswerBy true select store day kept r = IsGroupedAnswer select store day kept r

@@ -6,7 +6,8 @@ use Rattle.mob_meaning.specs.Scene.{Scene}
 use Rattle.mob_meaning.specs.Evaluation.{PlacedFormula, TreeEvaluatesTo}
 use Rattle.mob_tail.specs.IsMadeOfEach.{IsMadeOfEach}
 
--- The values of the items, evaluated first, behind those of the keys; or the first fault.
+-- The values of the keys, then those of the items; or the first fault. The items are evaluated
+-- first.
 abbrev pub AreEvaluated : Scene → List TypedTree → List TypedTree → Result (List Value) PlacedFormula → Type 0
 AreEvaluated s items keys (Ok row) =
     (fields : List Value) × (front : List Value) × IsMadeOfEach (TreeEvaluatesTo s) items (Ok fields) × IsMadeOfEach (TreeEvaluatesTo s) keys (Ok front) × (row ≡ front ++ fields)

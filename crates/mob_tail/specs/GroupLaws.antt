@@ -1,4 +1,4 @@
--- Groups tell values apart, and no count passes a formula.
+-- Groups separate different values, and no count overflows.
 use Rattle.std.specs.Prelude.{◌≡◌, ◌⊎◌, ◌↔◌, ◌+◌, ◌<◌, ◌^◌, true, ℕ, ℤ, List, Some, length}
 use Rattle.std.specs.List.{AllByRecursion}
 use Rattle.mob_ast.specs.declared.types.SqlType.{SqlType}
@@ -22,27 +22,27 @@ use Rattle.mob_tail.specs.States.{is_count}
 abbrev pub IsStoredAs : SqlType → ℤ → Value → Type 0
 IsStoredAs type day v = (v ≡ Null) ⊎ IsReadableAs type day v
 
--- Two values of one column have the same field only where they are the same value, and NULL has a
--- field of its own.
+-- Two values of one column have the same field only if they are the same value, and the field of
+-- NULL differs from all others.
 abbrev pub FieldsTellValues : Type 0
 FieldsTellValues = (type : SqlType) (day : ℤ) (v w : Value) → IsStoredAs type day v → IsStoredAs type day w → field_text day v ≡ field_text day w → v ≡ w
 
--- a column has a type that a column of GROUP BY may have, and its value on a tuple is one that was
--- read as one of that type, or NULL
+-- a column has a type that GROUP BY allows, and its value on a tuple was read as one of that type,
+-- or is NULL
 abbrev pub IsKeyOn : TypedSelectParts → Store → ℤ → List ℕ → TypedTree → Type 0
 IsKeyOn select store day tuple column = (is_key (type_of column) ≡ true) × IsReadAs (type_of column) (column_on (scene store select.from tuple day) column)
 
--- the value of a column is the same on two tuples, NULL as NULL
+-- a column has the same value on two tuples, where NULL equals NULL
 abbrev pub HasSameValue : TypedSelectParts → Store → ℤ → List ℕ → List ℕ → TypedTree → Type 0
 HasSameValue select store day t u column = column_on (scene store select.from t day) column ≡ column_on (scene store select.from u day) column
 
--- Two tuples with such values in the columns of GROUP BY are of one group exactly where each of
--- these columns has the same value on both.
+-- Two tuples with such values in the columns of GROUP BY are in one group exactly if each of these
+-- columns has the same value on both.
 abbrev pub GroupsAreOfValues : Type 0
 GroupsAreOfValues = (select : TypedSelectParts) (store : Store) (day : ℤ) (t u : List ℕ) → AllByRecursion (IsKeyOn select store day t) select.groups → AllByRecursion (IsKeyOn select store day u) select.groups
     → (same_group select store day t u ≡ true) ↔ AllByRecursion (HasSameValue select store day t u) select.groups
 
--- Adding to a count of fewer than 2^62 - 1 values passes no formula. So no count has a fault of
--- adding, over all tuples that a memory holds, and counts may be taken together in any order.
+-- Adding to a count of fewer than 2^62 - 1 values does not overflow. So no count over tuples that
+-- fit in memory has a fault of adding, and counts may be added in any order.
 abbrev pub NoCountPasses : Type 0
 NoCountPasses = (select : TypedSelectParts) (store : Store) (day : ℤ) (before : List (List ℕ)) (tuple : List ℕ) (e : TypedTree) (agg : Agg) (f : PlacedFormula) → is_count agg.kind ≡ true → length before + 1 < 2 ^ 62 → AddingFails select store day before tuple (e, Some agg) f → ⊥

@@ -21,7 +21,7 @@ use Rattle.mob_tail.specs.States.{IsHeld, IsStartState, IsStateWith}
 use Rattle.mob_tail.specs.Groups.{column_on, group_fields, same_texts, has_groups, under_fields}
 use Rattle.mob_tail.specs.GroupedAnswers.{Column, columns_of, IsArgumentOf, IsColumnValue}
 
--- a column of the answer in the program, as definitions see it
+-- a column of the answer in the program, as the definitions have it
 abbrev pub column_seen : ColumnOf → Column
 column_seen c = (typed_of c.expression.now, c.agg)
 
@@ -30,13 +30,13 @@ abbrev pub IsAggregateOn : Scene → TypedTree → Agg → State → Result Stat
 IsAggregateOn s e agg before (Ok x) = (w : Value) × IsArgumentOf agg.kind s e (Ok w) × IsStateWith (leaves_out agg.kind w) agg.kind agg.ty before w (Ok x)
 IsAggregateOn s e agg before (Err f) = IsArgumentOf agg.kind s e (Err f) ⊎ ((w : Value) × IsArgumentOf agg.kind s e (Ok w) × (f.0 ≡ agg.place) × IsStateWith (leaves_out agg.kind w) agg.kind agg.ty before w (Err (Because f.1)))
 
--- a column that is no aggregate with one more tuple: its value on the first tuple, and then what
--- was held before
+-- a column that is not an aggregate, with one more tuple: its value on the first tuple, later the
+-- state as before
 abbrev pub IsPlainOn : Scene → TypedTree → Bool → State → State → Type 0
 IsPlainOn s e true before x = x ≡ Whole (column_on s e)
 IsPlainOn s e false before x = x ≡ before
 
--- a column of the answer with one more tuple, or its fault there; the fourth argument says whether
+-- a column of the answer with one more tuple, or its fault there; the fourth argument is whether
 -- the tuple is the first of its group
 abbrev pub IsColumnWith : Scene → Column → State → Bool → Result State PlacedFormula → Type 0
 IsColumnWith s (e, Some agg) before first r = IsAggregateOn s e agg before r
@@ -48,12 +48,12 @@ pub record IsCellWith (s : Scene) (first : Bool) (old new : GroupCell) : Type 0 
   pub column : column_seen new.column ≡ column_seen old.column
   pub state : IsColumnWith s (column_seen old.column) old.state first (Ok new.state)
 
--- a fault in a cell, where those before it have none
+-- a fault in a cell, if those before it have none
 abbrev pub FailsInCells : Scene → Bool → List GroupCell → PlacedFormula → Type 0
 FailsInCells s first [] f = ⊥
 FailsInCells s first (c ∷ cells) f = IsColumnWith s (column_seen c.column) c.state first (Err f) ⊎ ((x : State) × IsColumnWith s (column_seen c.column) c.state first (Ok x) × FailsInCells s first cells f)
 
--- what is held of the value of a column
+-- the state of a column has this value
 abbrev pub IsHeldOf : Column → State → Value → Type 0
 IsHeldOf (e, None) x r = x ≡ Whole r
 IsHeldOf (e, Some agg) x r = IsHeld agg.kind x r
@@ -61,16 +61,16 @@ IsHeldOf (e, Some agg) x r = IsHeld agg.kind x r
 abbrev pub IsCellHeld : Value → GroupCell → Type 0
 IsCellHeld r cell = IsHeldOf (column_seen cell.column) cell.state r
 
--- what is held for a group of no tuple
+-- the state of a column for a group without tuples
 abbrev pub IsStart : Column → State → Type 0
 IsStart (e, None) x = x ≡ Whole Null
 IsStart (e, Some agg) x = IsStartState agg.kind x
 
--- a cell for a group of no tuple
+-- a cell for a group without tuples
 abbrev pub IsStartCell : ColumnOf → GroupCell → Type 0
 IsStartCell column cell = (column_seen cell.column ≡ column_seen column) × IsStart (column_seen column) cell.state
 
--- what the program has of a group of no tuple
+-- the program's record of a group without tuples
 pub record IsStartGroup (columns : List ColumnOf) (g : Group) : Type 0 where
   pub first : g.first ≡ None
   pub cells : AllZip IsStartCell columns g.cells.items
@@ -80,7 +80,7 @@ abbrev pub first_of : List (List ℕ) → Option (List ℕ)
 first_of [] = None
 first_of (t ∷ group) = Some t
 
--- what is held of a column is its value for a group
+-- the state of a column has its value for a group
 abbrev pub IsStateOf : TypedSelectParts → Store → ℤ → List (List ℕ) → Column → State → Type 0
 IsStateOf select store day group column x = (r : Value) × IsHeldOf column x r × IsColumnValue select store day group column r
 
@@ -88,12 +88,12 @@ IsStateOf select store day group column x = (r : Value) × IsHeldOf column x r �
 abbrev pub IsCellOf : TypedSelectParts → Store → ℤ → List (List ℕ) → Column → GroupCell → Type 0
 IsCellOf select store day group column cell = (column_seen cell.column ≡ column) × IsStateOf select store day group column cell.state
 
--- what the program has of a group of these tuples
+-- the program's record of a group of these tuples
 pub record IsGroupOf (select : TypedSelectParts) (store : Store) (day : ℤ) (group : List (List ℕ)) (g : Group) : Type 0 where
   pub first : g.first ≡ first_of group
   pub cells : AllZip (IsCellOf select store day group) (columns_of select) g.cells.items
 
--- the fields of each group: without GROUP BY there is one, of no field
+-- the fields of each group: without GROUP BY there is one group, without fields
 abbrev pub keys_on : TypedSelectParts → Store → ℤ → List (List ℕ) → List (List (List ℕ))
 keys_on select store day kept = cond (has_groups select) (first_keys same_texts (map (group_fields select store day) kept)) ([] ∷ [])
 
@@ -101,6 +101,6 @@ keys_on select store day kept = cond (has_groups select) (first_keys same_texts 
 abbrev pub number_on : TypedSelectParts → Store → ℤ → List (List ℕ) → List ℕ → ℕ
 number_on select store day kept tuple = position_or_len (same_texts (group_fields select store day tuple)) (keys_on select store day kept)
 
--- what the program has of the groups of tuples that have these fields
+-- the program's records of the groups of tuples that have these fields
 abbrev pub AreGroupsOf : TypedSelectParts → Store → ℤ → List (List (List ℕ)) → List (List ℕ) → List Group → Type 0
 AreGroupsOf select store day keys tuples groups = AllZip (λ k g. IsGroupOf select store day (members same_texts k (under_fields select store day tuples)) g) keys groups

@@ -1,4 +1,4 @@
--- What a grouped query answers.
+-- The answer of a grouped query.
 use Rattle.std.specs.Prelude.{◌≡◌, ◌+◌, ℕ, ℤ, List, [], ◌∷◌, Bool, Option, Some, None, Result, Ok, Err, map, option_map, option_and_then, slice_get}
 use Rattle.std.specs.List.{AllZip}
 use Rattle.mob_operators.specs.declared.aggregate.AggKind.{AggKind}
@@ -25,11 +25,11 @@ use Rattle.mob_arrange.specs.Rows.{AreArranged}
 abbrev pub Column : Type 0
 Column = TypedTree × Option Agg
 
--- the aggregate over the expression of a number
+-- the aggregate over the expression of this number
 abbrev pub agg_at : List (Option Agg) → ℕ → Option Agg
 agg_at aggs number = option_and_then (λ agg. agg) (slice_get aggs number)
 
--- the columns of the answer from that of a number on
+-- the columns of the answer, from the one of this number on
 abbrev pub columns_from : List (Option Agg) → ℕ → List Output → List Column
 columns_from aggs number [] = []
 columns_from aggs number (o ∷ outputs) = (o.0, agg_at aggs number) ∷ columns_from aggs (number + 1) outputs
@@ -37,17 +37,17 @@ columns_from aggs number (o ∷ outputs) = (o.0, agg_at aggs number) ∷ columns
 abbrev pub columns_of : TypedSelectParts → List Column
 columns_of select = columns_from select.aggs 0 select.items
 
--- the argument of an aggregate on a tuple; that of count(*) is not evaluated
+-- the argument of an aggregate on a tuple, which count(*) does not evaluate; or its fault
 abbrev pub IsArgumentOf : AggKind → Scene → TypedTree → Result Value PlacedFormula → Type 0
 IsArgumentOf CountAll s e r = r ≡ Ok Null
 IsArgumentOf _ s e r = TreeEvaluatesTo s e r
 
--- that of a column; a column that is no aggregate has none
+-- the same for a column; one that is not an aggregate has no argument
 abbrev pub IsArgument : Scene → Column → Result Value PlacedFormula → Type 0
 IsArgument s (e, None) r = r ≡ Ok Null
 IsArgument s (e, Some agg) r = IsArgumentOf agg.kind s e r
 
--- the fault of adding a value to those before it in a column, at the place of the aggregate, or
+-- the fault of adding a value to those before it in a column, at the place of the aggregate; or
 -- none
 abbrev pub IsAddingTo : Column → List Value → Value → Option PlacedFormula → Type 0
 IsAddingTo (e, None) before v f = f ≡ None
@@ -57,34 +57,33 @@ IsAddingTo (e, Some agg) before v f = (g : Option Formula) × IsAdding agg befor
 abbrev pub IsArgumentOn : TypedSelectParts → Store → ℤ → List ℕ → Column → Result Value PlacedFormula → Type 0
 IsArgumentOn select store day tuple column r = IsArgument (scene store select.from tuple day) column r
 
--- The first fault on the tuples that are kept, or none: tuple by tuple and column by column that of
--- the argument, and then that of adding its value to the aggregate of the column over the earlier
--- tuples of its group.
+-- The first fault on the kept tuples, or none. On each tuple, column by column, the argument comes
+-- first, then adding its value to the aggregate over the earlier tuples of the group.
 abbrev pub IsGroupedFault : TypedSelectParts → Store → ℤ → List (List ℕ) → Option TupleFault → Type 0
 IsGroupedFault select store day kept f = IsRowFault (IsArgumentOn select store day) IsAddingTo (same_group select store day) (columns_of select) [] kept f
 
--- Adding the value of a column on that tuple, behind these, passes a formula, whether or not it is
--- the first fault.
+-- Adding the value of a column on this tuple, after these, overflows, whether or not it is the
+-- first fault.
 abbrev pub AddingFails : TypedSelectParts → Store → ℤ → List (List ℕ) → List ℕ → Column → PlacedFormula → Type 0
 AddingFails select store day before tuple column f = Adds (IsArgumentOn select store day) IsAddingTo (same_group select store day) before tuple column f
 
 -- The value of a column for a group: the aggregate of its argument over the tuples of the group in
--- order, or the value of a column of GROUP BY on the first of them.
+-- order, or the value of a column of GROUP BY on the first tuple.
 abbrev pub IsColumnValue : TypedSelectParts → Store → ℤ → List (List ℕ) → Column → Value → Type 0
 IsColumnValue select store day group (e, None) v = v ≡ first_value select store day group e
 IsColumnValue select store day group (e, Some agg) v = (vs : List Value) × AllZip (λ t w. IsArgumentOn select store day t (e, Some agg) (Ok w)) group vs × IsAggregated agg.kind agg.ty vs v
 
--- the value of a key for a group with these values of its columns: that of the column it means, or
--- of a column of GROUP BY on the first tuple
+-- the value of a key for a group whose columns have these values: that of the column it refers to,
+-- or of a column of GROUP BY on the first tuple
 abbrev pub key_value : TypedSelectParts → Store → ℤ → List (List ℕ) → List Value → TypedTree → Option ℕ → Value
 key_value select store day group values e (Some n) = value_or_null (slice_get values n)
 key_value select store day group values e None = first_value select store day group e
 
--- the number of the column that a key means
+-- the number of the column that a key refers to
 abbrev pub item_of : List (Option ℕ) → ℕ → Option ℕ
 item_of numbers key = option_and_then (λ n. n) (slice_get numbers key)
 
--- the values of the keys from that of a number on
+-- the values of the keys, from the one of this number on
 abbrev pub keys_from : TypedSelectParts → Store → ℤ → List (List ℕ) → List Value → ℕ → List (TypedTree × Bool) → List Value
 keys_from select store day group values number [] = []
 keys_from select store day group values number (k ∷ keys) = key_value select store day group values k.0 (item_of select.key_items number) ∷ keys_from select store day group values (number + 1) keys
@@ -96,8 +95,7 @@ pub record IsGroupRow (select : TypedSelectParts) (store : Store) (day : ℤ) (g
   pub fields : row.fields ≡ map (field_text day) values
   pub keys : row.keys ≡ keys_from select store day group values 0 select.keys
 
--- The rows of the answer on the tuples that are kept, a row for each group in order; or the first
--- fault.
+-- The rows of the answer on the kept tuples, one for each group in order; or the first fault.
 abbrev pub IsGroupedAnswer : TypedSelectParts → Store → ℤ → List (List ℕ) → Result (List (List (List ℕ))) TupleFault → Type 0
 IsGroupedAnswer select store day kept (Ok answer) =
     IsGroupedFault select store day kept None × ((rows : List Keyed) × AllZip (IsGroupRow select store day) (groups_on select store day kept) rows × AreArranged (map (λ key. key.1) select.keys) select.distinct select.limit rows answer)

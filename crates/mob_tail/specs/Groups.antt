@@ -10,18 +10,18 @@ use Rattle.mob_literal.specs.Fields.{field_text}
 use Rattle.mob_meaning.specs.Scene.{Scene, scene, leaf_value}
 use Rattle.mob_groups.specs.Groups.{groups_by}
 
--- whether a list has nothing
+-- whether a list is empty
 abbrev pub is_bare : {X : Type 0} → List X → Bool
 is_bare [] = true
 is_bare (x ∷ xs) = false
 
--- the value of a column on a tuple; what has operands is no column
+-- the value of a column on a tuple; an expression with operands is not a column
 abbrev pub column_on : Scene → TypedTree → Value
 column_on s (typed o ty place none) = leaf_value s o ty
 column_on s (typed o ty place (more e rest)) = Null
 
--- The printed fields of the columns of GROUP BY. Values of one column are the same exactly where
--- their fields are, and NULL is as NULL.
+-- The printed fields of the columns of GROUP BY. Values of one column are the same exactly if their
+-- fields are, and NULL equals NULL.
 abbrev pub group_fields : TypedSelectParts → Store → ℤ → List ℕ → List (List ℕ)
 group_fields select store day tuple = map (λ g. field_text day (column_on (scene store select.from tuple day) g)) select.groups
 
@@ -29,7 +29,7 @@ group_fields select store day tuple = map (λ g. field_text day (column_on (scen
 abbrev pub same_texts : List (List ℕ) → List (List ℕ) → Bool
 same_texts = pointwise (pointwise nat_eq)
 
--- whether two tuples are of one group
+-- whether two tuples are in one group
 abbrev pub same_group : TypedSelectParts → Store → ℤ → List ℕ → List ℕ → Bool
 same_group select store day t u = same_texts (group_fields select store day t) (group_fields select store day u)
 
@@ -41,12 +41,12 @@ under_fields select store day tuples = map (λ t. (group_fields select store day
 abbrev pub has_groups : TypedSelectParts → Bool
 has_groups select = not (is_bare select.groups)
 
--- The groups of the tuples that are kept, in the order of their first tuple; without GROUP BY one
--- group, also where nothing is kept.
+-- The groups of the kept tuples, in the order of their first tuples; without GROUP BY one group,
+-- even if no tuple is kept.
 abbrev pub groups_on : TypedSelectParts → Store → ℤ → List (List ℕ) → List (List (List ℕ))
 groups_on select store day kept = groups_by (has_groups select) same_texts (under_fields select store day kept)
 
--- the value of a column on the first tuple of a group, and NULL where it has none
+-- the value of a column on the first tuple of a group; NULL if the group has none
 abbrev pub first_value : TypedSelectParts → Store → ℤ → List (List ℕ) → TypedTree → Value
 first_value select store day [] column = Null
 first_value select store day (t ∷ group) column = column_on (scene store select.from t day) column

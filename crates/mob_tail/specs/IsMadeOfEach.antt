@@ -1,7 +1,7 @@
--- What is made of each entry of a list.
+-- What a function gives for each entry of a list.
 use Rattle.std.specs.Prelude.{◌≡◌, ◌⊎◌, List, [], ◌∷◌, Result, Ok, Err}
 
--- what is made of each entry, in order, or the first fault
+-- what it gives for each entry, in order, or the first fault
 abbrev pub IsMadeOfEach : {X Y F : Type 0} → (X → Result Y F → Type 0) → List X → Result (List Y) F → Type 0
 IsMadeOfEach R [] (Ok ys) = ys ≡ []
 IsMadeOfEach R [] (Err f) = ⊥

@@ -1,4 +1,4 @@
--- What a step makes of what it is lent.
+-- The result of a step that changes what it is lent.
 use Rattle.std.specs.Prelude.{Result, Ok, Err}
 
 -- what was lent is now this, or the step failed

@@ -15,7 +15,8 @@ item_trees select = map (λ item. item.0) select.items
 abbrev pub key_trees : TypedSelectParts → List TypedTree
 key_trees select = map (λ key. key.0) select.keys
 
--- what may be remembered of these: an operator at a place of the script at which they have no other
+-- what may be remembered of these: an operator at a place of the script, if no other operator is at
+-- that place
 abbrev pub answer_recollection : TypedSelectParts → Store → ℤ → Recollection
 answer_recollection select store day = recollection_of store select.from day (item_trees select ++ key_trees select)
 
@@ -23,6 +24,6 @@ answer_recollection select store day = recollection_of store select.from day (it
 abbrev pub SelectFits : Recollection → TypedSelectParts → Scene → Type 0
 SelectFits c select s = AllByRecursion (Fits c s) (item_trees select ++ key_trees select)
 
--- so it does on each tuple
+-- and does so on each tuple
 abbrev pub AnswerFits : Recollection → TypedSelectParts → Store → ℤ → Type 0
 AnswerFits c select store day = (tuple : List ℕ) → SelectFits c select (scene store select.from tuple day)

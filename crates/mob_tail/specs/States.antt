@@ -1,4 +1,4 @@
--- An aggregate of the values so far, as a group holds it.
+-- The state of an aggregate of the values so far.
 use Rattle.std.specs.Prelude.{◌≡◌, ◌+◌, ◌<◌, ◌^◌, Bool, true, false, List, [], ◌∷◌, ◌++◌, length, Option, Some, None, MatchOption, Result, Ok, Err}
 use Rattle.mob_ratio.specs.Ratio.{Ratio}
 use Rattle.mob_ratio.specs.Order.{same}
@@ -24,18 +24,18 @@ use Rattle.mob_tail.specs.declared.state.State.TheVariants.{Whole, Counts, All, 
 use Rattle.mob_tail.specs.Aggregated.{steps_of, truths_of, slices_there, IsAggregated, AddingPasses}
 use Rattle.mob_slice.specs.declared.formula.Formula.{Formula}
 
--- The parts are together, by the operation, the value r: at each instant they have what it has. It
--- is a normal value or NULL.
+-- The parts together, by the operation, are the value r: at each instant they have its value. r is
+-- a normal value or NULL.
 pub record AreTogether {B : Type 0} (is_same : B → B → Bool) (make : StepSlices B → Value) (see : Value → Option (StepSlices B)) (op : B → B → B) (parts : List (Part (Steady B) B)) (r : Value) : Type 0 where
   pub seen : r ≡ or_nothing make (see r)
   pub normal : MatchOption (see r) (Unit {0}) (AreNormalBy (steady_course is_same))
   pub at_each : (t : Ratio) → united_all op (parts_at steady_value parts t) ≡ slices_there steady_value (see r) t
 
--- the parts new have at each instant what the others have and the value w
+-- the new parts have, at each instant, the value of the others with that of w
 abbrev pub IsOneMore : {B : Type 0} → (B → B → B) → List (Part (Steady B) B) → List (Part (Steady B) B) → StepSlices B → Type 0
 IsOneMore op parts new w = (t : Ratio) → united_all op (parts_at steady_value new t) ≡ united_by op (united_all op (parts_at steady_value parts t)) (value_at steady_value w t)
 
--- parts of truth values with one more, or as they were where there is none
+-- parts of truth values with one more value; unchanged if there is none
 abbrev pub AreTruthsWith : (Bool → Bool → Bool) → List (Part (Steady Bool) Bool) → Option (StepSlices Bool) → List (Part (Steady Bool) Bool) → Type 0
 AreTruthsWith op parts None new = new ≡ parts
 AreTruthsWith op parts (Some w) new = AreNormalBy (steady_course same_bool) w × IsOneMore op parts new w
@@ -54,7 +54,7 @@ is_count Count = true
 is_count TCount = true
 is_count _ = false
 
--- what is held for an aggregate of this kind is the value r
+-- the state of an aggregate of this kind has the value r
 abbrev pub IsHeld : AggKind → State → Value → Type 0
 IsHeld TCount (Counts parts) r = AreTogether same MovingInt steps_of sum_of parts r
 IsHeld TCount _ r = ⊥
@@ -65,13 +65,13 @@ IsHeld TOr _ r = ⊥
 IsHeld kind (Whole v) r = v ≡ r
 IsHeld kind _ r = ⊥
 
--- what is held for the aggregate of no value
+-- the state of the aggregate of no value
 abbrev pub IsStartState : AggKind → State → Type 0
 IsStartState kind s = (ty : SqlType) → (r : Value) × IsHeld kind s r × IsAggregated kind ty [] r
 
--- What holds of the state of an aggregate of some values with one more, fewer than 2^62 with the
--- new one, where `before` is that of the values without it; or of the formula that adding it
--- passes. The first argument says whether the value is left out.
+-- What holds of the state of an aggregate of values with one more, fewer than 2^62 in all, where
+-- `before` is that of the values without it; or of the formula that overflows. The first argument
+-- is whether the value is ignored.
 abbrev pub IsStateWith : Bool → AggKind → SqlType → State → Value → Result State (Fault Formula) → Type 0
 IsStateWith left_out kind ty before v (Ok s) =
     (r : Value) → IsHeld kind before r → (vs : List Value) → IsAggregated kind ty vs r → length vs + 1 < 2 ^ 62

@@ -1,4 +1,4 @@
-//! The aggregate of values with one more.
+//! Adds one more value to an aggregate that is held as one value.
 ghost use Rattle.std.specs.Prelude.{◌≡◌, [], ◌∷◌, IfOk, IfErr, MatchResult, MatchOption, None, Some, true, false, option_map};
 ghost use Rattle.mob_ratio.specs.Order.{same};
 ghost use Rattle.mob_arith.specs.Operations.{sum_of};
@@ -25,14 +25,15 @@ use mob_typed::Agg;
 use mob_value::Value;
 use std::alloc::{AllocError, Global};
 
-/// Replaces what is held. At a type parameter the drop of the old value is one call.
+/// Replaces a value. At a type parameter, dropping the old value is a single call, which a proof
+/// can follow.
 pub fn put<T: Drop>(place: &mut T, value: T)
     ensures put { place.new ≡ value }
 {
     *place = value;
 }
 
-/// Whether an aggregate leaves a value out: all but count(*) leave out NULL.
+/// Whether an aggregate ignores a value: all but `count(*)` ignore NULL.
 pub fn leaves_out(kind: AggKind, value: &Value) -> bool
     ensures same { result ≡ leaves_out kind value.now }
 {
@@ -43,7 +44,7 @@ pub fn leaves_out(kind: AggKind, value: &Value) -> bool
     }
 }
 
-// The plain number that a value is.
+// The number of a plain number.
 fn number_in(value: &Value) -> Option<Frac>
     ensures number { result ≡ number_in value.now }
 {
@@ -53,7 +54,7 @@ fn number_in(value: &Value) -> Option<Frac>
     }
 }
 
-// The slices of a tint and a tfrac.
+// The slices of a tint or a tfrac.
 fn steps_of(value: &Value) -> Option<&Moving<Steady<Frac>>>
     ensures slices { option_map (λ m. m.now) result ≡ steps_of value.now }
 {
@@ -72,7 +73,7 @@ fn lines_of(value: &Value) -> Option<&Moving<Line>>
     }
 }
 
-// Puts the sum of two numbers in the place of what is held.
+// Replaces a value by the sum of two numbers.
 fn sum_in(before: &mut Value, a: &Frac, b: &Frac) -> Result<(), Fault<Formula>>
     ensures value { IfOk (made_in result before.new) (λ r. r ≡ Number (sum_of a.now b.now)) }
     ensures fits { IfOk (made_in result before.new) (λ _. IsFirst (arithmetic_entries Calculation.Sum SqlType.Numeric (Number a.now) (Number b.now)) None) }
@@ -87,7 +88,7 @@ fn sum_in(before: &mut Value, a: &Frac, b: &Frac) -> Result<(), Fault<Formula>>
     }
 }
 
-// Puts a copy of a value in the place of what is held.
+// Replaces a value by a copy of another.
 fn copy_in(alloc: Global, before: &mut Value, value: &Value) -> Result<(), Fault<Formula>>
     ensures copy { MatchResult (made_in result before.new) (λ r. r ≡ value.now) (λ e. e ≡ Fault.NoMemory) }
 {
@@ -100,19 +101,19 @@ fn copy_in(alloc: Global, before: &mut Value, value: &Value) -> Result<(), Fault
     }
 }
 
-// Counts one more.
+// Adds 1 to a count.
 fn one_more(before: &mut Value) -> Result<(), Fault<Formula>>
     ensures with { (ty : _) (v : _) → IsAggregateWith false AggKind.CountAll ty before.old v (made_in result before.new) }
     ensures known { (ty : _) (v : _) → is_null v ≡ false → IsAggregateWith false AggKind.Count ty before.old v (made_in result before.new) }
 {
     match number_in(before) {
-        // A count is a number.
+        // A count is a number, so this is never reached.
         None => Ok(()),
         Some(number) => sum_in(before, &number, &one()),
     }
 }
 
-// Brings one more into the sum of numbers, or NULL where there is none.
+// Adds a number to the sum of numbers, which is NULL if there is none yet.
 fn number_more(before: &mut Value, value: &Value) -> Result<(), Fault<Formula>>
     ensures with { (ty : _) → IsAggregateWith false AggKind.Sum ty before.old value.now (made_in result before.new) }
 {
@@ -128,7 +129,7 @@ fn number_more(before: &mut Value, value: &Value) -> Result<(), Fault<Formula>>
     }
 }
 
-// A tint of its slices.
+// A tint with these slices.
 fn int_value(moving: Moving<Steady<Frac>>) -> Value
     ensures value { result ≡ MovingInt moving }
     ensures normal { AreNormalBy (steady_course same) moving }
@@ -138,7 +139,7 @@ fn int_value(moving: Moving<Steady<Frac>>) -> Value
     Value::MovingInt(moving)
 }
 
-// A tfrac of its slices.
+// A tfrac with these slices.
 fn frac_value(moving: Moving<Line>) -> Value
     ensures value { result ≡ MovingFrac moving }
     ensures normal { AreNormalBy line_course moving }
@@ -148,7 +149,7 @@ fn frac_value(moving: Moving<Line>) -> Value
     Value::MovingFrac(moving)
 }
 
-// Brings one more into a sum of tints, or NULL where there is none.
+// Adds a tint to a sum of tints, which is NULL if there is none yet.
 fn steps_more(alloc: Global, before: &mut Value, value: &Value) -> Result<(), Fault<Formula>>
     ensures union { IfOk (made_in result before.new) (λ r. IsUnion (steady_course same) MovingInt sum_of (steps_of before.old) (steps_of value.now) before.old r) }
     ensures normal { MatchOption (steps_of value.now) (Unit {0}) (AreNormalBy (steady_course same)) }
@@ -172,7 +173,7 @@ fn steps_more(alloc: Global, before: &mut Value, value: &Value) -> Result<(), Fa
     }
 }
 
-// Brings one more into a sum of tfracs, or NULL where there is none.
+// Adds a tfrac to a sum of tfracs, which is NULL if there is none yet.
 fn lines_more(alloc: Global, before: &mut Value, value: &Value) -> Result<(), Fault<Formula>>
     ensures union { IfOk (made_in result before.new) (λ r. IsUnion line_course MovingFrac sum_of (lines_of before.old) (lines_of value.now) before.old r) }
     ensures normal { MatchOption (lines_of value.now) (Unit {0}) (AreNormalBy line_course) }
@@ -196,7 +197,7 @@ fn lines_more(alloc: Global, before: &mut Value, value: &Value) -> Result<(), Fa
     }
 }
 
-// 1 where a value over time is defined.
+// The value that is 1 exactly where a value over time is defined.
 fn ones_value<C: Course>(
     alloc: Global,
     moving: &Moving<C>,
@@ -210,7 +211,8 @@ fn ones_value<C: Course>(
     Ok(Some(ones))
 }
 
-/// The count over time of one value. None of what is no value over time.
+/// The count over time of one value; `None` for a value that is not over time. The only error is a
+/// failed allocation.
 pub fn ones_on(alloc: Global, value: &Value) -> Result<Option<Moving<Steady<Frac>>>, AllocError>
     ensures ones { IfOk result (λ o. (ty : _) → IsAggregated AggKind.TCount ty (value.now ∷ []) (or_nothing MovingInt o)) }
 {
@@ -224,7 +226,7 @@ pub fn ones_on(alloc: Global, value: &Value) -> Result<Option<Moving<Steady<Frac
     }
 }
 
-// Brings one more value into a sum over time of this type.
+// Adds one more value to a sum over time of this type.
 fn sum_more(
     alloc: Global,
     ty: SqlType,
@@ -240,8 +242,8 @@ fn sum_more(
     }
 }
 
-/// Brings one more value into an aggregate that is held as it is, where `before` is that of the
-/// values without it. What is held in parts stays as it is.
+/// Adds one more value to an aggregate that is held as one value; `before` is the aggregate of the
+/// values without it. An aggregate that is held in parts stays unchanged.
 pub fn aggregate_in(
     alloc: Global,
     agg: Agg,

@@ -1,4 +1,4 @@
-// What a query answers.
+//! The answer of a query.
 ghost use Rattle.std.specs.Prelude.{◌≡◌, ◌++◌, Ok, Err, IfOk, IfErr, map};
 ghost use Rattle.mob_typed.specs.Selects.{select_seen, output_of, key_seen};
 ghost use Rattle.mob_list.specs.Faults.{OnCause};
@@ -36,7 +36,7 @@ fn names_of(alloc: Global, items: &[(TExpr, Text)]) -> Result<Items<Text>, Alloc
     Ok(names)
 }
 
-// For each key whether it falls.
+// For each key, whether it is descending.
 fn falls_of(alloc: Global, keys: &[(TExpr, bool)]) -> Result<Vec<bool>, AllocError>
     ensures falls { IfOk result (λ falls. falls.items ≡ map (λ key. key.1) (map key_seen keys.now)) }
 {
@@ -69,8 +69,8 @@ fn text_of(
     )
 }
 
-// What a query that is not grouped answers on the tuples that it keeps, or the first fault, with a
-// memory of the operators of the expressions of its select list and its keys.
+// The answer of a query that is not grouped on the tuples that it keeps, or its first fault, with a
+// memory for the operators of its select list and its keys.
 fn answer_on<K: Remembering>(
     alloc: Global,
     select: &TypedSelect,
@@ -101,7 +101,7 @@ fn answer_on<K: Remembering>(
     }
 }
 
-// The text of a plain answer, with a memory that is made for it.
+// The text of a plain answer, with a memory made for it.
 fn answer_with<K: Remembering>(
     alloc: Global,
     select: &TypedSelect,
@@ -121,7 +121,7 @@ fn answer_with<K: Remembering>(
     answer_on(alloc, select, roots, store, kept, epoch, &memory)
 }
 
-// The text of a plain answer. What is remembered is picked here.
+// The text of a plain answer. It chooses what the memory remembers.
 fn plain_answer(
     alloc: Global,
     select: &TypedSelect,
@@ -135,7 +135,7 @@ fn plain_answer(
     answer_with::<Brand>(alloc, select, store, kept, epoch)
 }
 
-// What a grouped query answers on the tuples that it keeps, or the first fault.
+// The answer of a grouped query on the tuples that it keeps, or its first fault.
 fn grouped_answer(
     alloc: Global,
     select: &TypedSelect,
@@ -152,17 +152,18 @@ fn grouped_answer(
     }
 }
 
-/// The text of what a query answers on the tuples that it keeps, or the first fault on these tuples
-/// in order. Nothing is printed before all of them are evaluated.
+/// The text of the answer of a query on the tuples that it keeps, or the first fault on these
+/// tuples in order. Nothing is printed before all of them are evaluated.
 ///
-/// In a query that is not grouped the select list is evaluated on each tuple from left to right,
-/// and then the keys of ORDER BY. In a grouped one the argument of each aggregate is evaluated and
-/// added on each tuple, and there is a row for each group, in the order of their first tuples;
-/// without GROUP BY there is one group, also where no tuple is kept. The rows are put in the order
-/// of the keys: under ASC numbers rise, texts go by their bytes, false comes before true, and NULL
-/// comes last; under DESC all is the other way round, with NULL first; rows whose keys tie stay in
-/// their order. Then, under DISTINCT, of rows with equal fields the first stays, and then LIMIT
-/// cuts.
+/// In a query that is not grouped, the select list is evaluated on each tuple from left to right,
+/// then the keys of ORDER BY. In a grouped query, the argument of each aggregate is evaluated and
+/// added on each tuple. Each group gives one row, in the order of the first tuples of the groups;
+/// without GROUP BY there is one group, even if no tuple is kept.
+///
+/// The rows are then sorted by the keys. Under ASC numbers ascend, texts are in the order of their
+/// bytes, false comes before true, and NULL comes last. DESC reverses this, so NULL comes first.
+/// Rows with equal keys keep their order. DISTINCT keeps the first of the rows with equal fields,
+/// and LIMIT cuts the result.
 pub fn answered_text(
     alloc: Global,
     select: &TypedSelect,

@@ -25,7 +25,7 @@ pub struct Column<'a> {
     pub agg: Option<Agg>,
 }
 
-// The aggregate over the expression of a number.
+// The aggregate over the expression of this number.
 fn agg_at(aggs: &[Option<Agg>], number: usize) -> Option<Agg>
     ensures agg { result ≡ agg_at aggs.now number }
 {
@@ -53,7 +53,7 @@ pub fn columns_of<'a>(
     Ok(columns)
 }
 
-/// Whether there are no expressions.
+/// Whether there are no operands.
 pub fn is_bare(operands: &[TExpr]) -> bool
     ensures bare { result ≡ is_bare operands.now }
 {
@@ -63,8 +63,8 @@ pub fn is_bare(operands: &[TExpr]) -> bool
     }
 }
 
-/// The value of a column of a table on a tuple; NULL of what has operands. It fails for lack of
-/// memory alone.
+/// The value of a column of a table on a tuple; NULL for an expression with operands. The only
+/// error is a failed allocation.
 pub fn column_on<'a>(alloc: Global, e: &TExpr, view: &View<'a>) -> Result<Held<'a>, AllocError>
     ensures value { IfOk result (λ h. held h ≡ column_on (scene_of view.now) (typed_of e.now)) }
 {

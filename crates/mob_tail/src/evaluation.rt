@@ -1,4 +1,4 @@
-// The rows of the kept tuples: the values of their fields and of their keys.
+//! The rows of the kept tuples: the values of their fields and of their keys.
 ghost use Rattle.std.specs.Prelude.{◌≡◌, ◌++◌, List, Ok, Err, IfOk, IfErr, MatchResult, map};
 ghost use Rattle.std.specs.List.{AllByRecursion};
 ghost use Rattle.mob_typed.specs.Selects.{select_seen};
@@ -28,7 +28,7 @@ use mob_typed::{TExpr, TypedSelect};
 use mob_value::Store;
 use std::alloc::Global;
 
-// A value, where it stands or made.
+// A value, lent or made.
 fn lent<'a>(alloc: Global, found: Held<'a>) -> Result<RowValue<'a>, EvalFault>
     ensures value { MatchResult result (λ v. row_value v ≡ held found.entry) (λ e. e ≡ Fault.NoMemory) }
 {
@@ -38,7 +38,7 @@ fn lent<'a>(alloc: Global, found: Held<'a>) -> Result<RowValue<'a>, EvalFault>
     }
 }
 
-// The value of an expression. A stored or remembered one is not copied.
+// The value of an expression. A stored or remembered value is not copied.
 fn value_of<'a, K: Remembering>(
     alloc: Global,
     e: &TExpr,
@@ -144,9 +144,9 @@ fn row_of<'a, K: Remembering>(
     row_on(alloc, items, keys, &view, memory)
 }
 
-/// The rows of these tuples, in order, or the first fault: on each tuple the expressions of the
-/// select list are evaluated, and then those of the keys. With a memory, what its operators gave is
-/// taken from there. What a row has that stands in the store or in the memory is not copied.
+/// The rows of these tuples, in order, or the first fault. On each tuple the expressions of the
+/// select list are evaluated, then those of the keys. A memory gives the outcomes of operators that
+/// it has. Values in the store or in the memory are not copied.
 pub fn rows_on<'a, K: Remembering>(
     alloc: Global,
     select: &'a TypedSelect,

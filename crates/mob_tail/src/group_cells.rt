@@ -22,22 +22,22 @@ use mob_value::Value;
 use std::alloc::{AllocError, Global};
 use std::mem::drop;
 
-/// A column of the answer with what is held of its value for one group.
+/// A column of the answer, with the state of its value for one group.
 #[derive(Drop)]
 pub struct GroupCell<'a> {
     pub column: Column<'a>,
     pub state: State,
 }
 
-/// A group as it is so far: its first tuple, if it has one, and the columns of the answer with
-/// what is held of their values.
+/// A group so far: its first tuple, if it has one, and the columns of the answer with the states of
+/// their values.
 #[derive(Drop)]
 pub struct Group<'a> {
     pub first: Option<Tuple>,
     pub cells: Vec<GroupCell<'a>>,
 }
 
-// Brings the argument of an aggregate on one more tuple into it.
+// Adds the argument of an aggregate on one more tuple.
 fn argument_in(
     alloc: Global,
     agg: Agg,
@@ -55,7 +55,7 @@ fn argument_in(
     }
 }
 
-// Brings one more tuple into an aggregate.
+// Adds one more tuple to an aggregate.
 fn aggregate_on(
     alloc: Global,
     agg: Agg,
@@ -72,7 +72,7 @@ fn aggregate_on(
     }
 }
 
-// Puts the value of a column on a tuple in the place of what is held of it.
+// Replaces the state of a column by its value on a tuple.
 fn plain_on(alloc: Global, e: &TExpr, view: &View<'_>, state: &mut State) -> Result<(), EvalFault>
     ensures value { IfOk result (λ _. state.new ≡ State.Whole (column_on (scene_of view.now) (typed_of e.now))) }
     ensures memory { IfErr result (λ e. e ≡ Fault.NoMemory) }
@@ -89,7 +89,7 @@ fn plain_on(alloc: Global, e: &TExpr, view: &View<'_>, state: &mut State) -> Res
     }
 }
 
-// Brings one more tuple, which is the first of its group or not, into a cell.
+// Adds one more tuple, the first of its group or a later one, to a cell.
 fn cell_with(
     alloc: Global,
     cell: &mut GroupCell<'_>,
@@ -112,7 +112,7 @@ fn cell_with(
     }
 }
 
-// Brings one more tuple into each cell, or tells the first fault.
+// Adds one more tuple to each cell, or returns the first fault.
 fn cells_with(
     alloc: Global,
     cells: &mut Vec<GroupCell<'_>>,
@@ -131,7 +131,7 @@ fn cells_with(
     Ok(())
 }
 
-// The first tuple of a group with one more.
+// The first tuple of a group with one more tuple.
 fn first_with(first: &Option<Tuple>, tuple: &Tuple) -> Tuple
     ensures first { (group : _) → first.now ≡ first_of group → Some result ≡ first_of (group ++ tuple.now ∷ []) }
 {
@@ -141,7 +141,7 @@ fn first_with(first: &Option<Tuple>, tuple: &Tuple) -> Tuple
     }
 }
 
-/// Brings one more tuple into a group, or tells the first fault.
+/// Adds one more tuple to a group, or returns the first fault.
 pub fn group_with(
     alloc: Global,
     group: &mut Group<'_>,
@@ -157,7 +157,7 @@ pub fn group_with(
     cells_with(alloc, &mut group.cells, view, is_first)
 }
 
-// A column for a group of no tuple.
+// The state of a column for a group without tuples.
 fn start_of(alloc: Global, column: &Column<'_>) -> State
     ensures start { IsStart (column_seen column.now) result }
 {
@@ -167,7 +167,7 @@ fn start_of(alloc: Global, column: &Column<'_>) -> State
     }
 }
 
-// The cells of a group of no tuple.
+// The cells of a group without tuples.
 fn no_cells<'a>(alloc: Global, columns: &[Column<'a>]) -> Result<Vec<GroupCell<'a>>, AllocError>
     ensures start { IfOk result (λ cells. AllZip IsStartCell columns.now cells.items) }
 {
@@ -181,7 +181,7 @@ fn no_cells<'a>(alloc: Global, columns: &[Column<'a>]) -> Result<Vec<GroupCell<'
     Ok(cells)
 }
 
-/// So many groups of no tuple.
+/// `count` groups without tuples.
 pub fn no_groups<'a>(
     alloc: Global,
     columns: &[Column<'a>],

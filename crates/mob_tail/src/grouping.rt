@@ -109,7 +109,7 @@ fn numbers_of(alloc: Global, keys: &[Items<Text>]) -> Result<Groups, AllocError>
     numbered(alloc, all)
 }
 
-// How many groups there are: without GROUP BY one, also where nothing is kept.
+// How many groups there are; without GROUP BY one, even if no tuple is kept.
 fn count_of(select: &TypedSelect, groups: usize) -> usize
     ensures count { result ≡ cond (has_groups (select_seen select.now)) groups 1 }
 {
@@ -120,7 +120,7 @@ fn count_of(select: &TypedSelect, groups: usize) -> usize
     }
 }
 
-// Brings each tuple into its group, or tells the first fault.
+// Adds each tuple to its group, or returns the first fault.
 fn grouped_tuples(
     alloc: Global,
     select: &TypedSelect,
@@ -152,7 +152,7 @@ fn grouped_tuples(
     Ok(())
 }
 
-// Values as those of a row.
+// Values as the values of a row.
 fn row_values<'a>(alloc: Global, values: Vec<Value>) -> Result<Items<RowValue<'a>>, AllocError>
     ensures values { IfOk result (λ held. map row_value held ≡ values.items) }
 {
@@ -163,7 +163,7 @@ fn row_values<'a>(alloc: Global, values: Vec<Value>) -> Result<Items<RowValue<'a
     Ok(Items::from_vec(held))
 }
 
-// The number of the column that a key means.
+// The number of the column that a key refers to, if any.
 fn item_of(numbers: &[Option<u32>], key: usize) -> Option<u32>
     ensures item { result ≡ item_of numbers.now key }
 {
@@ -173,7 +173,7 @@ fn item_of(numbers: &[Option<u32>], key: usize) -> Option<u32>
     }
 }
 
-// The value of the column of a number, and NULL where there is none.
+// The value of the column of this number; NULL if there is none.
 fn item_value(alloc: Global, values: &[Value], number: u32) -> Result<Value, AllocError>
     ensures value { IfOk result (λ v. v ≡ value_or_null (slice_get values.now number)) }
 {
@@ -183,7 +183,7 @@ fn item_value(alloc: Global, values: &[Value], number: u32) -> Result<Value, All
     }
 }
 
-// The value of a column on the first tuple of a group, and NULL where it has none.
+// The value of a column on the first tuple of a group; NULL if the group has none.
 fn first_value(
     alloc: Global,
     select: &TypedSelect,
@@ -206,7 +206,7 @@ fn first_value(
     column_on(alloc, e, &view)?.own(alloc)
 }
 
-// The value of a key for a group with these values of its columns.
+// The value of a key for a group whose columns have these values.
 fn key_value(
     alloc: Global,
     select: &TypedSelect,
@@ -225,7 +225,7 @@ fn key_value(
     }
 }
 
-// The values of the keys for a group with these values of its columns.
+// The values of the keys for a group whose columns have these values.
 fn key_values(
     alloc: Global,
     select: &TypedSelect,
@@ -244,7 +244,7 @@ fn key_values(
     Ok(Items::from_vec(values))
 }
 
-// The row of a group with these values of its columns.
+// The row of a group whose columns have these values.
 fn row_with<'a>(
     alloc: Global,
     select: &TypedSelect,
@@ -312,7 +312,7 @@ fn groups_of(
     })
 }
 
-// The groups of no tuple yet, and the number of the group of each tuple.
+// Groups without tuples, and the number of the group of each tuple.
 fn begun<'a>(
     alloc: Global,
     select: &'a TypedSelect,
@@ -329,9 +329,9 @@ fn begun<'a>(
     Ok((found.numbers, groups))
 }
 
-/// The rows of the groups of these tuples, in the order of their first tuple, or the first fault:
-/// tuple by tuple and column by column that of the argument of an aggregate, and then that of
-/// adding its value to those of the earlier tuples of its group.
+/// The rows of the groups of these tuples, in the order of their first tuples, or the first fault.
+/// On each tuple, column by column, the argument of an aggregate is evaluated, then added to those
+/// of the earlier tuples of the group.
 pub fn grouped_rows<'a>(
     alloc: Global,
     select: &TypedSelect,

@@ -1,4 +1,4 @@
-//! The text of what a query answers on the tuples that it keeps, and of what EXPLAIN answers.
+//! The text of the answer of a query on the tuples that it keeps, and of the answer of EXPLAIN.
 #![tactic(auto)]
 
 mod adding;

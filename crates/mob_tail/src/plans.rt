@@ -1,4 +1,4 @@
-// What EXPLAIN answers.
+//! The answer of EXPLAIN.
 ghost use Rattle.std.specs.Prelude.{◌≡◌, ◌++◌, ◌∷◌, [], IfOk, codes, map, option_map};
 ghost use Rattle.mob_typed.specs.Trees.{typed_of};
 ghost use Rattle.mob_typed.specs.Selects.{select_seen};
@@ -21,7 +21,7 @@ fn left_word(left: bool) -> &'static str
     if left { "left " } else { "" }
 }
 
-// The line of a table of which all rows are taken, behind this word.
+// The line, after this word, of a table that is scanned.
 fn scan_line(alloc: Global, word: &str, name: &str) -> Result<Text, AllocError>
     ensures says { IfOk result (λ line. line ≡ word.now ++ codes "scan " ++ name.now) }
 {
@@ -31,7 +31,7 @@ fn scan_line(alloc: Global, word: &str, name: &str) -> Result<Text, AllocError>
     Ok(Text::from_string(line))
 }
 
-// The line of a table of which an index gives the rows, behind this word.
+// The line, after this word, of a table whose rows an index gives.
 fn probe_line(alloc: Global, word: &str, name: &str, index: &str) -> Result<Text, AllocError>
     ensures says { IfOk result (λ line. line ≡ word.now ++ codes "probe " ++ name.now ++ codes " by " ++ index.now) }
 {
@@ -90,9 +90,10 @@ fn lines_of(
     Ok(rows)
 }
 
-/// The text of what EXPLAIN answers for the plan of a query: one column, `plan`, and for each table
-/// of FROM a line, `scan` and the name that the table goes by, or `probe`, this name, `by` and the
-/// name of the index. The line of a left-joined table begins with `left`.
+/// The text of the answer of EXPLAIN for the plan of a query. It has one column, `plan`, and one
+/// line for each table of FROM: `scan` and the name of the table in the query, or `probe`, that
+/// name, `by` and the name of the index. The line of a left-joined table begins with `left`. The
+/// only error is a failed allocation.
 pub fn plan_text(
     alloc: Global,
     plan: &Plan,

@@ -1,4 +1,4 @@
-// The expressions of the select list and of the keys, which are evaluated on each tuple.
+//! The expressions of the select list and of the keys, which are evaluated on each tuple.
 ghost use Rattle.std.specs.Prelude.{◌≡◌, ◌++◌, IfOk, map};
 ghost use Rattle.mob_typed.specs.Selects.{output_of, key_seen, select_seen};
 ghost use Rattle.mob_eval.specs.Remembered.{root_seen};
@@ -19,7 +19,7 @@ fn item_roots<'a>(alloc: Global, items: &'a [(TExpr, Text)]) -> Result<Vec<&'a T
     Ok(roots)
 }
 
-// The expressions of the select list, and behind them those of the keys.
+// The expressions of the select list, then those of the keys.
 fn roots_in<'a>(
     alloc: Global,
     items: &'a [(TExpr, Text)],
@@ -34,7 +34,8 @@ fn roots_in<'a>(
     Ok(roots)
 }
 
-/// The expressions of the select list, and behind them those of the keys.
+/// The expressions of the select list, then those of the keys. The only error is a failed
+/// allocation.
 pub fn roots_of(alloc: Global, select: &TypedSelect) -> Result<Vec<&TExpr>, AllocError>
     ensures roots { IfOk result (λ v. map root_seen v.items ≡ item_trees (select_seen select.now) ++ key_trees (select_seen select.now)) }
 {

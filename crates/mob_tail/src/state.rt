@@ -1,4 +1,4 @@
-//! An aggregate of the values so far, as a group holds it.
+//! The state of an aggregate of the values so far.
 ghost use Rattle.std.specs.Prelude.{◌≡◌, OnOk, IfOk, IfErr, false};
 ghost use Rattle.mob_ratio.specs.Ratio.{Ratio};
 ghost use Rattle.mob_slice.specs.Slices.{value_at};
@@ -23,13 +23,13 @@ use std::alloc::{AllocError, Global};
 use std::mem;
 use std::mem::drop;
 
-/// An aggregate of the values so far.
+/// The state of an aggregate of the values so far.
 ///
-/// A count, a conjunction and a disjunction over time are held in parts, each of so many values
-/// taken together. So no value is taken together with the long aggregate of all before it.
+/// A count, a conjunction or a disjunction over time is held in parts, each made of some of the
+/// values. So a new value is not combined with the long aggregate of all values before it.
 #[derive(Drop)]
 pub enum State {
-    /// The aggregate.
+    /// The aggregate itself.
     Whole(Value),
     /// The parts of a count over time.
     Counts(Items<Part<Steady<Frac>>>),
@@ -54,7 +54,7 @@ pub fn nothing_yet(alloc: Global, kind: AggKind) -> State
     }
 }
 
-// Brings one more value into parts that are held.
+// Adds one more value to parts.
 fn part_in<C: Course + Drop, U: Uniting<C>>(
     alloc: Global,
     parts: &mut Items<Part<C>>,
@@ -73,7 +73,7 @@ fn part_in<C: Course + Drop, U: Uniting<C>>(
     }
 }
 
-// Brings one more value into a count over time.
+// Adds one more value to a count over time.
 fn counts_in(
     alloc: Global,
     parts: &mut Items<Part<Steady<Frac>>>,
@@ -88,7 +88,7 @@ fn counts_in(
     }
 }
 
-// The slices of a tbool, in memory of their own. None of what is no tbool.
+// A copy of the slices of a tbool; `None` for other values.
 fn truths_copy(alloc: Global, value: &Value) -> Result<Option<Moving<Steady<bool>>>, AllocError>
     ensures copy { IfOk result (λ o. o ≡ truths_of value.now) }
 {
@@ -101,7 +101,7 @@ fn truths_copy(alloc: Global, value: &Value) -> Result<Option<Moving<Steady<bool
     }
 }
 
-// Brings one more value into a conjunction or a disjunction over time.
+// Adds one more value to a conjunction or a disjunction over time.
 fn truths_in<U: Uniting<Steady<bool>>>(
     alloc: Global,
     parts: &mut Items<Part<Steady<bool>>>,
@@ -121,11 +121,11 @@ fn truths_in<U: Uniting<Steady<bool>>>(
     }
 }
 
-/// Brings one more value into an aggregate, where `state` is that of the values without it.
+/// Adds one more value to an aggregate whose state without it is `state`.
 ///
-/// The fault names the formula that adding the value passes: F2 of `+` for a count or a sum, and
-/// for a sum over time the first formula of `+` at each instant. NULL is left out but by
-/// `count(*)`.
+/// `Passed` has the formula that overflows: F2 of `+` for a count or a sum, and for a sum over time
+/// the first formula of `+` at each instant. NULL is ignored, except by `count(*)`. `NoMemory`
+/// comes if an allocation fails.
 pub fn state_in(
     alloc: Global,
     agg: Agg,
@@ -145,7 +145,7 @@ pub fn state_in(
     }
 }
 
-/// The aggregate that is held.
+/// The aggregate of a state. The only error is a failed allocation.
 pub fn value_of(alloc: Global, state: State) -> Result<Value, AllocError>
     ensures value { (kind : _) (r : _) → IsHeld kind state r → IfOk result (λ v. v ≡ r) }
 {

@@ -1,4 +1,4 @@
--- A row fits or passes, and the program is one.
+-- A row fits or has a part that does not, and the program is exact.
 use Rattle.std.specs.Prelude.{◌≡◌, ◌∷◌, [], ℕ, List, Some, None, refl}
 use Rattle.std.specs.List.{AllByRecursion, flat_map}
 use Rattle.std.proofs.Common.{subst, inl, inr}

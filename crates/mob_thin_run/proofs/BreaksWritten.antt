@@ -1,5 +1,5 @@
--- The breaks of a trip that was read are at instants and places that are written: the instants lie
--- in the years 0001 to 9999, and all their numbers fit.
+-- The breaks of a trip that was read are at written instants and places: the instants are in the
+-- years 0001 to 9999, and all their numbers fit.
 use Rattle.std.specs.Prelude.{◌≡◌, ◌∷◌, ◌++◌, ◌^◌, [], ℤ, Bool, true, false, cond, List, map, nat_lt, nat_abs, Option, Some, None, MatchOption, Ok, refl}
 use Rattle.std.specs.List.{AllByRecursion}
 use Rattle.std.proofs.Common.{sym, ◌∙◌, subst, inl, inr}
@@ -48,8 +48,8 @@ use Rattle.mob_simplify.specs.declared.breaks.Break.{Break}
 use Rattle.mob_simplify.proofs.Tidied.{normal_breaks}
 use Rattle.mob_thin_run.proofs.MomentsDated.{moment_dated}
 
--- ---- what a literal is made of
--- each entry of each sequence meets P
+-- ---- the parts of a literal
+-- each entry of each sequence satisfies P
 abbrev AllEntries : {A : Type 0} → (A → Type 0) → List (Sequence A) → Type 0
 AllEntries P qs = AllByRecursion (λ q. AllByRecursion P q.instants) qs
 
@@ -91,8 +91,8 @@ module _ {A : Type 0} (entry : Language A) (P : A → Type 0) (each : (text : Te
       let p = said.said.second.first in
       subst (λ (x : Literal A). AllEntries P x.sequences) (sym said.is) (in_literal p.back said.meant.1.0.sequences p.sequences)
 
--- ---- a point that is written
--- where there is a point, its coordinates fit
+-- ---- a written point
+-- if there is a point, its coordinates fit
 abbrev HasFitting : Option Point → Type 0
 HasFitting o = (p : Point) → o ≡ Some p → PointFits p
 
@@ -130,8 +130,8 @@ written_fits text o said p e = coordinates_fit said.said.second.back said.meant.
 value_fits : (text : Text) (o : Option Point) → point_value text o → HasFitting o
 value_fits text o said p e = written_fits said.said.back said.meant.1 said.said.second p (sym said.is ∙ e)
 
--- ---- a point at an instant that is written
--- where there is an instant, it fits and lies in these years
+-- ---- a point at a written instant
+-- if there is an instant, it fits and is in these years
 abbrev IsDatedThere : ℤ → Option Ratio → Type 0
 IsDatedThere day o = (t : Ratio) → o ≡ Some t → IsDated day t
 
@@ -153,7 +153,7 @@ noted_there day text n said = subst (IsNotedThere day) (sym said.is) (record {
   instant = instant_dated day said.said.second.back said.meant.1.1 said.said.second.second;
 })
 
--- ---- where all numbers fit
+-- ---- the numbers fit
 traversed : {A C : Type 0} (f : A → Option C) (P : A → Type 0) (Q : C → Type 0) → ((a : A) (c : C) → P a → f a ≡ Some c → Q c) → (xs : List A) (ys : List C) → AllByRecursion P xs → traverse f xs ≡ Some ys → AllByRecursion Q ys
 traversed {A} {C} f P Q each [] ys h e = subst (λ (z : List C). AllByRecursion Q z) (one_some [] ys e) tt
 traversed {A} {C} f P Q each (x ∷ xs) ys h e =
@@ -161,7 +161,7 @@ traversed {A} {C} f P Q each (x ∷ xs) ys h e =
     let b = bind_some (traverse f xs) (λ zs. Some (a.0 ∷ zs)) ys a.2 in
     subst (λ (z : List C). AllByRecursion Q z) (one_some (a.0 ∷ b.0) ys b.2) (each x a.0 h.0 a.1, traversed f P Q each xs b.0 h.1 b.1)
 
--- the instant of a break lies in the years 0001 to 9999, and all its numbers fit
+-- the instant of a break is in the years 0001 to 9999, and all its numbers fit
 pub record IsWritable (day : ℤ) (b : Break) : Type 0 where
   pub dated : IsDated day b.instant
   pub fits : PointFits b.place

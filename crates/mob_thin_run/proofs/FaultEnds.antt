@@ -1,4 +1,4 @@
--- The ending of a fault of a row.
+-- The ending for a fault of a row.
 use Rattle.std.specs.Prelude.{ℕ, List, refl}
 use Rattle.std.proofs.Common.{sym, subst}
 use Rattle.mob_value.specs.declared.value.Value.{Value}

@@ -1,4 +1,4 @@
--- The instant of a moment that is written is one of the years 0001 to 9999.
+-- The instant of a written moment is in the years 0001 to 9999.
 use Rattle.std.proofs.Common.{◌≡◌, sym, subst, ap, ◌∙◌, ◌*◌, ◌<◌, ℕ, ℤ, pos, negsuc, ◌+ℤ◌, ◌-ℤ◌, ◌*ℤ◌, ◌<ℤ◌, ◌≤ℤ◌, arith}
 use Rattle.std.proofs.lemmas.Int.{ints}
 use Rattle.std.specs.Int.{int_div_euclid}
@@ -11,7 +11,7 @@ use Rattle.mob_scalar.specs.Moment.{instant, is_year_second, moment, seconds}
 use Rattle.mob_scalar.specs.MomentText.{HasDate, second_of, whole_seconds}
 use Rattle.mob_scalar.proofs.MomentBounds.{moment_small}
 
--- ---- the one whole number below
+-- ---- the greatest whole number at most this
 floor_from : (a : ℤ) (k : ℕ) → 0 < k → (int_div_euclid a (pos k) *ℤ pos k) ≤ℤ a
 floor_from (pos a) k h = omega (arith, ints)
 floor_from (negsuc a) k h = omega (arith, ints)

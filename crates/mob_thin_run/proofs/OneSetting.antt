@@ -1,4 +1,4 @@
--- The arguments of a command line say one record of settings.
+-- The arguments of a command line give one record of settings.
 use Rattle.std.specs.Prelude.{◌≡◌, List, ℕ, codes}
 use Rattle.mob_words.specs.Arguments.{IsDistance, option_value}
 use Rattle.mob_words.proofs.Readings.{one_day, one_distance, one_required}

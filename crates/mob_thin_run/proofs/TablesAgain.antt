@@ -1,4 +1,4 @@
--- The file that is written is read again as the table that it was written of.
+-- The written file is read again as the table that it was written for.
 use Rattle.std.specs.Prelude.{◌≡◌, ◌≤◌, ◌∷◌, [], ℕ, ℤ, List, Ok, codes, drop, length, map, suc, true, refl}
 use Rattle.std.specs.List.{AllZip, AllByRecursion, zip}
 use Rattle.std.proofs.Common.{ap, sym, ◌∙◌, subst, inl, inr, true≢false}
@@ -20,7 +20,7 @@ use Rattle.mob_thin_run.specs.ThinRows.{HasText, IsThinValue, table_text}
 use Rattle.mob_thin_run.proofs.ThinReadable.{IsCell, IsTripRow, rows_readable}
 use Rattle.mob_trips.specs.Reading.{trip_columns}
 
--- NULL is NULL again in these columns
+-- NULL is read as NULL again in these columns
 int_null : (day : ℤ) → is_null_field Int (field_text day Null) ≡ true
 int_null day = refl
 

@@ -1,4 +1,4 @@
--- What a row with each trip simplified prints is read again, if the row was read and its trip can
+-- A row with each trip simplified is read again from its text, if the row was read and its trip can
 -- be printed.
 use Rattle.std.specs.Prelude.{◌≡◌, ◌≤◌, ◌+◌, ◌∷◌, ◌⊎◌, [], ℕ, ℤ, Bool, true, false, cond, List, length, Option, Some, None, MatchOption, Result, Ok, refl}
 use Rattle.std.specs.List.{AllZip, AllByRecursion}

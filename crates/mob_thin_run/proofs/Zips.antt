@@ -1,4 +1,4 @@
--- Rows that are made one after another, and the first that fails.
+-- Rows that are made one by one, and the first that fails.
 use Rattle.std.specs.Prelude.{◌≡◌, ℕ, ℤ, codes, map, List, [], ◌∷◌, ◌++◌, length, get_or, ◌<◌, IsUtf8, Some, refl, slice_get, suc, zero}
 use Rattle.std.specs.List.{AllZip, AllByRecursion, concat}
 use Rattle.std.proofs.Common.{arith, ap, sym, ◌∙◌, subst, inl, inr, take, drop, ◌+◌}
@@ -66,8 +66,8 @@ first_at d rows i row n f lt is e h k = record {
   passes = k;
 }
 
--- the fault of a value behind values that fit is that of the row: a part that passes, or memory
--- that is refused
+-- the fault of a value after values that fit is that of the row: an overflow, or a failed
+-- allocation
 pub test_fault_at : (d : Ratio) (xs : List Value) (i : ℕ) (x : Value) (e : Fault Formula) → i < length xs → x ≡ get_or xs i x → RowTestsFit d (take i xs) → OnTests d x (λ tests. OnCause (λ f. IsFirst tests (Some f)) e) → OnCause (RowTestPasses d xs) e
 test_fault_at d xs i x (Because f) lt is h k = passes_at d xs i x f lt is h k
 test_fault_at d xs i x NoMemory lt is h k = tt
@@ -77,7 +77,7 @@ row_fault_at d rows i row n (Because f) lt is e h k = first_at d rows i row n f 
 row_fault_at d rows i row n NoMemory lt is e h k = tt
 
 -- ---- rows and their records
--- what records are made of
+-- the values from which records are made
 pub record AreRecordsOf (d : Ratio) (day : ℤ) (rows : List (List Value)) (records : List (List (List ℕ))) : Type 0 where
   pub thin : List (List Value)
   pub are : AreThinRows d rows thin

@@ -8,7 +8,7 @@ use Rattle.mob_thin_run.specs.declared.settings.ThinSettings.{ThinSettings}
 abbrev pub thin_command : App
 thin_command = command_of (codes "mobthin") (codes "within" ∷ codes "epoch" ∷ [])
 
--- the arguments are taken, and say these settings: the distance and the day of the epoch
+-- the arguments are accepted and give these settings: the distance and the day of the epoch
 pub record ThinSays (words : List Text) (settings : ThinSettings) : Type 0 where
   pub taken : Takes thin_command words
   pub distance : IsRequired IsDistance (option_value thin_command (codes "within") words) settings.within

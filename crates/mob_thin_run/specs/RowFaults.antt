@@ -1,4 +1,4 @@
--- How a run ends by the row and the formula that a fault names.
+-- What holds of the row and the formula of a refusal.
 use Rattle.std.specs.Prelude.{◌≡◌, ◌∷◌, [], ℕ}
 use Rattle.mob_list.specs.declared.fault.Fault.{Fault}
 use Rattle.mob_list.specs.declared.fault.Fault.TheVariants.{Because, NoMemory}
@@ -6,7 +6,7 @@ use Rattle.mob_trips.specs.declared.ending.Ending.{Ending}
 use Rattle.mob_trips.specs.declared.ending.Ending.TheVariants as end
 use Rattle.mob_slice.specs.declared.formula.Formula.{Formula}
 
--- the ending of a fault: that row, or out of memory
+-- the ending for a fault: that row, or out of memory
 abbrev pub EndsWith : Fault (ℕ × Formula) → Ending → Type 0
 EndsWith (Because f) ending = ending ≡ end.Overflow (f.0 ∷ []) f.1
 EndsWith NoMemory ending = ending ≡ end.NoMemory

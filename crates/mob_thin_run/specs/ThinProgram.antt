@@ -6,8 +6,8 @@ use Rattle.mob_thin_run.specs.CommandLine.{ThinSays}
 use Rattle.mob_thin_run.specs.ThinRows.{IsThinText, PassesFirst, RowTestsFit}
 use Rattle.mob_thin_run.specs.declared.settings.ThinSettings.{ThinSettings}
 
--- It writes the table with each trip simplified, where all parts of all tests fit; the first row
--- with one that does not fit stops it; no row passes a limit.
+-- It writes the table with each trip simplified, if all parts of all tests fit; the first row with
+-- one that does not fit stops it; no row exceeds a limit.
 abbrev pub thin_program : ProgramOf ThinSettings
 thin_program = record {
   says = ThinSays;
@@ -18,6 +18,6 @@ thin_program = record {
   fits = λ s rows. AllByRecursion (RowTestsFit s.within) rows;
 }
 
--- the line of arguments that are not taken
+-- the line for arguments that are not accepted
 abbrev pub thin_usage : List ℕ
 thin_usage = codes "usage: mobthin --within D [--epoch DATE] < trips.csv\n"

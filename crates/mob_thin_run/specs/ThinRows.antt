@@ -1,5 +1,5 @@
--- The rows of a table with each trip simplified, the first fault in them, and the file that is
--- written of them.
+-- The rows of a table with each trip simplified, their first fault, and the file that is written
+-- for them.
 use Rattle.std.specs.Prelude.{◌≡◌, ◌⊎◌, ℕ, ℤ, List, [], ◌∷◌, ◌++◌, length, map, codes, Some, None}
 use Rattle.std.specs.List.{AllZip, AllByRecursion, concat, flat_map}
 use Rattle.csv.specs.Records.{AllText}
@@ -26,8 +26,8 @@ AreThinRows d rows thin = AllZip (AllZip (IsThinValue d)) rows thin
 abbrev pub IsThinRecord : Ratio → ℤ → List Value → List (List ℕ) → Type 0
 IsThinRecord d day row fields = (thin : List Value) × AllZip (IsThinValue d) row thin × AllText fields × (fields ≡ map (field_text day) thin)
 
--- what the first part of a test that does not fit says of a value: its formula, or that all fit;
--- only a trip has tests
+-- what holds of the tests of a value: the formula of the first part that does not fit, or that all
+-- fit; only a trip has tests
 abbrev pub OnTests : Ratio → Value → (List Entry → Type 0) → Type 0
 OnTests d (MovingPoint slices) P = OnRuns d slices (λ runs. P (flat_map (tests_of_run d) runs))
 OnTests d v P = P []
@@ -41,7 +41,7 @@ abbrev pub RowTestPasses : Ratio → List Value → Formula → Type 0
 RowTestPasses d [] formula = ⊥
 RowTestPasses d (v ∷ row) formula = OnTests d v (λ tests. IsFirst tests (Some formula)) ⊎ (OnTests d v (λ tests. IsFirst tests None) × RowTestPasses d row formula)
 
--- the first row with a part that does not fit has so many rows before it
+-- the first row with a part that does not fit has this number
 pub record PassesFirst (d : Ratio) (rows : List (List Value)) (row : ℕ) (formula : Formula) : Type 0 where
   pub before : List (List Value)
   pub here : List Value

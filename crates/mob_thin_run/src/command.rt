@@ -1,4 +1,4 @@
-// What the arguments of a command line say.
+//! Reads the settings of mobthin from the arguments.
 ghost use Rattle.std.specs.Prelude.{◌≡◌, IfOk, IfSome, IsNone, codes, map, option_map, string_bytes};
 ghost use Rattle.mob_ratio.specs.Ratio.{Ratio};
 ghost use Rattle.mob_words.specs.Arguments.{IsDistance, IsRequired, Takes, option_value};
@@ -17,7 +17,7 @@ pub struct Values<'a> {
     pub epoch: Option<&'a str>,
 }
 
-// The value of each option, or None where the command does not take the arguments.
+// The value of each option, or `None` if the command does not take the arguments.
 #[tactic(auto, using(crate::proofs::Facts::command_is_free))]
 fn values_in<'a>(alloc: Global, words: &'a [String]) -> Result<Option<Values<'a>>, AllocError>
     ensures taken { IfOk result (λ o. IfSome o (λ v. Takes thin_command (map string_bytes words.entry.now))) }
@@ -34,7 +34,7 @@ fn values_in<'a>(alloc: Global, words: &'a [String]) -> Result<Option<Values<'a>
     }))
 }
 
-// The distance that the value of `--within` says; the option is required.
+// The distance in the value of `--within`, which is required.
 fn within_of(value: Option<&str>) -> Option<Frac>
     ensures some { IfSome result (λ d. IsRequired IsDistance (option_map (λ s. s.now) value.entry) d) }
     ensures none { IsNone result → (d : Ratio) → IsRequired IsDistance (option_map (λ s. s.now) value.entry) d → ⊥ }
@@ -45,11 +45,11 @@ fn within_of(value: Option<&str>) -> Option<Frac>
     }
 }
 
-/// The settings that the arguments say, the first of which is the program's name: `--within D` with
-/// a number that is not below 0, and `--epoch DATE`. `--within` is required, and each option may be
-/// given once.
+/// The settings that the arguments give, the first of which is the program's name: `--within D`
+/// with a number that is not negative, and `--epoch DATE`. `--within` is required, and each option
+/// may be given once.
 ///
-/// None exactly where the arguments are not taken.
+/// `None` exactly if the arguments are not accepted. The only error is a failed allocation.
 pub fn settings(alloc: Global, words: &[String]) -> Result<Option<ThinSettings>, AllocError>
     ensures said { IfOk result (λ o. IfSome o (ThinSays (map string_bytes words.now))) }
     ensures refused { IfOk result (λ o. IsNone o → (s : SettingsSeen) → ThinSays (map string_bytes words.now) s → ⊥) }

@@ -1,4 +1,4 @@
-// What a run does before its note.
+//! A run up to its note.
 ghost use Rattle.std.specs.Prelude.{map, string_bytes};
 ghost use Rattle.mob_outside.specs.EndsSeen.{stream_seen};
 ghost use Rattle.mob_trips.specs.Endings.{IsTripsEnding};
@@ -14,7 +14,7 @@ use mob_trips::{Ending, put_text, read_trips};
 use mob_tuples::Tuple;
 use std::alloc::Global;
 
-// The ending of a fault of a row.
+// The ending for a fault of a row.
 fn ending_of(fault: RowFault) -> Ending
     ensures ending { EndsWith fault result }
 {
@@ -27,7 +27,8 @@ fn ending_of(fault: RowFault) -> Ending
     }
 }
 
-/// Judges the arguments, reads the table, simplifies its trips and writes the text.
+/// Judges the arguments, reads the table, simplifies its trips and writes the text. Returns the
+/// ending.
 pub fn decide<S: Source, K: Sink>(
     alloc: Global,
     words: &[String],

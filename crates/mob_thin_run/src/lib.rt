@@ -1,5 +1,5 @@
-//! The program mobthin as a library: a table of trips in; the table with each trip simplified, a
-//! note and a status out.
+//! The program mobthin as a library: a table of trips goes in; the table with each trip simplified,
+//! a note and a status come out.
 #![tactic(auto)]
 
 mod command;

@@ -1,4 +1,4 @@
-// The rows with each trip simplified, as text.
+//! The rows with each trip simplified, as text.
 ghost use Rattle.std.specs.Prelude.{◌≡◌, ◌≤◌, ◌∷◌, [], codes, IfOk, IfErr, IsUtf8, length, map, true};
 ghost use Rattle.std.specs.List.{AllZip, AllByRecursion};
 ghost use Rattle.csv.specs.Records.{AllText};
@@ -25,7 +25,7 @@ use std::alloc::{AllocError, Global};
 /// does not fit in a test of it, or out of memory.
 pub type RowFault = Fault<(u32, Formula)>;
 
-// The value with a trip simplified.
+// The value, simplified if it is a trip.
 fn thinned(alloc: Global, value: &Value, d: &Frac) -> Result<Value, Fault<Formula>>
     requires not_negative { up_to nil d.now ≡ true }
     ensures thin { IfOk result (λ thin. IsThinValue d.now value.now thin) }
@@ -92,7 +92,7 @@ fn thin_fields(
     Ok(fields_of(alloc, thin.as_slice(), epoch)?)
 }
 
-// The fields of all rows with each trip simplified, a row at a time.
+// The fields of all rows with each trip simplified, row by row.
 fn thin_records(
     alloc: Global,
     rows: &Rows<Value>,
@@ -130,8 +130,8 @@ fn names(alloc: Global) -> Result<Vec<Text>, AllocError>
     Ok(names)
 }
 
-/// The text of the table with each trip simplified, within `d`, or the first row with a part of a
-/// test that does not fit.
+/// The text of the table with each trip simplified, within `d`; or the first row with a part of a
+/// test that does not fit. `NoMemory` comes if an allocation fails.
 pub fn thin_text(
     alloc: Global,
     rows: &Rows<Value>,

@@ -1,4 +1,4 @@
-// The top call.
+//! The top call.
 ghost use Rattle.std.specs.Prelude.{map, string_bytes};
 ghost use Rattle.mob_outside.specs.EndsSeen.{stream_seen};
 ghost use Rattle.mob_outside.specs.Streams.{Puts};
@@ -15,21 +15,21 @@ use std::alloc::Global;
 
 const USAGE: &[u8] = b"usage: mobthin --within D [--epoch DATE] < trips.csv\n";
 
-/// Puts the line of an ending of mobthin.
+/// Writes the line of an ending of mobthin.
 pub fn tell_thin<E: Sink>(notes: &mut E, ending: &Ending)
     ensures puts { Puts (trips_note thin_usage ending.now) (E.held notes.old) (E.held notes.new) (E.faults notes.old) (E.faults notes.new) }
 {
     tell(notes, USAGE, ending);
 }
 
-/// One run of mobthin, by the arguments of its command line and its streams: it reads the table
-/// from `table`, writes the table with each trip simplified to `out`, and after every status but 0
-/// puts one line into `notes`. It returns the status.
+/// Runs mobthin with the arguments of its command line and its streams, and returns the exit
+/// status. It reads the table from `table`, writes the table with each trip simplified to `out`,
+/// and for every status but 0 writes one line to `notes`.
 ///
 /// | status | when |
 /// |---|---|
 /// | 0 | the table was read to its end and accepted, and `out` took all of the text |
-/// | 2 | the arguments are not taken |
+/// | 2 | the arguments are not accepted |
 /// | 3 | the table could not be read |
 /// | 4 | `out` failed, and took a part of the text |
 /// | 5 | out of memory |
@@ -42,9 +42,9 @@ pub fn run_thin<S: Source, K: Sink, E: Sink>(
     out: &mut K,
     notes: &mut E,
 ) -> u8
-    // `IsTripsRun` has a line for each status and each other promise, by what was seen of the run
-    // and of its note. `IsExactRun` adds that 8 comes exactly where a part of a test's formula does
-    // not fit, out of memory aside.
+    // `IsTripsRun` has a line for each status and each other promise, about what is seen of the run
+    // and its note. `IsExactRun` adds that 8 comes exactly if a part of a test's formula does not
+    // fit, apart from out of memory.
     ensures promises { IsTripsRun thin_program thin_usage result
         (trips_seen (map string_bytes words.now) (stream_seen S.left S.faults table.old table.new) (stream_seen K.held K.faults out.old out.new))
         (λ line. Puts line (E.held notes.old) (E.held notes.new) (E.faults notes.old) (E.faults notes.new)) }

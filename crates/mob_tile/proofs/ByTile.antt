@@ -33,7 +33,7 @@ use Rattle.mob_tile.proofs.TileOrder.{same_is, same_self, less_differs, less_dif
 abbrev tile_in : Piece → Tile
 tile_in q = q.tile
 
--- no piece has a tile before a, and the tiles of pieces do not fall
+-- no piece has a tile before a, and the tiles of pieces are sorted
 abbrev Leads : Tile → List Piece → Type 0
 Leads a qs = order.Leads tile_in a qs
 
@@ -117,7 +117,7 @@ rise_of a taken (q ∷ qs) l up = by (same_tile a q.tile) refl (rise_of a (taken
     by true h r o = r
     by false h r o = (tt, ahead (group_with q.tile (q.slice ∷ []) qs) (group_head (λ b. compare_tiles a b ≡ Less) q.tile (q.slice ∷ []) qs (then_less a q.tile h l.0)), o)
 
--- a tile that some piece has has a group
+-- a tile of some piece has a group
 abbrev IsThere : Tile → List (Tile × Value) → Type 0
 IsThere b gs = HasTile b gs
 
@@ -139,7 +139,7 @@ group_there b a taken (q ∷ qs) some = by (same_tile b q.tile) refl (same_tile 
     by false h true k r o = r (λ e. some (fails b q qs h ∙ e))
     by false h false k r o = inr (o (λ e. some (fails b q qs h ∙ e)))
 
--- what holds of the groups of sorted pieces
+-- the properties of the groups of sorted pieces
 pub record AreGroups (qs : List Piece) (gs : List (Tile × Value)) : Type 0 where
   pub rise : Rise gs
   pub each : AllByRecursion (λ (g : Tile × Value). (g.1 ≡ of_tile g.0 qs) × (g.1 ≢ [])) gs
@@ -315,7 +315,7 @@ grouping_next all rest later q a taken parts parts' e h n m = record {
   are = subst (AreParts (m.done ++ (a, taken) ∷ [])) (sym n.is) (snoc_parts m.done parts (a, taken) n.part m.are n.of);
 }
 
--- what is taken before another tile, and at the end, is a group
+-- what is taken before another tile, or at the end, is a group
 pub group_taken : (all rest later : List Piece) (q : Piece) (a : Tile) (taken : Value) (parts : List (Tile × Value)) → rest ≡ q ∷ later → same_tile a q.tile ≡ false → IsGrouping all rest a taken parts → AllByRecursion IsTileGroup (tile_groups all) → IsTileGroup (a, taken)
 group_taken all rest later q a taken parts e h m k =
     let made : m.done ++ (a, taken) ∷ group_with q.tile (q.slice ∷ []) later ≡ tile_groups all = ap (λ b. m.done ++ cond b (group_with a (taken ++ q.slice ∷ []) later) ((a, taken) ∷ group_with q.tile (q.slice ∷ []) later)) (sym h) ∙ ap (λ z. m.done ++ group_with a taken z) (sym e) ∙ m.made in

@@ -1,4 +1,4 @@
--- The corners of a slice and of its pieces have tiles in the range.
+-- The tiles of the corners of a slice and of its pieces are in the range.
 use Rattle.std.proofs.Common.{◌≡◌, Bool, true, false, arith, refl, sym, subst, ◌&&◌, ◌||◌, not}
 use Rattle.std.proofs.lemmas.Bool.{and_parts}
 use Rattle.mob_ratio.specs.Ratio.{Ratio, ◌≤ℚ◌}

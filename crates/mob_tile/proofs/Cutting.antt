@@ -1,4 +1,4 @@
--- The cells of a slice that is cut at all its edges: each lies in one tile.
+-- The cells of a slice that is cut at all its edges: each is in one tile.
 use Rattle.std.specs.Prelude.{map}
 use Rattle.std.proofs.Common.{◌≡◌, ◌⊎◌, inl, inr, ℕ, Bool, true, false, true≢false, ℤ, pos, ◌+ℤ◌, ◌≤ℤ◌, ◌<ℤ◌, List, [], ◌∷◌, ◌++◌, arith, refl, sym, ap, subst, ◌∙◌, cond, ◌&&◌, ◌<◌, ◌+◌, suc, zero, length, get_or, append_assoc, ◌-ℤ◌, Some, None}
 use Rattle.std.proofs.lemmas.Int.{ints}
@@ -44,7 +44,7 @@ use Rattle.mob_tile.proofs.Numbers.{number_there, natural_is, in_map, in_flat}
 use Rattle.mob_tile.proofs.EdgeBands.{IsInOrder, in_order, one_band_on, one_time_on}
 use Rattle.mob_tile.proofs.Walking.{all_split, all_self, end_or_cut, only_cuts}
 
--- ---- an edge that is crossed is among the edges of a slice
+-- ---- a crossed edge is among the edges of a slice
 sign_less : (x e : Ratio) → before (x -ℚ e) nil ≡ true → x <ℚ e
 sign_less x e h = before-lt x e (by (before x e) refl (before e x) (sign-diff x e ∙ sign_below (x -ℚ e) h))
   where
@@ -122,7 +122,7 @@ abbrev Leads : Ratio → List Ratio → Type 0
 Leads x [] = Unit {0}
 Leads x (y ∷ ys) = (before y x ≡ false) × Leads x ys
 
--- none is before one that stands in front of it
+-- none is before an earlier one
 abbrev pub Rises : List Ratio → Type 0
 Rises [] = Unit {0}
 Rises (x ∷ xs) = Leads x xs × Rises xs
@@ -151,7 +151,7 @@ rises_sorted (x ∷ xs) up = (
       subst (λ n. is_lt (compare_ratio (get_or (x ∷ xs) n d) (get_or (x ∷ xs) (suc k) d)) ≡ false) next (up (suc k) d (omega arith) (omega arith))),
 )
 
--- ---- what is in a list is in each of its orders
+-- ---- a list has the same entries in any order
 pub in_contains : (r : Ratio) (xs : List Ratio) → IsIn r xs → Contains xs r
 in_contains r [] h = absurd h
 in_contains r (x ∷ xs) h = elim h [ inl e ↦ subst (Contains (x ∷ xs)) (sym e) (first_in x xs) | inr k ↦ later_in x xs r (in_contains r xs k) ]
@@ -261,7 +261,7 @@ module _ (g : GridOf) (s : Slice PlaneLine) (ok : IsGrid g) where
   cuts_between sound = each_both Between (roots s.span (differences g s)) (map (edge_of g.width) (t_edges g s)) (roots_between (differences g s) (level_all sound))
       (times_between (bands_rise g.width s.span.lower s.span.upper ok.some_width (not-up_to-le s.span.lower s.span.upper (ends_rise s.span sound.some))))
 
-  -- the cells of a slice, cut at its cuts in any order that has them all
+  -- the cells of a slice, cut at its cuts in any order
   pub cells_good : (sorted : List Ratio) → IsSound (λ c. c.from) (λ c. c.to) s → ((r : Ratio) → IsIn r (cuts_of g s) → IsIn r sorted) → ((r : Ratio) → IsIn r sorted → IsIn r (cuts_of g s)) → AreTileCells g s (cuts_of g s) (split_all sorted (start_cells s.span))
   cells_good sorted sound f b =
       let cells = split_all sorted (start_cells s.span) in
@@ -276,7 +276,7 @@ module _ (g : GridOf) (s : Slice PlaneLine) (ok : IsGrid g) where
         tiles = each_cell cells split.are out sound;
       }
 
-  -- sorted cuts rise from the lower end
+  -- sorted cuts start at or after the lower end
   pub rising_cuts : (sorted : List Ratio) → IsSound (λ c. c.from) (λ c. c.to) s → ((r : Ratio) → IsIn r sorted → IsIn r (cuts_of g s)) → Rises sorted → IsRisingFrom s.span.lower sorted
   rising_cuts [] sound b up = tt
   rising_cuts (r ∷ sorted) sound b up = ((one_in Between (cuts_of g s) r (cuts_between sound) (b r (inl refl))).0, rising_on r sorted up.0 up.1)

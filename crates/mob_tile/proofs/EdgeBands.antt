@@ -1,4 +1,4 @@
--- A slice on a cell that no edge divides lies in one band.
+-- A slice on a cell that no edge divides is in one band.
 use Rattle.std.proofs.Common.{◌≡◌, ◌⊎◌, inl, inr, Bool, true, false, ℤ, pos, ◌+ℤ◌, arith, refl, sym, ap, subst, ◌∙◌, ◌&&◌, ◌||◌, not, cond}
 use Rattle.std.proofs.lemmas.Bool.{and_parts}
 use Rattle.std.specs.declared.cmp.Ordering.TheVariants.{Less, Equal, Greater}
@@ -88,7 +88,7 @@ module _ (c x0 x1 : Ratio) (s d : SpanOf) (level : before s.lower s.upper ≡ fa
   difference_at : (e t : Ratio) → at t -ℚ e ≡ line_at (x0 -ℚ e) (x1 -ℚ e) s.lower s.upper t
   difference_at e t = ap (λ z. at t -ℚ z) (sym (line_at-level e s.lower s.upper t)) ∙ line_at-diff x0 x1 e e s.lower s.upper t
 
-  -- where one instant of the cell is before an edge, so is each other
+  -- if one instant of the cell is before an edge, so is each other
   one_side : (n : ℤ) → IsClear n → (t u : Ratio) → has d t ≡ true → has d u ≡ true → before (at u) (edge_of c n) ≡ true → before (at t) (edge_of c n) ≡ true
   one_side n f t u h k b =
       let e = edge_of c n in
@@ -102,7 +102,7 @@ module _ (c x0 x1 : Ratio) (s d : SpanOf) (level : before s.lower s.upper ≡ fa
   abbrev a1 : Ratio
   a1 = at d.upper
 
-  -- the value inside, by those at the ends of the cell
+  -- the value inside, from those at the ends of the cell
   piece_at : (t : Ratio) → before d.lower d.upper ≡ true → line_at a0 a1 d.lower d.upper t ≡ at t
   piece_at t h = let o = in_order s d i in line_at-part x0 x1 s.lower s.upper d.lower d.upper t (long_span s.lower d.lower d.upper s.upper o.low h o.high) h
 

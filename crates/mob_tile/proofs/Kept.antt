@@ -40,7 +40,7 @@ abbrev end : PlaneLine → Point
 end c = c.to
 
 -- ---- one piece
--- a part with the values of the slice on a cell lies in the tile of the cell
+-- a part with the values of the slice on a cell is in the tile of the cell
 pub in_its_tile : (g : GridOf) (s : Slice PlaneLine) (c : SpanOf) (part : Slice PlaneLine) (tile : Tile) → HasValues plane_value_of start end (slice_value plane_value_of s) c part → HasOneTile g s c → tile ≡ tile_of g c.lower (least_of part.course.from part.course.to) → IsInItsTile g (record { tile = tile; slice = part })
 in_its_tile g s c part tile h one e t i =
     let j : has c t ≡ true = subst (λ z. has z t ≡ true) h.on i in
@@ -94,8 +94,8 @@ module _ (s : Slice PlaneLine) where
   ]) (cuts_fit rs cells h k.1)
 
 -- ---- the loop over cells
--- what the rest of the cells gives, behind what is there, is all; each piece is in its tile; and
--- all cells fit where the rest does
+-- the rest of the cells completes the list; each piece is in its tile; and all cells fit if the
+-- rest does
 pub record IsPiecing (g : GridOf) (s : Slice PlaneLine) (cells rest : List SpanOf) (out : List Piece) : Type 0 where
   pub made : IsMade plane_value_of (λ (c : PlaneLine). c.from) (λ c. c.to) (λ t. Some (slice_value plane_value_of s t)) cells rest (slices_of out)
   pub tiles : AllByRecursion (IsInItsTile g) out

@@ -1,4 +1,4 @@
--- The split of a value has one answer, out of memory aside.
+-- The split of a value has one answer, apart from out of memory.
 use Rattle.std.proofs.Common.{◌≡◌, ◌≢◌, inl, inr, List, refl, sym, ap, subst, ◌∙◌, Some, None, Result, Ok, Err}
 use Rattle.std.specs.List.{flat_map}
 use Rattle.mob_ratio.specs.Ratio.{Ratio}
@@ -22,7 +22,7 @@ none_some f e = absurd (cc e)
 inside_some : (f h : Formula) → Some f ≡ Some h → f ≡ h
 inside_some f h e = cc e
 
--- two facts on the range of the box of a value are facts on one range
+-- two facts about the range of the box of a value are facts about one range
 pub both_hold : (g : GridOf) (a : List (Slice PlaneLine)) (P Q : List Ratio → TileRange → Type 0) → OnRange g a P → OnRange g a Q → (quotients : List Ratio) × (range : TileRange) × P quotients range × Q quotients range
 both_hold g a P Q h k =
     let area = one_area a h.area k.area h.time k.time h.box k.box in
@@ -37,7 +37,7 @@ module _ (V : Type 0) (g : GridOf) (a : List (Slice PlaneLine)) where
   abbrev Answers : Result V (Fault SplitCause) → List Ratio → TileRange → Type 0
   Answers r quotients range = SplitAnswer {V = V} g a quotients range r
 
-  -- an answer leaves no refusal
+  -- an answer excludes every refusal
   never_both : (v : V) (f : Fault SplitCause) (q : List Ratio) (r : TileRange) → f ≢ NoMemory → Answers (Ok v) q r → Answers (Err f) q r → ⊥
   never_both v (Because (Passed f)) q r some h k = elim k [ inl x ↦ x.1 h.0 | inr x ↦ none_some f (one_first (flat_map (entries_of_slice g) a) None (Some f) h.2 x.2) ]
   never_both v (Because Limit) q r some h k = h.1 k.1

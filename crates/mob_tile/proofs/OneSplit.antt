@@ -25,7 +25,7 @@ Rising ps = Chained (λ p. Unit {0}) (λ p q. compare_tiles p.0 q.0 ≡ Less) ps
 never : (x : Tile) → compare_tiles x x ≡ Less → ⊥
 never x h = let e : Less ≡ Equal = sym h ∙ tile_itself x in absurd (cc e)
 
--- the tiles behind the first come after it
+-- the tiles after the first are greater
 behind : (p : Tile × List (Slice PlaneLine)) (ps : List (Tile × List (Slice PlaneLine))) → Rising (p ∷ ps) → (x : Tile) → HasTile x ps → compare_tiles p.0 x ≡ Less
 behind p [] h x i = absurd i
 behind p (q ∷ ps) h x i = elim i [

@@ -1,4 +1,4 @@
--- The edges of tiles that a slice crosses, and the formulas there.
+-- The edges of tiles that a slice crosses, and their formulas.
 use Rattle.std.specs.Prelude.{ℕ, zero, suc, ℤ, pos, negsuc, ◌+ℤ◌, ◌-ℤ◌, List, [], ◌∷◌, ◌++◌, map}
 use Rattle.std.specs.List.{flat_map}
 use Rattle.mob_ratio.specs.Ratio.{Ratio, whole, ◌-ℚ◌, ◌*ℚ◌}
@@ -32,8 +32,7 @@ numbers_between low high = count_up (low +ℤ pos 1) (natural (high -ℤ low))
 abbrev pub edge_of : Ratio → ℤ → Ratio
 edge_of c n = whole n *ℚ c
 
--- the numbers of the edges from x to y, whichever is the greater: those above the smaller and at
--- most the greater
+-- the numbers of the edges between x and y: those above the smaller and at most the greater
 abbrev pub edges_between : Ratio → Ratio → Ratio → List ℤ
 edges_between c x y = numbers_between (band_of c (smaller x y)) (band_of c (greater x y))
 
@@ -59,15 +58,15 @@ module _ (g : GridOf) (s : Slice PlaneLine) where
   abbrev pub t_edges : List ℤ
   t_edges = numbers_between (band_of g.width s.span.lower) (band_of g.width s.span.upper)
 
-  -- the differences to all edges, by x and then by y
+  -- the differences to all edges, in x and then in y
   abbrev pub differences : List Ends
   differences = map (edge_ends g.size s.course.from.x s.course.to.x) x_edges ++ map (edge_ends g.size s.course.from.y s.course.to.y) y_edges
 
-  -- where the slice is cut: at the roots of these, and at the edges of time
+  -- the instants at which the slice is cut: the roots of these, and the edges of time
   abbrev pub cuts_of : List Ratio
   cuts_of = roots s.span differences ++ map (edge_of g.width) t_edges
 
-  -- F2: the edges by x and y with the differences to them, and those of time
+  -- F2: the edges in x and y with the differences to them, and those of time
   abbrev pub edges_parts : List Ratio
   edges_parts = flat_map (edge_parts g.size s.course.from.x s.course.to.x) x_edges ++ (flat_map (edge_parts g.size s.course.from.y s.course.to.y) y_edges ++ flat_map (time_parts g.width) t_edges)
 

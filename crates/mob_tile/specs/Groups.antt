@@ -1,4 +1,4 @@
--- Pieces that stand in the order of their tiles, tile by tile.
+-- Pieces sorted by their tiles, and grouped.
 use Rattle.std.specs.Prelude.{◌≡◌, ◌≢◌, Bool, cond, List, [], ◌∷◌, ◌++◌}
 use Rattle.std.specs.List.Sorted.{IsPermutation, IsSortedBy, IsStableBy}
 use Rattle.std.specs.Ordering.{is_lt, is_eq}
@@ -18,13 +18,13 @@ piece_before p q = is_lt (compare_tiles p.tile q.tile)
 abbrev pub same_tile : Tile → Tile → Bool
 same_tile a b = is_eq (compare_tiles a b)
 
--- the pieces in the order of their tiles, and those of one tile in the order in which they were
+-- the pieces sorted by their tiles, where those of one tile keep their order
 pub record IsByTile (pieces ordered : List Piece) : Type 0 where
   pub same : IsPermutation pieces ordered
   pub sorted : IsSortedBy piece_before ordered
   pub stable : IsStableBy piece_before pieces ordered
 
--- neighbours in one tile together: what is taken so far of the tile a, before the rest
+-- the groups of sorted pieces: those taken so far of the tile a, then the rest
 abbrev pub group_with : Tile → List (Slice PlaneLine) → List Piece → List (Tile × List (Slice PlaneLine))
 group_with a taken [] = (a, taken) ∷ []
 group_with a taken (q ∷ rest) = cond (same_tile a q.tile) (group_with a (taken ++ q.slice ∷ []) rest) ((a, taken) ∷ group_with q.tile (q.slice ∷ []) rest)
@@ -33,7 +33,7 @@ abbrev pub tile_groups : List Piece → List (Tile × List (Slice PlaneLine))
 tile_groups [] = []
 tile_groups (q ∷ rest) = group_with q.tile (q.slice ∷ []) rest
 
--- slices that can be made a value
+-- slices that can form a value
 pub record IsTileGroup (group : Tile × List (Slice PlaneLine)) : Type 0 where
   pub some : group.1 ≢ []
   pub ordered : IsOrdered (λ c. c.from) (λ c. c.to) group.1
@@ -51,13 +51,13 @@ AreParts (g ∷ groups) (p ∷ parts) = IsPartOfGroup g p × AreParts groups par
 AreParts [] (p ∷ parts) = ⊥
 AreParts (g ∷ groups) [] = ⊥
 
--- the part of a group came to the others
+-- the part of a group is appended
 pub record IsPartPushed (group : Tile × List (Slice PlaneLine)) (old new : List (Tile × List (Slice PlaneLine))) : Type 0 where
   pub part : Tile × List (Slice PlaneLine)
   pub is : new ≡ old ++ part ∷ []
   pub of : IsPartOfGroup group part
 
--- what is done and what is still to come are all groups, and the parts are those of what is done
+-- what is done and what is left are all groups, and the parts are those of what is done
 pub record IsGrouping (all rest : List Piece) (a : Tile) (taken : List (Slice PlaneLine)) (parts : List (Tile × List (Slice PlaneLine))) : Type 0 where
   pub done : List (Tile × List (Slice PlaneLine))
   pub made : done ++ group_with a taken rest ≡ tile_groups all

@@ -25,12 +25,12 @@ abbrev pub split_all : List Ratio → List SpanOf → List SpanOf
 split_all [] cells = cells
 split_all (r ∷ cuts) cells = split_all cuts (split_at r cells)
 
--- each instant is at least q, and at most those behind it
+-- each instant is at least q, and at most the later ones
 abbrev pub IsRisingFrom : Ratio → List Ratio → Type 0
 IsRisingFrom q [] = Unit {0}
 IsRisingFrom q (r ∷ cuts) = (up_to q r ≡ true) × IsRisingFrom r cuts
 
--- the least point of the rectangle over two points, and the greatest
+-- the least corner of the bounding rectangle of two points, and the greatest
 abbrev pub least_of : Point → Point → Point
 least_of p q = record { x = smaller p.x q.x; y = smaller p.y q.y }
 
@@ -79,14 +79,14 @@ pub record AreTileCells (g : GridOf) (s : Slice PlaneLine) (cuts : List Ratio) (
   pub cut : AreCutsOf s.span cuts cells
   pub tiles : AllByRecursion (HasOneTile g s) cells
 
--- what an instant makes of the rest of a span: what is done came to the old list
+-- the effect of an instant on the rest of a span: the finished cells are appended to the old list
 pub record IsAdvance (r : Ratio) (rest : SpanOf) (old new : List SpanOf) (next : SpanOf) : Type 0 where
   pub front : List SpanOf
   pub is : new ≡ old ++ front
   pub passed : AllByRecursion (λ c. up_to c.upper r ≡ true) front
   pub made : front ++ next ∷ [] ≡ split_one r rest
 
--- a piece with the values of the slice s on the cell c, and in its tile, came to the others
+-- a piece with the values of the slice s on the cell c, in its tile, is appended
 pub record IsPushed (g : GridOf) (s : Slice PlaneLine) (c : SpanOf) (old new : List Piece) : Type 0 where
   pub piece : Piece
   pub is : new ≡ old ++ piece ∷ []

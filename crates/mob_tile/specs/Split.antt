@@ -25,8 +25,8 @@ use Rattle.mob_tile.specs.declared.splitting.SplitCause.TheVariants.{Passed, Lim
 use Rattle.mob_tile.specs.Edges.{entries_of_slice}
 use Rattle.mob_list.specs.declared.fault.Fault.TheVariants.{Because, NoMemory}
 
--- The part of the value a in a tile: it is normal, and has at each instant at which a is in the
--- tile the value of a, and none elsewhere.
+-- The part of the value a in a tile: it is normal, and has the value of a at each instant at which
+-- a is in the tile, and none elsewhere.
 pub record IsTilePart (g : GridOf) (a : List (Slice PlaneLine)) (tile : Tile) (part : List (Slice PlaneLine)) : Type 0 where
   pub normal : IsNormal (λ c. c.from) (λ c. c.to) plane_continued part
   pub same : (t : Ratio) → value_at plane_value_of part t ≡ where_wanted true (in_tile g tile t) (value_at plane_value_of a t)
@@ -36,7 +36,7 @@ abbrev pub HasTile : Tile → List (Tile × List (Slice PlaneLine)) → Type 0
 HasTile tile [] = ⊥
 HasTile tile (p ∷ parts) = (p.0 ≡ tile) ⊎ HasTile tile parts
 
--- Split(a): by rising tile, the tiles in which a is at some instant, each with the part there.
+-- Split(a): the tiles in which a is at some instant, in ascending order, each with the part there.
 pub record IsSplit (g : GridOf) (a : List (Slice PlaneLine)) (parts : List (Tile × List (Slice PlaneLine))) : Type 0 where
   pub rising : Chained (λ p. Unit {0}) (λ p q. compare_tiles p.0 q.0 ≡ Less) parts
   pub each : AllByRecursion (λ p. IsTilePart g a p.0 p.1) parts
@@ -47,7 +47,7 @@ abbrev pub HasPartAt : Tile → Ratio → Point → List (Tile × List (Slice Pl
 HasPartAt tile t p [] = ⊥
 HasPartAt tile t p (q ∷ parts) = ((q.0 ≡ tile) × (value_at plane_value_of q.1 t ≡ Some p)) ⊎ HasPartAt tile t p parts
 
--- a has a box, and this holds of the quotients and the range of that box
+-- a has a box, and this holds for the quotients and the range of that box
 pub record OnRange (g : GridOf) (a : List (Slice PlaneLine)) (P : List Ratio → TileRange → Type 0) : Type 0 where
   pub area : Area
   pub time : SpanOf
@@ -55,15 +55,15 @@ pub record OnRange (g : GridOf) (a : List (Slice PlaneLine)) (P : List Ratio →
   pub holds : P (range_parts g area time) (range_of g area time)
 
 -- The refusals of the split, in their order: a quotient of the range of the box of a does not fit;
--- else the range has more than 10,000 tiles; else the first entry of a slice that has a part that
--- does not fit, slice by slice. An answer is given only where there is none of them.
+-- else the range has more than 10,000 tiles; else the first entry of a slice with a part that does
+-- not fit, slice by slice. There is an answer only if there is no refusal.
 abbrev pub SplitAnswer : {V : Type 0} → GridOf → List (Slice PlaneLine) → List Ratio → TileRange → Result V (Fault SplitCause) → Type 0
 SplitAnswer g a quotients range (Ok v) = AllFit quotients × (¬ HasMany range) × IsFirst (flat_map (entries_of_slice g) a) None
 SplitAnswer g a quotients range (Err (Because (Passed f))) = ((f ≡ F2) × (¬ AllFit quotients)) ⊎ (AllFit quotients × (¬ HasMany range) × IsFirst (flat_map (entries_of_slice g) a) (Some f))
 SplitAnswer g a quotients range (Err (Because Limit)) = AllFit quotients × HasMany range
 SplitAnswer g a quotients range (Err NoMemory) = Unit {0}
 
--- The quotients and the limit are judged before memory is asked for.
+-- The quotients and the limit are tested before anything is allocated.
 pub record IsLimited {V : Type 0} (quotients : List Ratio) (range : TileRange) (r : Result V (Fault SplitCause)) : Type 0 where
   pub quotients_first : (¬ AllFit quotients) → r ≡ Err (Because (Passed F2))
   pub limit_then : (AllFit quotients × HasMany range) → r ≡ Err (Because Limit)

@@ -1,4 +1,4 @@
-//! Where a slice crosses edges of tiles.
+//! Where a slice crosses the edges of tiles.
 ghost use Rattle.mob_slice.specs.Entries.{IsMadeBy};
 ghost use Rattle.std.specs.Prelude.{◌≡◌, [], ◌∷◌, ◌++◌, map, OnOk};
 ghost use Rattle.std.specs.List.{flat_map, AllByRecursion};
@@ -15,7 +15,7 @@ use mob_slice::Formula;
 use mob_span::Span;
 use std::alloc::{AllocError, Global};
 
-/// Adds one more at the end.
+/// Appends one more entry.
 pub fn add<T: Drop>(out: &mut Vec<T>, next: T) -> Result<(), AllocError>
     ensures added { OnOk result (out.new.items ≡ out.old.items ++ next ∷ []) }
 {
@@ -33,7 +33,7 @@ fn difference(c: &Frac, x: &Frac, y: &Frac, n: i64) -> Result<Ends, Overflow>
     Ok(Ends { at_lower, at_upper })
 }
 
-/// The differences to all edges above one number and up to another.
+/// The differences to all edges above `low` and up to `high`.
 pub fn differences(
     alloc: Global,
     c: &Frac,
@@ -59,7 +59,7 @@ pub fn differences(
     Ok(out)
 }
 
-/// The edges of time above one number and up to another.
+/// The edges of time above `low` and up to `high`.
 pub fn times(alloc: Global, c: &Frac, low: i64, high: i64) -> Result<Vec<Frac>, Fault<Formula>>
     ensures made { IsMadeBy F2 (flat_map (time_parts c.now) (numbers_between low high)) (λ v. v.items ≡ map (edge_of c.now) (numbers_between low high)) result }
 {
@@ -95,7 +95,7 @@ pub fn roots_of(alloc: Global, span: &Span, functions: &[Ends]) -> Result<Vec<Fr
     requires level { AllByRecursion (IsLevel span.now) functions.now }
     ensures made { IsMadeBy F3 (roots_parts span.now functions.now) (λ v. v.items ≡ roots span.now functions.now) result }
 {
-    // A call of a method tells the proof what holds of every span.
+    // A call of a method gives the proof the invariant of every span.
     let _lower = span.lower();
     let mut out = Vec::new(alloc);
     for f in functions {

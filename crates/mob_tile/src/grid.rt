@@ -19,8 +19,7 @@ use mob_stbox::{Area, StBox};
 use std::alloc::Global;
 use std::marker::Model;
 
-/// The sides of tiles: one in units of length, for x and for y, and one in seconds. Both are above
-/// 0.
+/// The sides of tiles: a length for x and y, and a duration in seconds. Both are positive.
 #[derive(Clone, Copy, Debug)]
 pub struct Grid {
     size: Frac,
@@ -40,7 +39,7 @@ impl Model for Grid {
 }
 
 impl Grid {
-    /// The grid with these sides. None exactly where one of them is not positive.
+    /// The grid with these sides; `None` exactly if one of them is not positive.
     pub fn new(size: Frac, width: Frac) -> Option<Grid>
         ensures none { IsNone result ↔ ((size ≤ℚ nil) ⊎ (width ≤ℚ nil)) }
         ensures value { IfSome result (λ g. g ≡ record { size = size; width = width }) }
@@ -55,7 +54,7 @@ impl Grid {
         Some(Grid { size, width })
     }
 
-    /// The side by x and by y.
+    /// The side in x and y.
     pub fn size(&self) -> &Frac
         ensures value { result.now ≡ self.now.size }
         ensures positive { nil <ℚ result.now }
@@ -63,7 +62,7 @@ impl Grid {
         &self.size
     }
 
-    /// The side by time.
+    /// The side in time.
     pub fn width(&self) -> &Frac
         ensures value { result.now ≡ self.now.width }
         ensures positive { nil <ℚ result.now }
@@ -71,7 +70,7 @@ impl Grid {
         &self.width
     }
 
-    /// The tile that has `p` at `t`, where it stands in a range.
+    /// The tile of `p` at `t`, which is in the range.
     pub(crate) fn tile_at(&self, range: &TileRange, p: &Point, t: &Frac) -> Tile
         requires within { InRange range.now (tile_of self.now t.now p.now) }
         ensures value { result ≡ tile_of self.now t.now p.now }
@@ -112,8 +111,8 @@ impl Grid {
 
     #[tactic(auto, unfolding(mob_stbox::specs::Boxes::is_whole))]
     /// All tiles that a box reaches: those between the floors of its sides and ends, divided by
-    /// those of a tile. An end that is left out counts as one that is not. The fault names F2,
-    /// exactly where a quotient does not fit.
+    /// those of a tile. Ends that are not included count as if they were. `Passed` is F2, exactly
+    /// if a quotient does not fit.
     pub fn range(&self, b: &StBox) -> Result<TileRange, Formula>
         requires whole { is_whole b.now ≡ true }
         ensures value { OnSides b.now (λ a s. IsComputed F2 (range_parts self.now a s) (range_of self.now a s) result) }
@@ -129,13 +128,13 @@ impl Grid {
             Err(_) => Err(Formula::F2),
         }
     }
-    /// The parts of a moving point in the tiles, by rising tile: all tiles in which it is at some
-    /// instant, each with the part there.
+    /// The parts of a moving point in the tiles, in ascending order of the tiles: all tiles in
+    /// which it is at some instant, each with the part there.
     ///
-    /// `Passed` and `Limit` come exactly where they must, in this order: F2, where a quotient of
-    /// the range of the box of `a` does not fit; the limit, where that range has more than 10,000
-    /// tiles; the first part of F2, F3 or F1 that does not fit, slice by slice. Among these a
-    /// failed allocation comes only behind the limit.
+    /// `Passed` and `Limit` come exactly if they must, in this order: F2, if a quotient of the
+    /// range of the box of `a` does not fit; the limit, if that range has more than 10,000 tiles;
+    /// then the first part of F2, F3 or F1 that does not fit, slice by slice. A failed allocation
+    /// can come only after the limit.
     pub fn split(
         &self,
         alloc: Global,

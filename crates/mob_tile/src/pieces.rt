@@ -37,7 +37,7 @@ pub struct Piece {
     pub slice: Slice<PlaneLine>,
 }
 
-// The least point of the rectangle over two points.
+// The least corner of the bounding rectangle of two points.
 fn least(p: &Point, q: &Point) -> Point
     ensures value { result ≡ least_of p.now q.now }
 {
@@ -47,7 +47,7 @@ fn least(p: &Point, q: &Point) -> Point
     }
 }
 
-// And the greatest.
+// Its greatest corner.
 fn greatest(p: &Point, q: &Point) -> Point
     ensures value { result ≡ greatest_of p.now q.now }
 {
@@ -63,7 +63,7 @@ struct Edges {
     times: Vec<Frac>,
 }
 
-// The edges of a slice: the differences by x and by y, and those of time.
+// The edges of a slice: the differences in x and y, and the edges of time.
 fn edges_of(
     alloc: Global,
     grid: &Grid,
@@ -98,7 +98,7 @@ fn edges_of(
     Ok(Edges { functions, times })
 }
 
-// Where the slice is cut.
+// The instants at which the slice is cut.
 fn cuts_on(alloc: Global, span: &Span, edges: Edges) -> Result<Vec<Frac>, Fault<Formula>>
     requires level { AllByRecursion (IsLevel span.now) edges.functions.items }
     ensures made { IsMadeBy F3 (roots_parts span.now edges.functions.items) (λ v. v.items ≡ roots span.now edges.functions.items ++ edges.times.items) result }
@@ -111,7 +111,7 @@ fn cuts_on(alloc: Global, span: &Span, edges: Edges) -> Result<Vec<Frac>, Fault<
     }
 }
 
-// Puts instants in order.
+// Sorts instants.
 fn sort_cuts(cuts: &mut Vec<Frac>) -> Result<(), AllocError>
     ensures sorted { OnOk result (IsPermutation cuts.old.items cuts.new.items × IsSortedBy (λ a b. is_lt (compare_ratio a b)) cuts.new.items) }
 {
@@ -124,7 +124,7 @@ fn sort_cuts(cuts: &mut Vec<Frac>) -> Result<(), AllocError>
     }
 }
 
-// The cells of a slice, each of which lies in one tile.
+// The cells of a slice, each of which is in one tile.
 fn cells_of(
     alloc: Global,
     grid: &Grid,
@@ -135,7 +135,7 @@ fn cells_of(
     requires cuts { cuts.items ≡ cuts_of grid.now slice.now }
     ensures cells { IfOk result (λ v. AreTileCells grid.now slice.now (cuts_of grid.now slice.now) v.items) }
 {
-    // The clauses of these two say that the sides of a tile are above 0.
+    // The clauses of these two calls say that the sides of a tile are positive.
     let _size = grid.size();
     let _width = grid.width();
     let mut cuts = cuts;
@@ -146,7 +146,7 @@ fn cells_of(
     }
 }
 
-// The piece of a slice on a cell that lies in one tile.
+// The piece of a slice on a cell within one tile.
 fn piece_on(
     alloc: Global,
     grid: &Grid,
@@ -221,7 +221,7 @@ fn on_slice(
     requires reaches { Reaches grid.now range.now slice.now }
     ensures pieces { IsMadeByAll (entries_of_slice grid.now slice.now) (λ v. ArePiecesOf grid.now slice.now v.items) result }
 {
-    // The clauses of these two say that the sides of a tile are above 0.
+    // The clauses of these two calls say that the sides of a tile are positive.
     let _size = grid.size();
     let _width = grid.width();
     let edges = edges_of(alloc, grid, range, slice)?;
@@ -230,8 +230,8 @@ fn on_slice(
     pieces_at(alloc, grid, range, slice, cells.as_slice())
 }
 
-/// The pieces of all slices, in order of time. The fault names the first formula of a slice that
-/// has a part that does not fit.
+/// The pieces of all slices, in order of time. `Passed` has the first formula of a slice with a
+/// part that does not fit.
 pub fn pieces_of(
     alloc: Global,
     grid: &Grid,

@@ -27,10 +27,10 @@ pub enum SplitCause {
     Limit,
 }
 
-/// Why a moving point was not split.
+    /// An allocation failed.
 pub type SplitFault = Fault<SplitCause>;
 
-// The parts in the tiles of a range that has them all.
+// The parts in the tiles of a range that contains them all.
 fn split_in(
     alloc: Global,
     grid: &Grid,
@@ -41,7 +41,7 @@ fn split_in(
     ensures split { IfOk result (λ v. IsSplit grid.now a.now v.items) }
     ensures first { IsJudged (flat_map (entries_of_slice grid.now) a.now) result }
 {
-    // The clauses of these two say that the sides of a tile are above 0.
+    // The clauses of these two calls say that the sides of a tile are positive.
     let _size = grid.size();
     let _width = grid.width();
     let mut pieces = pieces_of(alloc, grid, range, a.slices())?;
@@ -59,7 +59,7 @@ pub fn split_by(
     ensures refusals { OnRange grid.now a.now (λ quotients range. SplitAnswer grid.now a.now quotients range result) }
     ensures limits { OnRange grid.now a.now (λ quotients range. IsLimited quotients range result) }
 {
-    // The clauses of these two say that the sides of a tile are above 0.
+    // The clauses of these two calls say that the sides of a tile are positive.
     let _size = grid.size();
     let _width = grid.width();
     let range = match grid.range(&box_of(a)) {

@@ -1,4 +1,4 @@
--- Settings that differ in the number of workers alone ask for one answer.
+-- Settings that differ only in the number of workers ask for one answer.
 use Rattle.std.specs.Prelude.{map}
 use Rattle.std.proofs.Common.{◌≡◌, ◌≢◌, ℕ, List, [], ◌∷◌, refl, sym, ap, ap₂, subst, ◌∙◌, Option, Some, None}
 use Rattle.std.specs.List.{AllZip}

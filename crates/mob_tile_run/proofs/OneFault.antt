@@ -54,7 +54,7 @@ module _ (g : GridOf) where
   one_split_fault row (Some v) (Because (Limit r)) NoMemory some other h k = absurd (other refl)
   one_split_fault row (Some v) NoMemory f some other h k = absurd (some refl)
 
-  -- ---- the first row with a fault, from so many rows on
+  -- ---- the first row with a fault, from row n on
   first_twice : (n : ℕ) (bs cs : List (Option Trip)) (t u : Option Trip) (us ds : List (Option Trip)) (ps qs : List Parts) (e f : Fault PairCause) → e ≢ NoMemory → f ≢ NoMemory → bs ++ t ∷ us ≡ cs ++ u ∷ ds → AllZip (IsSplitOf g) bs ps → AllZip (IsSplitOf g) cs qs → IsSplitFault g t (n + length bs) e → IsSplitFault g u (n + length cs) f → e ≡ f
   first_twice n [] [] t u us ds ps qs e f some other same h k p q = let head : t ≡ u = cc same in one_split_fault (n + 0) u e f some other (subst (λ z. IsSplitFault g z (n + 0) e) head p) q
   first_twice n [] (c ∷ cs) t u us ds ps [] e f some other same h k p q = absurd k

@@ -1,4 +1,4 @@
--- The arguments of a command line say one record of settings.
+-- The arguments of a command line give one record of settings.
 use Rattle.std.specs.Prelude.{◌≡◌, List, ℕ, Option, codes}
 use Rattle.std.proofs.Common.{refl}
 use Rattle.mob_ratio.specs.Ratio.{Ratio}

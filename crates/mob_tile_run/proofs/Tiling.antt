@@ -24,7 +24,7 @@ pub record IsTiling (g : GridOf) (day : ℤ) (ids : List Value) (all rest : List
   pub are : AllZip (IsSplitOf g) before splits
   pub made : records ≡ records_from day ids 0 splits
 
--- the fault of a row for that of its trip
+-- the fault of a row, from that of its trip
 pub split_fault : (V : Type 0) (g : GridOf) (v : Trip) (row : ℕ) (fault : Fault SplitCause) → OnRange g v (λ quotients range. SplitAnswer {V = V} g v quotients range (Err fault)) → IsSplitFault g (Some v) row (row_fault row fault)
 split_fault V g v row (Because (split.Passed formula)) h = (refl, h)
 split_fault V g v row (Because split.Limit) h = (refl, h)

@@ -1,4 +1,4 @@
--- What arguments say can be used.
+-- The settings of accepted arguments are usable.
 use Rattle.std.specs.Prelude.{◌≡◌, ◌≤◌, List, ℕ, Option, Some, None, IfSome, codes, true}
 use Rattle.std.proofs.Common.{arith, sym, subst}
 use Rattle.mob_ratio.specs.Ratio.{Ratio}

@@ -13,11 +13,11 @@ use Rattle.mob_tile_run.specs.declared.settings.TileSettings.{TileSettings}
 abbrev pub tile_command : App
 tile_command = command_of (codes "mobtile") (codes "size" ∷ codes "width" ∷ codes "near" ∷ codes "workers" ∷ codes "epoch" ∷ [])
 
--- a side of the tiles: a number as a literal text of type numeric says it, above 0
+-- a side of the tiles: a number, written like a literal of type numeric, that is positive
 abbrev pub IsSide : Text → Ratio → Type 0
 IsSide text d = Lit numbers text (Ok d) × (nil <ℚ d)
 
--- both sides, whose options have to be there
+-- both sides, whose options are required
 pub record IsSides (size width : Option Text) (g : GridOf) : Type 0 where
   pub size_is : IsRequired IsSide size g.size
   pub width_is : IsRequired IsSide width g.width
@@ -26,7 +26,7 @@ pub record IsSides (size width : Option Text) (g : GridOf) : Type 0 where
 abbrev pub IsNear : Option Text → Option Ratio → Type 0
 IsNear value near = IsOptional IsDistance value near
 
--- the arguments are taken, and say these settings
+-- the arguments are accepted and give these settings
 pub record TileSays (words : List Text) (settings : TileSettings) : Type 0 where
   pub taken : Takes tile_command words
   pub sides : IsSides (option_value tile_command (codes "size") words) (option_value tile_command (codes "width") words) settings.grid

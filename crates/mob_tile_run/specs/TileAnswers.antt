@@ -15,21 +15,21 @@ use Rattle.mob_tile_run.specs.TileTexts.{pair_fields, pair_names}
 use Rattle.mob_tile_run.specs.TileParts.{PartsText, IsFirstSplitFault}
 use Rattle.mob_tile_run.specs.declared.settings.TileSettings.{TileSettings}
 
--- the distance is not below 0, and there are from 1 to 64 workers
+-- the distance is not negative, and there are 1 to 64 workers
 pub record IsUsable (settings : TileSettings) : Type 0 where
   pub distance : IfSome settings.near (λ d. up_to nil d ≡ true)
   pub some_workers : 1 ≤ settings.workers
   pub few_workers : settings.workers ≤ 64
 
--- the text of the pairs of trips that come within d, where all rows have their ranges and all tests
--- of pairs fit
+-- the text of the pairs of trips that come within d, if all rows have their ranges and all tests of
+-- pairs fit
 pub record PairsText (g : GridOf) (d : Ratio) (day : ℤ) (ids : List Value) (trips : List (Option Trip)) (text : List ℕ) : Type 0 where
   pub pairs : List (ℕ × ℕ)
   pub are : ArePairs trips d pairs
   pub fit : PairsFit g d trips
   pub text_is : text ≡ answer_text pair_names (map (pair_fields day ids) pairs)
 
--- the text for these trips: with a distance of their pairs, and without one of their parts
+-- the text for these trips: with a distance that of their pairs, without one that of their parts
 abbrev pub TileWritesBy : Option Ratio → TileSettings → List Value → List (Option Trip) → List ℕ → Type 0
 TileWritesBy None settings ids trips text = PartsText settings.grid settings.epoch ids trips text
 TileWritesBy (Some d) settings ids trips text = PairsText settings.grid d settings.epoch ids trips text
@@ -45,7 +45,7 @@ TileFailsBy (Some d) settings trips fault = IsPairsFault settings.grid d trips f
 abbrev pub TileFails : TileSettings → List (Option Trip) → Fault PairCause → Type 0
 TileFails settings trips fault = TileFailsBy settings.near settings trips fault
 
--- the two differ in the number of workers alone
+-- the two differ only in the number of workers
 pub record AreSameButWorkers (a b : TileSettings) : Type 0 where
   pub grid : a.grid ≡ b.grid
   pub near : a.near ≡ b.near

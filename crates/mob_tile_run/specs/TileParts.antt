@@ -1,4 +1,4 @@
--- The parts of the trips of a table, and the first row that has none.
+-- The parts of the trips of a table, and the first row without a split.
 use Rattle.std.specs.Prelude.{◌≡◌, ◌∷◌, ◌++◌, ◌+◌, ℕ, ℤ, List, [], Option, Some, None, Err, map, length}
 use Rattle.std.specs.List.{AllZip, flat_map}
 use Rattle.mob_frac.specs.Formula.{AllFit}
@@ -18,13 +18,13 @@ use Rattle.mob_trips.specs.Rows.{Trip}
 use Rattle.mob_tile_run.specs.TileTexts.{part_fields, part_names}
 use Rattle.mob_list.specs.declared.fault.Fault.TheVariants.{Because, NoMemory}
 
--- The split of a trip, where all parts of formulas fit and the range of its box has at most 10,000
+-- The split of a trip, if all parts of formulas fit and the range of its box has at most 10,000
 -- tiles; a row without a trip has none.
 abbrev pub IsSplitOf : GridOf → Option Trip → List (Tile × Trip) → Type 0
 IsSplitOf g None parts = parts ≡ []
 IsSplitOf g (Some v) parts = IsSplit g v parts × OnRange g v (λ quotients range. AllFit quotients × (¬ HasMany range) × IsFirst (flat_map (entries_of_slice g) v) None)
 
--- the fault of a row for that of its trip
+-- the fault of a row, from that of its trip
 abbrev pub row_fault : ℕ → Fault SplitCause → Fault PairCause
 row_fault row (Because (split.Passed formula)) = Because (Passed (row ∷ []) formula)
 row_fault row (Because split.Limit) = Because (Limit row)
@@ -34,14 +34,14 @@ row_fault row NoMemory = NoMemory
 abbrev pub SplitFails : GridOf → Trip → Fault SplitCause → Type 0
 SplitFails g v fault = OnRange g v (λ quotients range. SplitAnswer {V = List (Tile × Trip)} g v quotients range (Err fault))
 
--- The fault of a row: why its trip is not split, on this row. Out of memory has no row.
+-- The fault of a row: why its trip is not split, with this row. Out of memory has no row.
 abbrev pub IsSplitFault : GridOf → Option Trip → ℕ → Fault PairCause → Type 0
 IsSplitFault g None row fault = ⊥
 IsSplitFault g (Some v) row (Because (Passed rows formula)) = (rows ≡ row ∷ []) × SplitFails g v (Because (split.Passed formula))
 IsSplitFault g (Some v) row (Because (Limit r)) = (r ≡ row) × SplitFails g v (Because split.Limit)
 IsSplitFault g (Some v) row NoMemory = Unit {0}
 
--- the fault of some row, while all rows before it are split
+-- the fault of a row, where all rows before it are split
 pub record IsSomeSplitFault (g : GridOf) (trips : List (Option Trip)) (fault : Fault PairCause) : Type 0 where
   pub before : List (Option Trip)
   pub here : Option Trip

@@ -17,8 +17,8 @@ use Rattle.mob_tile_run.specs.declared.settings.TileSettings.{TileSettings}
 use Rattle.mob_list.specs.declared.fault.Fault.TheVariants.{Because, NoMemory}
 
 -- It writes the parts of trips in tiles or, with a distance, the pairs that come within it. A
--- formula with a part that does not fit stops it, and rows with more than 10,000 tiles pass its
--- limit; where there is no such fault, it has a text.
+-- formula with a part that does not fit stops it, and rows with more than 10,000 tiles exceed its
+-- limit; if there is no such fault, it has a text.
 abbrev pub tile_program : ProgramOf TileSettings
 tile_program = record {
   says = TileSays;
@@ -29,16 +29,16 @@ tile_program = record {
   fits = λ settings rows. ((names : List ℕ) (formula : Formula) → TileFails settings (trips_in rows) (Because (pair.Passed names formula)) → ⊥) × ((row : ℕ) → TileFails settings (trips_in rows) (Because (pair.Limit row)) → ⊥);
 }
 
--- the ending of a fault: its rows with the formula, a row past the limit, or out of memory
+-- the ending for a fault: its rows with the formula, a row beyond the limit, or out of memory
 abbrev pub EndsAt : Fault PairCause → Ending → Type 0
 EndsAt (Because (pair.Passed rows formula)) ending = ending ≡ end.Overflow rows formula
 EndsAt (Because (pair.Limit row)) ending = ending ≡ end.RowsRefused (row ∷ [])
 EndsAt NoMemory ending = ending ≡ end.NoMemory
 
--- so ends a run on these streams, where its arguments say these settings
+-- the ending of a run on these streams, if its arguments give these settings
 abbrev pub TileEnds : TileSettings → StreamSeen → StreamSeen → Ending → Type 0
 TileEnds settings table out ending = (words : List (List ℕ)) → TileSays words settings → IsTripsEnding tile_program ending (trips_seen words table out)
 
--- the line of arguments that are not taken
+-- the line for arguments that are not accepted
 abbrev pub tile_usage : List ℕ
 tile_usage = codes "usage: mobtile --size S --width W [--near D] [--workers N] [--epoch DATE] < trips.csv\n"

@@ -7,7 +7,7 @@ use Rattle.mob_literal.specs.Fields.{field_text}
 use Rattle.mob_grid.specs.declared.tile.Tile.{Tile}
 use Rattle.mob_trips.specs.Rows.{Trip, id_at}
 
--- a tile: its three numbers, with blanks between them
+-- a tile: its three numbers, with spaces between them
 abbrev pub tile_text : Tile → List ℕ
 tile_text a = signed_decimal a.i ++ (codes " " ++ signed_decimal a.j) ++ (codes " " ++ signed_decimal a.k)
 

@@ -1,4 +1,4 @@
-// The text of the answer.
+//! The text of the answer of mobtile.
 ghost use Rattle.std.specs.Prelude.{◌≡◌, ◌≤◌, true, length, map, IfOk, IfErr};
 ghost use Rattle.mob_ratio.specs.Order.{up_to};
 ghost use Rattle.mob_ratio.specs.Sign.{nil};
@@ -25,7 +25,7 @@ use std::alloc::{AllocError, Global};
 use std::marker::Sync;
 use std::thread::Threads;
 
-// The text of pairs, each of which is printed where it is written.
+// The text of pairs, each of which is printed directly into the text.
 fn text_of(
     alloc: Global,
     ids: &[Value],
@@ -93,7 +93,8 @@ fn answer<R: Threads + Sync, G: Gate>(
 }
 
 /// The text for the rows of a table: the parts of its trips in tiles, or the pairs of rows that
-/// come within a distance.
+/// come within a distance; or the fault. Apart from a failed allocation the result does not depend
+/// on the number of workers.
 pub fn tile_text<R: Threads + Sync, G: Gate>(
     rt: &R,
     alloc: Global,

@@ -1,4 +1,4 @@
-// What a run does before its note.
+//! A run up to its note.
 ghost use Rattle.std.specs.Prelude.{map, string_bytes};
 ghost use Rattle.mob_outside.specs.EndsSeen.{stream_seen};
 ghost use Rattle.mob_trips.specs.Endings.{IsTripsEnding};
@@ -18,7 +18,7 @@ use std::alloc::Global;
 use std::marker::Sync;
 use std::thread::Threads;
 
-// The ending of a fault.
+// The ending for a fault.
 fn ending_of(fault: PairFault) -> Ending
     ensures ending { EndsAt fault result }
 {
@@ -54,7 +54,7 @@ fn answer_table<R: Threads + Sync, S: Source, K: Sink, G: Gate>(
     put_text(out, &text)
 }
 
-/// Judges the arguments, reads the table and writes the parts or the pairs.
+/// Judges the arguments, reads the table and writes the parts or the pairs. Returns the ending.
 pub fn decide<R: Threads + Sync, S: Source, K: Sink, G: Gate>(
     rt: &R,
     alloc: Global,

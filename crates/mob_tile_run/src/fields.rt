@@ -1,4 +1,4 @@
-// The fields of records.
+//! The fields of records.
 ghost use Rattle.std.specs.Prelude.{◌≡◌, ◌++◌, codes, string_bytes, IfOk, OnOk};
 ghost use Rattle.std.specs.Fmt.{signed_decimal};
 ghost use Rattle.mob_literal.specs.Fields.{field_text};
@@ -26,7 +26,7 @@ fn push_number(text: &mut String, n: i64) -> Result<(), AllocError>
     text.push_str(digits.format(n))
 }
 
-// Adds a blank and a whole number.
+// Adds a space and a whole number.
 fn push_next(text: &mut String, n: i64) -> Result<(), AllocError>
     ensures written { OnOk result (string_bytes text.new ≡ string_bytes text.old ++ (codes " " ++ signed_decimal n)) }
 {
@@ -34,7 +34,7 @@ fn push_next(text: &mut String, n: i64) -> Result<(), AllocError>
     push_number(text, n)
 }
 
-// A tile as a field: its three numbers with blanks between them.
+// A tile as a field: its three numbers with spaces between them.
 fn tile_field(alloc: Global, tile: &Tile) -> Result<Text, AllocError>
     ensures text { IfOk result (λ t. t ≡ tile_text tile.now) }
 {
@@ -55,7 +55,8 @@ fn part_field(alloc: Global, part: Moving<PlaneLine>, epoch: &Epoch) -> Result<T
     Ok(Text::from_string(text))
 }
 
-/// The fields of a part of the trip of a row: the id, the tile and the part.
+/// The fields of a part of the trip of a row: the id, the tile and the part. The only error is a
+/// failed allocation.
 pub fn part_fields(
     alloc: Global,
     ids: &[Value],
@@ -85,12 +86,12 @@ fn write_id(ids: &[Value], row: u32, epoch: &Epoch, into: &mut String) -> Result
     write_field(&ids[index], epoch, into)
 }
 
-/// Prints pairs of rows: the ids of both.
+/// Prints pairs of rows as the ids of both.
 #[derive(Clone, Copy)]
 pub struct PairPrinter<'a> {
     /// The ids of all rows.
     pub ids: &'a [Value],
-    /// The epoch by which instants are printed.
+    /// The epoch with which instants are printed.
     pub epoch: &'a Epoch,
 }
 
@@ -116,7 +117,7 @@ impl<'a> FieldPrinter<(u32, u32)> for PairPrinter<'a> {
     }
 }
 
-/// The names of the columns of parts.
+/// The names of the columns of parts. The only error is a failed allocation.
 pub fn part_names(alloc: Global) -> Result<Items<Text>, AllocError>
     ensures names { IfOk result (λ names. names ≡ part_names) }
 {
@@ -130,7 +131,7 @@ pub fn part_names(alloc: Global) -> Result<Items<Text>, AllocError>
     Ok(names)
 }
 
-/// The names of the columns of pairs.
+/// The names of the columns of pairs. The only error is a failed allocation.
 pub fn pair_names(alloc: Global) -> Result<Items<Text>, AllocError>
     ensures names { IfOk result (λ names. names ≡ pair_names) }
 {

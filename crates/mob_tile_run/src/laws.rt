@@ -1,4 +1,4 @@
-//! What holds of every run of mobtile. No code runs here.
+//! The law of every run of mobtile. No code runs here.
 ghost use Rattle.std.specs.Prelude.{◌≡◌, ◌≢◌, ℕ, List, Option};
 ghost use Rattle.mob_value.specs.declared.value.Value.{Value};
 ghost use Rattle.mob_grid.specs.Tiles.{IsGrid};
@@ -9,8 +9,8 @@ ghost use Rattle.mob_trips.specs.Rows.{Trip};
 ghost use Rattle.mob_tile_run.specs.TileAnswers.{AreSameButWorkers, TileWrites, TileFails};
 ghost use Rattle.mob_tile_run.specs.declared.settings.TileSettings.{TileSettings};
 
-/// The number of workers changes nothing: settings that differ in it alone ask for one text, or for
-/// one fault, and never for both. Out of memory is aside.
+/// The number of workers changes nothing: settings that differ only in it ask for one text or for
+/// one fault, never for both, apart from out of memory.
 pub fn workers_change_nothing()
     ensures text { (a b : TileSettings) (ids : List Value) (trips : List (Option Trip)) (t u : List ℕ) → IsGrid a.grid → AreSameButWorkers a b → TileWrites a ids trips t → TileWrites b ids trips u → t ≡ u }
     ensures fault { (a b : TileSettings) (trips : List (Option Trip)) (e f : Fault PairCause) → AreSameButWorkers a b → e ≢ NoMemory → f ≢ NoMemory → TileFails a trips e → TileFails b trips f → e ≡ f }

@@ -1,4 +1,4 @@
-// The parts of trips in the tiles of a grid.
+//! The parts of trips in the tiles of a grid.
 ghost use Rattle.std.specs.Prelude.{◌≡◌, ◌≤◌, ◌++◌, length, map, IfOk, IfErr, OnOk, MatchResult};
 ghost use Rattle.mob_records.specs.AnswerText.{answer_text};
 ghost use Rattle.mob_tile_run.specs.TileTexts.{part_fields, part_names};
@@ -17,7 +17,7 @@ use mob_tuples::Tuple;
 use mob_value::Value;
 use std::alloc::{AllocError, Global};
 
-// The fault of a row for that of its trip.
+// The fault of a row, from that of its trip.
 fn row_fault(row: u32, fault: SplitFault) -> PairFault
     ensures same { result ≡ row_fault row fault }
 {
@@ -31,7 +31,7 @@ fn row_fault(row: u32, fault: SplitFault) -> PairFault
     }
 }
 
-// The parts of the trip of a row, which may have none.
+// The parts of the trip of a row, if it has one.
 fn split_row(
     alloc: Global,
     grid: &Grid,
@@ -104,7 +104,7 @@ fn text_of(alloc: Global, records: &[Items<Text>]) -> Result<Vec<u8>, AllocError
 }
 
 /// The text of the parts of all trips, row by row and then by tile, or the fault of the first row
-/// that has no split.
+/// without a split.
 pub fn parts_text(
     alloc: Global,
     grid: &Grid,

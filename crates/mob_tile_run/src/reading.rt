@@ -1,4 +1,4 @@
-// The settings of a run, read from the values of its options.
+//! The settings of a run, read from the values of its options.
 ghost use Rattle.std.specs.Prelude.{Option, IfOk, IfSome, IsNone, map, option_map, string_bytes};
 ghost use Rattle.mob_ratio.specs.Ratio.{Ratio};
 ghost use Rattle.mob_grid.specs.Tiles.{GridOf};
@@ -14,7 +14,7 @@ use mob_tile::{Grid, is_positive};
 use mob_words::{distance_in, epoch_of, workers_of};
 use std::alloc::{AllocError, Global};
 
-// The number that a text says, if it is above 0.
+// The number of a text, if it is positive.
 fn side_in(text: &str) -> Option<Frac>
     ensures some { IfSome result (λ d. IsSide text.now d) }
     ensures none { IsNone result → (d : Ratio) → IsSide text.now d → ⊥ }
@@ -28,7 +28,7 @@ fn side_in(text: &str) -> Option<Frac>
     Some(number)
 }
 
-// The side of a tile that the value of an option says; the option is required.
+// The side of a tile in the value of an option, which is required.
 fn side_of(value: Option<&str>) -> Option<Frac>
     ensures some { IfSome result (λ d. IsRequired IsSide (option_map (λ s. s.now) value.entry) d) }
     ensures none { IsNone result → (d : Ratio) → IsRequired IsSide (option_map (λ s. s.now) value.entry) d → ⊥ }
@@ -39,7 +39,7 @@ fn side_of(value: Option<&str>) -> Option<Frac>
     }
 }
 
-// The grid that the values of `--size` and `--width` say.
+// The grid in the values of `--size` and `--width`.
 fn grid_of(size: Option<&str>, width: Option<&str>) -> Option<Grid>
     ensures some { IfSome result (IsSides (option_map (λ s. s.now) size.entry) (option_map (λ s. s.now) width.entry)) }
     ensures none { IsNone result → (g : GridOf) → IsSides (option_map (λ s. s.now) size.entry) (option_map (λ s. s.now) width.entry) g → ⊥ }
@@ -53,7 +53,7 @@ fn grid_of(size: Option<&str>, width: Option<&str>) -> Option<Grid>
     Grid::new(size, width)
 }
 
-// The distance that the value of `--near` says; without a value there is none.
+// The distance in the value of `--near`; without a value there is none.
 fn near_of(value: Option<&str>) -> Option<Option<Frac>>
     ensures some { IfSome result (λ near. IsNear (option_map (λ s. s.now) value.entry) near) }
     ensures none { IsNone result → (near : Option Ratio) → IsNear (option_map (λ s. s.now) value.entry) near → ⊥ }
@@ -67,12 +67,12 @@ fn near_of(value: Option<&str>) -> Option<Option<Frac>>
     }
 }
 
-/// The settings that the arguments say, the first of which is the program's name: `--size S` and
-/// `--width W` with numbers above 0, `--near D` with a number that is not below 0, `--workers N`
+/// The settings that the arguments give, the first of which is the program's name: `--size S` and
+/// `--width W` with positive numbers, `--near D` with a number that is not negative, `--workers N`
 /// with a whole number from 1 to 64, and `--epoch DATE`. `--size` and `--width` are required, and
 /// each option may be given once.
 ///
-/// None exactly where the arguments are not taken.
+/// `None` exactly if the arguments are not accepted. The only error is a failed allocation.
 pub fn settings(alloc: Global, words: &[String]) -> Result<Option<TileSettings>, AllocError>
     ensures said { IfOk result (λ o. IfSome o (TileSays (map string_bytes words.now))) }
     ensures refused { IfOk result (λ o. IsNone o → (s : SettingsSeen) → TileSays (map string_bytes words.now) s → ⊥) }

@@ -1,17 +1,17 @@
-// The settings of a run.
+//! The settings of a run.
 use mob_frac::Frac;
 use mob_scalar::Epoch;
 use mob_tile::Grid;
 
-/// What the arguments of a command line say.
+/// The settings that the arguments give.
 #[derive(Clone, Copy, Debug)]
 pub struct TileSettings {
     /// The sides of the tiles.
     pub grid: Grid,
-    /// The distance within which pairs come, not below 0; None for the parts of trips.
+    /// The distance within which pairs come, not negative; `None` for the parts of trips.
     pub near: Option<Frac>,
-    /// The number of workers, from 1 to 64: 1 without `--workers`.
+    /// The number of workers, from 1 to 64; 1 without `--workers`.
     pub workers: u32,
-    /// The day from whose midnight the instants count: 2000-01-01 without `--epoch`.
+    /// The day from whose midnight instants count; 2000-01-01 without `--epoch`.
     pub epoch: Epoch,
 }

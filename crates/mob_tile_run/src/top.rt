@@ -1,4 +1,4 @@
-// The top call.
+//! The top call.
 ghost use Rattle.std.specs.Prelude.{map, string_bytes};
 ghost use Rattle.mob_outside.specs.EndsSeen.{stream_seen};
 ghost use Rattle.mob_outside.specs.Streams.{Puts};
@@ -18,22 +18,22 @@ use std::thread::Threads;
 const USAGE: &[u8] =
     b"usage: mobtile --size S --width W [--near D] [--workers N] [--epoch DATE] < trips.csv\n";
 
-/// Puts the line of an ending of mobtile.
+/// Writes the line of an ending of mobtile.
 pub fn tell_tile<E: Sink>(notes: &mut E, ending: &Ending)
     ensures puts { Puts (trips_note tile_usage ending.now) (E.held notes.old) (E.held notes.new) (E.faults notes.old) (E.faults notes.new) }
 {
     tell(notes, USAGE, ending);
 }
 
-/// One run of mobtile, by the arguments of its command line and its streams: it reads the table
-/// from `table`, writes the parts of its trips in tiles or, with `--near`, the pairs of rows that
-/// come within a distance to `out`, and after every status but 0 puts one line into `notes`. It
-/// returns the status.
+/// Runs mobtile with the arguments of its command line and its streams, and returns the exit
+/// status. It reads the table from `table`. It writes the parts of its trips in tiles to `out`, or
+/// with `--near` the pairs of rows that come within a distance. For every status but 0 it writes
+/// one line to `notes`.
 ///
 /// | status | when |
 /// |---|---|
 /// | 0 | the table was read to its end and accepted, and `out` took all of the text |
-/// | 2 | the arguments are not taken |
+/// | 2 | the arguments are not accepted |
 /// | 3 | the table could not be read |
 /// | 4 | `out` failed, and took a part of the text |
 /// | 5 | out of memory |
@@ -48,9 +48,9 @@ pub fn run_tile<R: Threads + Sync, S: Source, K: Sink, E: Sink, G: Gate>(
     notes: &mut E,
     gate: &G,
 ) -> u8
-    // `IsTripsRun` has a line for each status and each other promise, by what was seen of the run
-    // and of its note. `IsExactRun` adds that 6 and 8 come exactly where the first fault of the
-    // rows, or of the tests of pairs, is a limit or a formula, out of memory aside.
+    // `IsTripsRun` has a line for each status and each other promise, about what is seen of the run
+    // and its note. `IsExactRun` adds that 6 and 8 come exactly if the first fault of the rows, or
+    // of the tests of pairs, is a limit or a formula, apart from out of memory.
     ensures promises { IsTripsRun tile_program tile_usage result
         (trips_seen (map string_bytes words.now) (stream_seen S.left S.faults table.old table.new) (stream_seen K.held K.faults out.old out.new))
         (λ line. Puts line (E.held notes.old) (E.held notes.new) (E.faults notes.old) (E.faults notes.new)) }

@@ -1,4 +1,4 @@
-// The values that arguments give to the options.
+//! The values that arguments give to the options.
 ghost use Rattle.std.specs.Prelude.{◌≡◌, IfOk, IfSome, IsNone, codes, map, option_map, string_bytes};
 ghost use Rattle.mob_words.specs.Arguments.{Takes, option_value};
 ghost use Rattle.mob_tile_run.specs.CommandLine.{tile_command};
@@ -16,7 +16,8 @@ pub struct Values<'a> {
     pub epoch: Option<&'a str>,
 }
 
-/// The value of each option, or None where the command does not take the arguments.
+/// The value of each option, or `None` if the command does not take the arguments. The only error
+/// is a failed allocation.
 pub fn values_in<'a>(alloc: Global, words: &'a [String]) -> Result<Option<Values<'a>>, AllocError>
     ensures taken { IfOk result (λ o. IfSome o (λ v. Takes tile_command (map string_bytes words.entry.now))) }
     ensures refused { IfOk result (λ o. IsNone o → Takes tile_command (map string_bytes words.entry.now) → ⊥) }

@@ -1,4 +1,4 @@
--- What a status says, by its ending, and what asks for a status.
+-- The meaning of a status, from its ending, and what makes a status certain.
 use Rattle.std.specs.Prelude.{◌≡◌, ◌⊎◌, ℕ, List, Some, refl}
 use Rattle.std.proofs.Common.{ap, subst, inl, inr}
 use Rattle.std.specs.Io.KnownBytes.{Keeps}

@@ -1,4 +1,4 @@
--- What was read of the table is the table, and why a run ended so.
+-- What was read is the table, and the cause of the ending.
 use Rattle.std.specs.Prelude.{◌≡◌, ◌≤◌, ℕ, List, Option, Some}
 use Rattle.std.proofs.Common.{arith, sym, subst, inl, inr}
 use Rattle.std.proofs.Math.Nat.{eq-or-lt_of_le}
@@ -73,7 +73,7 @@ module _ {Settings : Type 0} (p : ProgramOf Settings) (s : TripsSeen) (settings 
     ends_on WriteFault h k = absurd h
     ends_on (TableRefused kind rec field) h k = absurd h
 
-    -- there is, and it was written
+    -- there is one, and it was written
     pub ends_put : (text : List ℕ) (ending : Ending) → p.writes settings rows text → PutsText text s.out.told_before s.out.told_now s.out.faults_before s.out.faults_now ending → IsTripsEnding p ending s
     ends_put text Done w h = ending_by Done (record { ended = ended; text = text; is = on_rows (λ settings rows. p.writes settings rows text) rows read w; whole = h })
     ends_put text WriteFault w h = ending_by WriteFault (record { ended = ended; text = text; is = on_rows (λ settings rows. p.writes settings rows text) rows read w; part = h.0; rose = h.1 })

@@ -1,4 +1,4 @@
--- Why a run ends as it does.
+-- The cause of each ending.
 use Rattle.std.specs.Prelude.{◌≡◌, ◌⊎◌, ◌≤◌, ◌+◌, ℕ, List, length}
 use Rattle.std.specs.Io.KnownBytes.{Appends, Consumes, IsAtEnd, Keeps}
 use Rattle.mob_ast.specs.declared.refusal.Kind.{Kind}
@@ -39,8 +39,8 @@ module _ {Settings : Type 0} (p : ProgramOf Settings) where
     pub through : IsAtEnd s.table.told_now ⊎ (length bytes ≡ file_limit + 1)
     pub refused : OnTable p s (λ settings bytes. IsTripTableRefused (p.day settings) bytes (file_fault kind rec field))
 
-  -- the table was read to its end, and these rows pass a limit, or have a part of this formula that
-  -- does not fit
+  -- the table was read to its end, and these rows exceed a limit, or have a part of this formula
+  -- that does not fit
   pub record PassLimit (s : TripsSeen) (names : List ℕ) : Type 0 where
     pub ended : IsAtEnd s.table.told_now
     pub fault : OnTable p s (OnRows p (λ settings rows. p.limits settings rows names))
@@ -49,8 +49,8 @@ module _ {Settings : Type 0} (p : ProgramOf Settings) where
     pub ended : IsAtEnd s.table.told_now
     pub fault : OnTable p s (OnRows p (λ settings rows. p.stops settings rows names formula))
 
-  -- Why a run ended so. Nothing was written but under `Done` and `WriteFault`, and under `Usage`
-  -- nothing was read.
+  -- The cause of an ending. Something is written only under `Done` and `WriteFault`, and under
+  -- `Usage` nothing is read.
   abbrev pub IsTripsCause : Ending → TripsSeen → Type 0
   IsTripsCause Done s = WritesAll s
   IsTripsCause Usage s = IsUntaken p s.words × Keeps s.table.told_before s.table.told_now × Keeps s.out.told_before s.out.told_now
@@ -61,8 +61,8 @@ module _ {Settings : Type 0} (p : ProgramOf Settings) where
   IsTripsCause (RowsRefused rows) s = PassLimit s rows × Keeps s.out.told_before s.out.told_now
   IsTripsCause (Overflow rows formula) s = StopsAt s rows formula × Keeps s.out.told_before s.out.told_now
 
-  -- How a run ended: by its cause; by usage, or out of memory, where the arguments are not taken;
-  -- with at most one byte past the limit read, and counts that do not fall.
+  -- What holds of every ending: it has its cause; it is usage, or out of memory, if the arguments
+  -- are not accepted; at most one byte past the limit is read, and counts do not fall.
   pub record IsTripsEnding (ending : Ending) (s : TripsSeen) : Type 0 where
     pub cause : IsTripsCause ending s
     pub usage : IsUntaken p s.words → (ending ≡ Usage) ⊎ (ending ≡ NoMemory)
@@ -70,7 +70,7 @@ module _ {Settings : Type 0} (p : ProgramOf Settings) where
     pub read_later : s.table.faults_before ≤ s.table.faults_now
     pub put_later : s.out.faults_before ≤ s.out.faults_now
 
-  -- how a run ends that has read its rows and has no text for them
+  -- the ending of a run that has read its rows and has no text for them
   abbrev pub EndsOn : Settings → List (List Value) → Ending → Type 0
   EndsOn settings rows (RowsRefused names) = p.limits settings rows names
   EndsOn settings rows (Overflow names formula) = p.stops settings rows names formula

@@ -17,11 +17,11 @@ trips_status (TableRefused kind rec field) = 6
 trips_status (RowsRefused rows) = 6
 trips_status (Overflow rows formula) = 8
 
--- what is before the numbers of rows
+-- the text before the numbers of rows
 abbrev pub rows_word : List ℕ
 rows_word = codes "rows "
 
--- what is behind them: a formula that is passed, or a limit
+-- the text after them: a formula that overflows, or a limit
 abbrev pub formula_text : Formula → List ℕ
 formula_text formula = codes ": formula " ++ (formula_name formula ++ codes " passes 62 bits\n")
 
@@ -37,7 +37,8 @@ limit_line rows = rows_word ++ (rows_text rows ++ limit_text)
 abbrev pub table_refusal_line : Kind → ℕ → ℕ → List ℕ
 table_refusal_line kind rec field = codes "table" ++ record_text kind rec field
 
--- the line that an ending leaves in the notes; `usage` is the line of arguments that are not taken
+-- the line that an ending leaves in the notes; `usage` is the line for arguments that are not
+-- accepted
 abbrev pub trips_note : List ℕ → Ending → List ℕ
 trips_note usage Done = []
 trips_note usage Usage = usage

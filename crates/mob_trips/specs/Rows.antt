@@ -8,7 +8,7 @@ use Rattle.mob_value.specs.declared.value.Value.TheVariants.{Null, MovingPoint}
 abbrev pub Trip : Type 0
 Trip = List (Slice PlaneLine)
 
--- the moving point that a value is; NULL is none
+-- the moving point of a value; NULL has none
 abbrev pub moving_point : Value → Option Trip
 moving_point (MovingPoint v) = Some v
 moving_point _ = None

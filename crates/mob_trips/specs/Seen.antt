@@ -1,5 +1,5 @@
--- What a run was given and what it did: its arguments, and what the table and `out` told before it
--- and after it.
+-- What a run was given and what it did: its arguments, and the state of the table and of `out`
+-- before and after it, as far as it is visible.
 use Rattle.std.specs.Prelude.{ℕ, List}
 use Rattle.mob_outside.specs.EndsSeen.{StreamSeen}
 

@@ -1,4 +1,4 @@
-// How a run ends.
+//! The endings of a run.
 ghost use Rattle.std.specs.Prelude.{◌≡◌};
 
 use mob_ast::Kind;
@@ -11,7 +11,7 @@ use mob_tuples::Tuple;
 pub enum Ending {
     /// Status 0: the table was read and accepted, and the text for it was written whole.
     Done,
-    /// Status 2: the arguments of the command line are not taken.
+    /// Status 2: the arguments are not accepted.
     Usage,
     /// Status 3: the table could not be read.
     ReadFault,
@@ -21,14 +21,14 @@ pub enum Ending {
     NoMemory,
     /// Status 6: the table is refused.
     TableRefused {
-        /// Why it is refused.
+        /// The kind of refusal.
         kind: Kind,
         /// The number of the record, from 1; 0 for the file as a whole.
         rec: u32,
         /// The number of the field, from 1; 0 for the record as a whole.
         field: u32,
     },
-    /// Status 6: rows pass a limit of the program.
+    /// Status 6: rows exceed a limit of the program.
     RowsRefused {
         /// The numbers of the rows, from 0.
         rows: Tuple,

@@ -1,4 +1,4 @@
-// The one line that a run which did not end well leaves in its notes.
+//! The line that a run leaves in its notes, unless it ended well.
 ghost use Rattle.mob_outside.specs.Streams.{Puts};
 ghost use Rattle.mob_trips.specs.Lines.{formula_text, limit_line, passes_line, table_refusal_line, trips_note};
 
@@ -16,7 +16,7 @@ fn put_refusal<E: Sink>(notes: &mut E, kind: Kind, rec: u32, field: u32) -> Resu
     put_record(notes, kind, rec, field)
 }
 
-// The formula, behind the rows.
+// The formula, after the rows.
 fn put_passes<E: Sink>(notes: &mut E, formula: Formula) -> Result<(), Failed>
     ensures puts { Puts (formula_text formula) (E.held notes.old) (E.held notes.new) (E.faults notes.old) (E.faults notes.new) }
 {
@@ -37,7 +37,7 @@ fn put_overflow<E: Sink>(notes: &mut E, rows: &[u32], formula: Formula) -> Resul
     put_passes(notes, formula)
 }
 
-// The line of rows that pass a limit.
+// The line of rows that exceed a limit.
 fn put_limit<E: Sink>(notes: &mut E, rows: &[u32]) -> Result<(), Failed>
     ensures puts { Puts (limit_line rows.now) (E.held notes.old) (E.held notes.new) (E.faults notes.old) (E.faults notes.new) }
 {
@@ -61,8 +61,8 @@ fn put_line<E: Sink>(notes: &mut E, usage: &[u8], ending: &Ending) -> Result<(),
     }
 }
 
-/// Puts the line of an ending, in pieces that take no memory; `usage` is the line of arguments that
-/// are not taken. A fault of the notes cuts it short and changes nothing else.
+/// Writes the line of an ending, in pieces, without allocating; `usage` is the line for arguments
+/// that are not accepted. A fault of the notes cuts it short and changes nothing else.
 pub fn tell<E: Sink>(notes: &mut E, usage: &[u8], ending: &Ending)
     ensures puts { Puts (trips_note usage.now ending.now) (E.held notes.old) (E.held notes.new) (E.faults notes.old) (E.faults notes.new) }
 {

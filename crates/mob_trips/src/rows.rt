@@ -1,4 +1,4 @@
-// The ids and the trips of the rows of a table.
+//! The ids and the trips of the rows of a table.
 ghost use Rattle.std.specs.Prelude.{◌≡◌, IfOk, map};
 ghost use Rattle.mob_literal.specs.Fields.{field_text};
 ghost use Rattle.mob_trips.specs.Rows.{id_at, id_of, moving_point, trip_of};
@@ -11,7 +11,7 @@ use mob_slice::{Moving, PlaneLine};
 use mob_value::{Rows, Value};
 use std::alloc::{AllocError, Global};
 
-// The moving point that a value is; NULL is none.
+// The moving point of a value; NULL has none.
 fn moving_point(value: Value) -> Option<Moving<PlaneLine>>
     ensures value { result ≡ moving_point value }
 {
@@ -35,7 +35,7 @@ fn split_row(row: Items<Value>) -> (Value, Option<Moving<PlaneLine>>)
     (id, moving_point(trip))
 }
 
-/// The ids and the trips of the rows.
+/// The ids and the trips of the rows. The only error is a failed allocation.
 pub fn split_rows(
     alloc: Global,
     rows: Rows<Value>,
@@ -54,7 +54,7 @@ pub fn split_rows(
     Ok((ids, trips))
 }
 
-/// The id of the row of this number, as a field.
+/// The id of the row of this number, as a field. The only error is a failed allocation.
 pub fn id_text(alloc: Global, ids: &[Value], row: u32, epoch: &Epoch) -> Result<Text, AllocError>
     ensures text { IfOk result (λ t. t ≡ field_text epoch.now (id_at ids.now row)) }
 {

@@ -1,5 +1,5 @@
 //! Tests of texts of values, as a table, and of calls on values over time: those that no script
-//! reaches, and values taken together.
+//! reaches, and unions of values.
 #![tactic(auto)]
 
 #[cfg(test)]

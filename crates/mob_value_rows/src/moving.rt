@@ -1,6 +1,6 @@
-// Calls on values over time that no script reaches: the slice at an instant, products by steps and
-// by one number, and the pieces of an iteration. The epoch is 2000-01-01, so that the instant 2 is
-// its second 2. What scripts say of such values stands in `checks/rows`.
+//! Calls on values over time that no script reaches: the slice at an instant, products with steps
+//! and with one number, and the pieces of an iteration. The epoch is 2000-01-01, so the instant 2
+//! is its second 2. What scripts do with such values is tested in `checks/rows`.
 
 use crate::together::is_printed;
 use mob_arith::{times_const, times_step};
@@ -18,7 +18,7 @@ fn is_number(number: &Frac, wanted: Option<i64>) -> bool {
     wanted == Some(number.num()) && number.den() == 1
 }
 
-// Whether the slice at an instant starts with that whole number; None where there is no slice.
+// Whether the slice at an instant starts with this whole number; `None` if there is no slice.
 fn starts_with(number: &Moving<Line>, instant: i64, wanted: Option<i64>) -> bool {
     match Frac::new(instant, 1) {
         Ok(t) => match number.slice_at(&t) {
@@ -31,7 +31,7 @@ fn starts_with(number: &Moving<Line>, instant: i64, wanted: Option<i64>) -> bool
 
 static STARTS: [(&'static str, i64, Option<i64>); 5] = [
     ("[0@2000-01-01 00:00:00, 1@2000-01-01 00:00:03]", 1, Some(0)),
-    // two lines with one slope are one, and it starts where the first does
+    // two lines with the same slope become one, which starts where the first does
     (
         "{[0@2000-01-01 00:00:00, 1@2000-01-01 00:00:01), [1@2000-01-01 00:00:01, 4@2000-01-01 00:00:04]}",
         2,
@@ -43,9 +43,9 @@ static STARTS: [(&'static str, i64, Option<i64>); 5] = [
         1,
         Some(5),
     ),
-    // the end that a value leaves out
+    // an end that the value does not include
     ("[0@2000-01-01 00:00:00, 1@2000-01-01 00:00:01)", 1, None),
-    // a rise that does not fit
+    // a difference that does not fit
     (
         "[-4611686018427387903@2000-01-01 00:00:00, 1@2000-01-01 00:00:02]",
         1,
@@ -90,7 +90,7 @@ fn is_multiple(alloc: Global, line: &Moving<Line>, factor: &Frac, wanted: &str) 
     }
 }
 
-// Whether the product of a line by one number, or by steps, prints so.
+// Whether the product of a line with one number, or with steps, prints like this.
 fn is_product(alloc: Global, factor: &Value, line: &Moving<Line>, wanted: &str) -> bool {
     match factor {
         Value::Number(factor) => is_multiple(alloc, line, factor, wanted),
@@ -180,7 +180,7 @@ fn own_pieces(number: &Moving<Steady<Frac>>) -> u32 {
     count
 }
 
-// Whether a tint has so many pieces, by itself and beside itself.
+// Whether a tint has this many pieces, alone and with itself.
 fn has_pieces(alloc: Global, text: &str, wanted: u32) -> bool {
     match &read_value(alloc, SqlType::TInt, text, &Epoch::standard()) {
         Ok(Value::MovingInt(number)) => {

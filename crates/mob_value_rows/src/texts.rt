@@ -1,6 +1,6 @@
-// Texts of values, fields, moments, days and values of a ttext: how they are read and printed. The
-// epoch is 2000-01-01. Texts that a SELECT prints are in `checks/rows`; here is what no script
-// tells apart, as the fault of a text that is refused.
+//! Texts of values, fields, moments, days and values of a ttext: how they are read and printed. The
+//! epoch is 2000-01-01. Texts that a SELECT prints are in `checks/rows`; here are those that no
+//! script can distinguish, such as the faults of refused texts.
 
 use mob_ast::SqlType;
 use mob_frac::{Frac, Overflow};
@@ -15,7 +15,7 @@ use std::alloc::{AllocError, Global};
 enum Reading {
     // as a value of this type, printed
     Value(SqlType),
-    // as a field of this type, written again
+    // as a field of this type, printed again
     Field(SqlType),
     // as a moment, printed as its instant
     Instant,
@@ -23,11 +23,11 @@ enum Reading {
     Moment,
     // as the day of an epoch, printed as its number
     Day,
-    // a value of a ttext at the beginning, and behind a bar the rest
+    // a value of a ttext at the beginning; after a bar the rest
     TextAt,
 }
 
-// A text, and what is printed of what it says, or the name of its fault.
+// A text, and its printed value, or the name of its fault.
 type Row = (Reading, &'static str, &'static str);
 
 static ROWS: [Row; 140] = [
@@ -418,7 +418,7 @@ fn push_day(text: &str, into: &mut String) -> Result<(), AllocError> {
     }
 }
 
-// The last bytes of a text, as many as there are in the rest.
+// The last bytes of a text, as many as the rest has.
 fn end_of<'a>(text: &'a str, rest: &[u8]) -> &'a str {
     let from = text.len().saturating_sub(rest.len());
     text.get(from..).unwrap_or("")
@@ -446,7 +446,7 @@ fn push(alloc: Global, reading: Reading, text: &str, into: &mut String) -> Resul
     }
 }
 
-// Whether this and no more is put behind what is there.
+// Whether exactly this is appended to the text.
 fn is_said(alloc: Global, row: &Row) -> bool {
     let (reading, text, wanted) = *row;
     let mut into = String::new(alloc);

@@ -1,4 +1,4 @@
-// Temporal values together, by calls that no script reaches alone.
+//! Unions of temporal values, by calls that no script reaches directly.
 
 use mob_ast::SqlType;
 use mob_frac::Frac;
@@ -64,7 +64,7 @@ static LOGIC: [Logic; 2] = [
     ),
 ];
 
-// Two tints, their sum, and the ones of the first.
+// Two tints, their sum, and the count of the first.
 static SUMS: [Logic; 2] = [
     (
         "[1@2001-01-01, 1@2001-01-03]",

@@ -1,4 +1,4 @@
--- Commands that are made one option after the other.
+-- Commands built option by option.
 use Rattle.std.proofs.Common.{◌≡◌, ◌<◌, ◌+◌, ◌++◌, ◌∷◌, [], Bor, List, ℕ, ap, map, take, get_or, length, refl, sym, ◌∙◌}
 use Rattle.std.proofs.lemmas.List.{map-append, take_more}
 use Rattle.clap.specs.Words.{App, Rule, Text, new_app, with_rule}
@@ -18,7 +18,7 @@ one_more name options next = ap (with_rules (without_flags (new_app name))) (sym
 abbrev texts : List (Bor (List ℕ)) → List Text
 texts options = map (λ o. o.now) options
 
--- with the next of the options that are lent
+-- with the next of the borrowed options
 pub next_option : (name : Text) (options : List (Bor (List ℕ))) (i : ℕ) (other : Bor (List ℕ)) (before after : App) → i < length options
     → before ≡ command_of name (map (λ o. o.now) (take i options)) → after ≡ with_rule before (option (get_or options i other).now)
     → after ≡ command_of name (map (λ o. o.now) (take (i + 1) options))

@@ -1,4 +1,4 @@
--- A value that is no number of ships says no demo.
+-- A value that is not a number of ships gives no demo.
 use Rattle.std.proofs.Common.{ℕ, Option, Some}
 use Rattle.clap.specs.Words.{Text}
 use Rattle.mob_words.specs.Arguments.{IsCount}

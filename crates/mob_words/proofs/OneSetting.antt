@@ -1,4 +1,4 @@
--- The words of a command line say one thing.
+-- The arguments of a command line have one meaning.
 use Rattle.std.proofs.Common.{arith, ◌≡◌, refl, ℕ, Option}
 use Rattle.std.specs.Prelude.{codes}
 use Rattle.clap.specs.Words.{Text}

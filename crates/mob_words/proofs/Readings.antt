@@ -1,4 +1,4 @@
--- The value of an option says one thing.
+-- The value of an option has one meaning.
 use Rattle.std.proofs.Common.{arith, ◌≡◌, ◌∙◌, ◌≤◌, ap, subst, sym, true≢false, ℕ, ℤ, Option, Some, None, Ok, Err}
 use Rattle.std.specs.Prelude.{◌≢◌, Result, true, false}
 use Rattle.std.proofs.lemmas.Fmt.{decimal_injective}
@@ -13,7 +13,7 @@ use Rattle.mob_numeral.specs.declared.fault.ReadText.TheVariants.{NoMemory}
 use Rattle.mob_scalar.proofs.OneReadings.{one_epoch, one_number}
 use Rattle.mob_words.specs.Arguments.{IsCount, IsDistance, IsEpoch, IsOptional, IsRequired, IsWorkers}
 
--- ---- options that have to be there, and options that may be missing
+-- ---- required options, and optional ones
 
 module _ {A : Type 0} (Says : Text → A → Type 0) (one : (text : Text) (a b : A) → Says text a → Says text b → a ≡ b) where
   pub one_required : (value : Option Text) (a b : A) → IsRequired Says value a → IsRequired Says value b → a ≡ b
@@ -54,7 +54,7 @@ one_ratio text q d h k = same_ok (one_number text (Ok q) (Ok d) (known q) (known
 pub one_distance : (text : Text) (q d : Ratio) → IsDistance text q → IsDistance text d → q ≡ d
 one_distance text q d h k = one_ratio text q d h.0 k.0
 
--- what is below 0 says no distance
+-- a negative number is not a distance
 pub negative : (text : Text) (q d : Ratio) → Lit numbers text (Ok q) → before q nil ≡ true → IsDistance text d → ⊥
 negative text q d h k i =
     let above = i.1 in
@@ -62,6 +62,6 @@ negative text q d h k i =
     let c : before d nil ≡ false = grind (arith, above) in
     true≢false (sym b ∙ c)
 
--- what cannot be read says no number
+-- a text that cannot be read is not a number
 pub unread : (text : Text) (r : Result Ratio ReadText) (d : Ratio) → r ≢ Err NoMemory → ((v : Ratio) → r ≡ Ok v → ⊥) → Lit numbers text r → Lit numbers text (Ok d) → ⊥
 unread text r d n none h i = none d (one_number text r (Ok d) n (known d) h i)

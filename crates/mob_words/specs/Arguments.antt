@@ -1,5 +1,5 @@
--- Arguments of the programs, whose options each take one value: which a command takes, and what
--- values say.
+-- Arguments of the programs, whose options each take one value: which arguments a command takes,
+-- and what values mean.
 use Rattle.std.specs.Prelude.{◌≡◌, ◌≤◌, ℕ, ℤ, List, [], Option, Some, None, Ok, decimal, map, true}
 use Rattle.clap.specs.Words.{App, Rule, Text, fault_of, first_of, matches_of, new_app, new_rule}
 use Rattle.mob_ratio.specs.Ratio.{Ratio}
@@ -16,11 +16,11 @@ use Rattle.mob_scalar.specs.Epochs.{epochs}
 abbrev pub option : Text → Rule
 option name = record (new_rule name) { long = Some name }
 
--- the command without the two options that `clap` adds by itself
+-- the command without the two options that `clap` adds itself
 abbrev pub without_flags : App → App
 without_flags a = record a { top = record a.top { disable_help_flag = true; disable_version_flag = true } }
 
--- the command of this name with these options, and no other; each takes one value
+-- the command of this name with these options and no others; each takes one value
 unfoldable pub command_of : Text → List Text → App
 command_of name options = let bare = without_flags (new_app name) in record bare { top = record bare.top { rules = map option options } }
 
@@ -32,26 +32,26 @@ Takes command words = fault_of command words ≡ []
 unfoldable pub option_value : App → Text → List Text → Option Text
 option_value command name words = first_of name (matches_of command words)
 
--- ---- what values say
+-- ---- what values mean
 
--- an option that has to be there
+-- a required option
 module _ {A : Type 0} where
   abbrev pub IsRequired : (Text → A → Type 0) → Option Text → A → Type 0
   IsRequired Says None said = ⊥
   IsRequired Says (Some text) said = Says text said
 
--- an option that may be missing
+-- an optional option
 module _ {A : Type 0} where
   abbrev pub IsOptional : (Text → A → Type 0) → Option Text → Option A → Type 0
   IsOptional Says None o = o ≡ None
   IsOptional Says (Some text) o = (said : A) × (o ≡ Some said) × Says text said
 
--- a whole number from 1 to the greatest that is taken, in decimal digits, without a sign and a
--- leading zero
+-- a whole number from 1 to the greatest allowed, in decimal digits, without a sign or a leading
+-- zero
 abbrev pub IsCount : ℕ → Text → ℕ → Type 0
 IsCount most text n = (text ≡ decimal n) × (1 ≤ n) × (n ≤ most)
 
--- a distance: a number as a literal text of type numeric says it, not below 0
+-- a distance: a number, written like a literal of type numeric, that is not negative
 abbrev pub IsDistance : Text → Ratio → Type 0
 IsDistance text d = Lit numbers text (Ok d) × (up_to nil d ≡ true)
 

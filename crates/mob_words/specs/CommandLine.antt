@@ -12,8 +12,8 @@ command = command_of (codes "mobsql") (codes "workers" ∷ codes "epoch" ∷ cod
 abbrev pub IsDemo : Option Text → Option ℕ → Type 0
 IsDemo value demo = IsOptional (IsCount 1000) value demo
 
--- the words are taken, and say these settings: the number of workers, the day of the epoch, and the
--- demo
+-- the arguments are accepted and give these settings: the number of workers, the day of the epoch,
+-- and the demo
 pub record WordsSay (words : List Text) (settings : Settings) : Type 0 where
   pub taken : Takes command words
   pub count : IsWorkers (option_value command (codes "workers") words) settings.workers

@@ -1,4 +1,4 @@
-// Commands whose options each take one value, and the arguments that they take.
+//! Commands whose options each take one value, and the arguments that they take.
 ghost use Rattle.std.specs.Prelude.{◌≡◌, IfOk, IfSome, IsNone, map, string_bytes, true};
 ghost use Rattle.clap.specs.Words.{Text, app_of, first_value, found_of, is_simple_and_free, new_app, with_rule};
 ghost use Rattle.mob_words.specs.Arguments.{Takes, command_of, option, option_value, without_flags};
@@ -7,7 +7,7 @@ use clap::error::ErrorKind;
 use clap::{Arg, ArgMatches, Command};
 use std::alloc::{AllocError, Global};
 
-// The command of a program, without options: help and version are no options of it either.
+// The command of a program, without options, and without help and version.
 fn bare_command<'a>(alloc: Global, name: &'a str) -> Command<'a>
     ensures bare { app_of result ≡ without_flags (new_app name.entry.now) }
 {
@@ -28,7 +28,7 @@ fn with_option<'a>(
     command.arg(option)
 }
 
-// The command of this name with these options, each of which takes one value, and no other.
+// The command of this name with these options and no others. Each takes one value.
 fn command<'a>(alloc: Global, name: &'a str, options: &[&'a str]) -> Result<Command<'a>, AllocError>
     ensures made { IfOk result (λ c. app_of c ≡ command_of name.entry.now (map (λ o. o.now) options.entry.now)) }
 {
@@ -39,8 +39,8 @@ fn command<'a>(alloc: Global, name: &'a str, options: &[&'a str]) -> Result<Comm
     Ok(command)
 }
 
-// What the arguments give to the options of a command, of which no option has a rule on another
-// one. None exactly where the command does not take the arguments.
+// The values that the arguments give to the options of a command, in which no option has a rule
+// about another. `None` exactly if the command does not take the arguments.
 fn matched<'a>(
     command: Command<'a>,
     words: &'a [String],
@@ -59,10 +59,10 @@ fn matched<'a>(
     }
 }
 
-/// What the arguments give to the options of the command of this name, which takes these options
-/// and no other, each with one value and at most once. The first argument is the program's name.
-/// None exactly where the command does not take the arguments. Whether it takes them is what `clap`
-/// states.
+/// The values that the arguments give to the options of the command of this name, which has these
+/// options and no others. Each takes one value, at most once. The first argument is the program's
+/// name. `None` exactly if the command does not take the arguments, as `clap` specifies it. The
+/// only error is a failed allocation.
 pub fn given<'a>(
     alloc: Global,
     name: &'a str,

@@ -1,5 +1,5 @@
-//! Arguments of the programs: the commands that take them, what their values say, and the settings
-//! of mobsql.
+//! Arguments of the programs: the commands that take them, the meaning of their values, and the
+//! settings of mobsql.
 #![tactic(auto)]
 
 mod command;

@@ -1,4 +1,4 @@
-// What the values of options say.
+//! The values of options.
 ghost use Rattle.std.specs.Prelude.{ℕ, ℤ, IfSome, IsNone, option_map};
 ghost use Rattle.mob_ratio.specs.Ratio.{Ratio};
 ghost use Rattle.mob_words.specs.Arguments.{IsCount, IsDistance, IsEpoch, IsRequired, IsWorkers};
@@ -11,7 +11,7 @@ use mob_scalar::Epoch;
 // The greatest number of workers.
 const MOST_WORKERS: u32 = 64;
 
-/// A whole number from 1 to `most`, in decimal digits without a sign or a leading zero; None for
+/// A whole number from 1 to `most`, in decimal digits without a sign or a leading zero; `None` for
 /// every other text.
 pub fn count_in(text: &str, most: u32) -> Option<u32>
     ensures some { IfSome result (λ n. IsCount most text.now n) }
@@ -24,8 +24,8 @@ pub fn count_in(text: &str, most: u32) -> Option<u32>
     }
 }
 
-/// The count that the value of a required option says, from 1 to `most`; None without a value and
-/// for every other text.
+/// The count from 1 to `most` in the value of a required option; `None` without a value and for
+/// every other text.
 pub fn count_of(value: Option<&str>, most: u32) -> Option<u32>
     ensures some { IfSome result (λ n. IsRequired (IsCount most) (option_map (λ s. s.now) value.entry) n) }
     ensures none { IsNone result → (n : ℕ) → IsRequired (IsCount most) (option_map (λ s. s.now) value.entry) n → ⊥ }
@@ -36,8 +36,8 @@ pub fn count_of(value: Option<&str>, most: u32) -> Option<u32>
     }
 }
 
-/// The number of workers that the value of `--workers` says, from 1 to 64, or 1 without a value;
-/// None for every other text.
+/// The number of workers in the value of `--workers`, from 1 to 64; 1 without a value; `None` for
+/// every other text.
 pub fn workers_of(value: Option<&str>) -> Option<u32>
     ensures some { IfSome result (λ n. IsWorkers (option_map (λ s. s.now) value.entry) n) }
     ensures none { IsNone result → (n : ℕ) → IsWorkers (option_map (λ s. s.now) value.entry) n → ⊥ }
@@ -48,7 +48,7 @@ pub fn workers_of(value: Option<&str>) -> Option<u32>
     }
 }
 
-/// A number that is not below 0, as a literal of type numeric is written; None for every other
+/// A number that is not negative, written like a literal of type numeric; `None` for every other
 /// text.
 pub fn distance_in(text: &str) -> Option<Frac>
     ensures some { IfSome result (λ d. IsDistance text.now d) }
@@ -63,8 +63,8 @@ pub fn distance_in(text: &str) -> Option<Frac>
     Some(number)
 }
 
-/// The epoch that the value of `--epoch` says, an existing date `YYYY-MM-DD` of the years 0001 to
-/// 9999, or 2000-01-01 without a value; None for every other text.
+/// The epoch in the value of `--epoch`: an existing date `YYYY-MM-DD` of the years 0001 to 9999;
+/// 2000-01-01 without a value; `None` for every other text.
 pub fn epoch_of(value: Option<&str>) -> Option<Epoch>
     ensures some { IfSome result (λ epoch. IsEpoch (option_map (λ s. s.now) value.entry) epoch) }
     ensures none { IsNone result → (day : ℤ) → IsEpoch (option_map (λ s. s.now) value.entry) day → ⊥ }

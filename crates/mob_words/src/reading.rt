@@ -1,4 +1,4 @@
-// What the arguments of mobsql say.
+//! The arguments of mobsql.
 ghost use Rattle.std.specs.Prelude.{ℕ, Option, IfOk, IfSome, IsNone, map, option_map, string_bytes};
 ghost use Rattle.mob_words.specs.CommandLine.{IsDemo, WordsSay};
 ghost use Rattle.mob_words.specs.declared.options.Settings.{Settings as SettingsSeen};
@@ -11,7 +11,7 @@ use std::alloc::{AllocError, Global};
 // The greatest number of ships of the demo.
 const MOST_SHIPS: u32 = 1000;
 
-// The number of ships of the demo that an option's value says; none goes without one.
+// The number of ships of the demo in an option's value; without a value there is no demo.
 #[tactic(auto, using(crate::proofs::Counts::no_ships))]
 fn demo_of(value: Option<&str>) -> Option<Option<u32>>
     ensures some { IfSome result (λ demo. IsDemo (option_map (λ s. s.now) value.entry) demo) }
@@ -26,14 +26,14 @@ fn demo_of(value: Option<&str>) -> Option<Option<u32>>
     }
 }
 
-/// The settings that the arguments say, the first of which is the program's name: `--workers N`
-/// with a whole number from 1 to 64 in decimal digits, `--epoch DATE` with an existing date
-/// `YYYY-MM-DD` of the years 0001 to 9999, and `--demo N` with a whole number from 1 to 1000. Each
-/// option may be left out, and may be given once; `--workers=N` says the same as the two arguments.
+/// The settings that the arguments give, the first of which is the program's name. `--workers N`
+/// has a whole number from 1 to 64 in decimal digits, `--epoch DATE` an existing date `YYYY-MM-DD`
+/// of the years 0001 to 9999, and `--demo N` a whole number from 1 to 1000. Each option may be
+/// omitted, and may be given once; `--workers=N` is the same as the two arguments.
 ///
-/// None exactly where the arguments are not taken: another argument, an option twice or without its
-/// value, or a value that is none. Whether `clap` takes the arguments of this command is that
-/// crate's stated meaning.
+/// `None` exactly if the arguments are not accepted: another argument, an option given twice or
+/// without its value, or an invalid value. Which arguments this command takes is specified by
+/// `clap`. The only error is a failed allocation.
 pub fn settings(alloc: Global, words: &[String]) -> Result<Option<Settings>, AllocError>
     ensures said { IfOk result (λ o. IfSome o (WordsSay (map string_bytes words.now))) }
     ensures refused { IfOk result (λ o. IsNone o → (s : SettingsSeen) → WordsSay (map string_bytes words.now) s → ⊥) }

@@ -1,4 +1,4 @@
-//! The program: `run_near` over the arguments and the streams of the process.
+//! The program mobnear: `run_near` over the arguments and the streams of the process.
 #![tactic(auto)]
 
 use mob_near_run::{run_near, tell_near};

@@ -1,4 +1,4 @@
-//! The program: `run` over the words, the streams and the folder of the process.
+//! The program mobsql: `run` over the arguments, the streams and the current folder.
 #![tactic(auto)]
 
 use mob_outside::{DirFiles, OpenGate, StdSink, StdSource};

@@ -1,4 +1,4 @@
-//! The program: `run_thin` over the arguments and the streams of the process.
+//! The program mobthin: `run_thin` over the arguments and the streams of the process.
 #![tactic(auto)]
 
 use mob_outside::{StdSink, StdSource};

@@ -1,4 +1,4 @@
-//! The program: `run_tile` over the arguments and the streams of the process.
+//! The program mobtile: `run_tile` over the arguments and the streams of the process.
 #![tactic(auto)]
 
 use mob_outside::{OpenGate, StdSink, StdSource};

@@ -1,4 +1,4 @@
-//! Which operators of a query are remembered.
+//! Chooses the operators of a query that are remembered.
 ghost use Rattle.std.specs.Prelude.{◌≡◌, ◌==◌, ◌++◌, true, List, map};
 ghost use Rattle.mob_typed.specs.Trees.{TypedTree, typed_of, typed_trees};
 ghost use Rattle.mob_eval.specs.Remembered.{AreCopies, AreNodes, all_nodes_at, names_only, nodes_at, nodes_here, place_of, reads_only, root_seen};
@@ -11,17 +11,18 @@ use mob_typed::TExpr;
 use mob_value::Store;
 use std::alloc::{AllocError, Global};
 
-// How many operators are remembered at most, about: each is looked for at each operator.
+// About how many operators are remembered at most. Each is compared at each operator, so more would
+// slow down every evaluation.
 const MOST: usize = 8;
 
-/// The nodes at a place of the script.
+/// The nodes at a place in the script.
 #[derive(Clone, Copy)]
 pub enum NodesAt<'a> {
-    /// There is none.
+    /// There are none.
     Nobody,
-    /// There is this one, and each other one is equal to it.
+    /// This one; any others are equal to it.
     Only(&'a TExpr),
-    /// There are several that differ.
+    /// Several that differ.
     Several,
 }
 
@@ -37,8 +38,8 @@ fn same_type(one: SqlType, other: SqlType) -> bool
     one == other
 }
 
-// Whether two nodes are equal. A key that names a column of the answer is a copy of its expression,
-// at the same places of the script.
+// Whether two nodes are equal. A key that refers to a column of the answer is a copy of the
+// column's expression, at the same places in the script.
 #[tactic(auto, using(mob_typed::proofs::TreeFacts::typed_is))]
 fn are_same(one: &TExpr, other: &TExpr) -> bool
     ensures same { result ≡ true → typed_of one.now ≡ typed_of other.now }
@@ -65,7 +66,7 @@ fn are_same(one: &TExpr, other: &TExpr) -> bool
     rest.is_empty()
 }
 
-// The nodes of two parts that each have one, and perhaps copies of it.
+// The nodes of two parts that each have one, with copies of it or without.
 fn both_only<'a>(one: &'a TExpr, other: &'a TExpr) -> NodesAt<'a>
     ensures both { (es fs : List TypedTree) → AreCopies (typed_of one.now) es → AreCopies (typed_of other.now) fs → AreNodes result (es ++ fs) }
 {
@@ -87,7 +88,7 @@ fn both<'a>(one: NodesAt<'a>, other: NodesAt<'a>) -> NodesAt<'a>
     }
 }
 
-// A node by itself.
+// The node itself, if it is at this place.
 fn node_here(e: &TExpr, at: u32) -> NodesAt<'_>
     ensures nodes { AreNodes result (nodes_here (place_of (typed_of e.now) == at) (typed_of e.now)) }
 {
@@ -97,7 +98,7 @@ fn node_here(e: &TExpr, at: u32) -> NodesAt<'_>
     NodesAt::Nobody
 }
 
-// The nodes of an expression at a place of the script.
+// The nodes of an expression at a place in the script.
 fn nodes_of(e: &TExpr, at: u32) -> NodesAt<'_>
     ensures nodes { AreNodes result (nodes_at at (typed_of e.now)) }
 {
@@ -108,7 +109,7 @@ fn nodes_of(e: &TExpr, at: u32) -> NodesAt<'_>
     found
 }
 
-// Those of several expressions.
+// The nodes of several expressions.
 fn nodes_of_all<'a>(roots: &[&'a TExpr], at: u32) -> NodesAt<'a>
     ensures nodes { AreNodes result (all_nodes_at at (typed_trees (map root_seen roots.now))) }
 {
@@ -119,7 +120,7 @@ fn nodes_of_all<'a>(roots: &[&'a TExpr], at: u32) -> NodesAt<'a>
     found
 }
 
-// Whether an operator that reads a table of FROM reads that of this place.
+// Whether an operator that reads a table of FROM reads the one of this place.
 fn reads_only(op: Op, place: Option<u32>) -> bool
     ensures only { result ≡ reads_only place op }
 {
@@ -146,7 +147,7 @@ fn names_only(e: &TExpr, place: Option<u32>) -> bool
     true
 }
 
-// The places that an expression names.
+// The places of FROM that an expression names.
 #[derive(Clone, Copy)]
 enum Reach {
     Nowhere,
@@ -178,14 +179,14 @@ fn reach_of(e: &TExpr) -> Reach {
     reach
 }
 
-// What is remembered of an operator.
+// What is remembered of an operator: its outcomes or its boxes.
 #[derive(Clone, Copy)]
 enum What {
     Outcome,
     Box,
 }
 
-// An operator that may be remembered: its place in the script, and the place that it names.
+// An operator that may be remembered: its place in the script, and the place of FROM that it names.
 #[derive(Clone, Copy)]
 struct Chosen {
     at: u32,
@@ -200,7 +201,7 @@ fn is_box(what: What) -> bool {
     }
 }
 
-// Whether two are of one place of the script.
+// Whether two have the same place in the script.
 fn is_again(one: &Chosen, other: &Chosen) -> bool {
     if one.at != other.at {
         return false;
@@ -208,7 +209,7 @@ fn is_again(one: &Chosen, other: &Chosen) -> bool {
     is_box(one.what) == is_box(other.what)
 }
 
-// Adds an operator, unless one of its place of the script is there.
+// Adds an operator, unless one with its place in the script is in the list.
 fn add(one: Chosen, chosen: &mut Vec<Chosen>) -> Result<(), AllocError> {
     for other in chosen.as_slice() {
         if is_again(&one, other) {
@@ -219,8 +220,8 @@ fn add(one: Chosen, chosen: &mut Vec<Chosen>) -> Result<(), AllocError> {
     Ok(())
 }
 
-// Which place an expression names, if it names at most one. Where each row is passed once, and the
-// expression is evaluated once on it, only one that names none is of use.
+// The place of FROM that an expression names, if it names at most one. If each row is visited once
+// and the expression is evaluated once on it, remembering helps only if it names none.
 fn place_named(e: &TExpr, again: bool) -> Option<Option<u32>> {
     match reach_of(e) {
         Reach::Nowhere => Some(None),
@@ -277,7 +278,7 @@ fn places_of(alloc: Global, roots: &[&TExpr]) -> Result<Vec<u32>, AllocError> {
     Ok(places)
 }
 
-// Whether one of some places in order is there twice.
+// Whether a place occurs twice in a sorted list.
 fn is_twice(places: &[u32], place: u32) -> bool {
     let Ok(found) = places.binary_search(&place) else {
         return false;
@@ -288,8 +289,8 @@ fn is_twice(places: &[u32], place: u32) -> bool {
     places.get(found + 1) == Some(&place)
 }
 
-// Those of several expressions. In a query of one table, only an expression that is there twice, as
-// that of a column which a key names, is evaluated again on a row.
+// The operators of several expressions. In a query of one table, only an expression that occurs
+// twice is evaluated again on a row, such as that of a column to which a key refers.
 fn chosen_of(alloc: Global, several: bool, roots: &[&TExpr]) -> Result<Vec<Chosen>, AllocError> {
     let places = places_of(alloc, roots)?;
     let mut chosen = Vec::new(alloc);
@@ -300,7 +301,7 @@ fn chosen_of(alloc: Global, several: bool, roots: &[&TExpr]) -> Result<Vec<Chose
     Ok(chosen)
 }
 
-// How many rows the table of a place has; one cell is enough where no place is named.
+// How many rows the table of a place has; one cell is enough if no place is named.
 fn rows_at(store: &Store, from: &[u32], place: Option<u32>) -> usize {
     let Some(place) = place else {
         return 1;
@@ -314,7 +315,7 @@ fn rows_at(store: &Store, from: &[u32], place: Option<u32>) -> usize {
     }
 }
 
-// Remembers an operator, unless its place of the script has another one too.
+// Remembers an operator, unless a different one has the same place in the script.
 fn remember_one<K: Remembering>(
     alloc: Global,
     roots: &[&TExpr],
@@ -340,9 +341,9 @@ fn remember_one<K: Remembering>(
     }
 }
 
-/// A memory of the operators of these expressions that name at most one table of FROM, and of the
-/// boxes of such operands of `&&`: of about eight, and of none that shares its place in the script
-/// with a different one. If memory is refused there are fewer.
+/// A memory for the operators of these expressions that name at most one table of FROM, and for the
+/// boxes of such operands of `&&`. It remembers about eight, and none that shares its place in the
+/// script with a different one. If an allocation fails, it remembers fewer.
 pub fn memory_of<K: Remembering>(
     alloc: Global,
     store: &Store,

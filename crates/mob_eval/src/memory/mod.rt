@@ -1,4 +1,4 @@
-//! Where the outcomes of remembered operators, and the boxes of remembered operands, are kept.
+//! The memory: the outcomes of remembered operators, and the boxes of remembered operands.
 ghost use Rattle.std.specs.Prelude.{IfSome};
 ghost use Rattle.mob_remembered.specs.Depends.{HasRow};
 ghost use Rattle.mob_eval.specs.Remembered.{IsCellOf, IsOfPlace};
@@ -15,7 +15,7 @@ use std::alloc::{AllocError, Global};
 use std::marker::{Model, PhantomData};
 use std::sync::atomic::AtomicU64;
 
-// How many cells are made at once.
+// How many cells are allocated at once.
 const CELLS: usize = 256;
 
 // Cells of neighbouring rows.
@@ -44,8 +44,8 @@ impl<K: Remembering, T> Model for Slot<K, T> {
     ghost invariant = { λ s. IsOfPlace K.recollection s.at s.place };
 }
 
-/// What the remembered operators of a query gave, and the boxes of remembered operands. Workers
-/// share it; none waits for another.
+/// The outcomes of the remembered operators of a query, and the boxes of remembered operands.
+/// Workers share it without waiting for each other.
 #[derive(Drop)]
 pub struct Memory<K: Remembering> {
     slots: Vec<Slot<K, Told<Outcomes<K>>>>,
@@ -53,7 +53,7 @@ pub struct Memory<K: Remembering> {
     taken: AtomicU64,
 }
 
-// So many cells, with nothing in them.
+// `many` empty cells.
 fn empty_cells<T: Drop>(alloc: Global, many: usize) -> Result<Vec<OnceBox<T>>, AllocError> {
     let mut cells = Vec::with_capacity(alloc, many)?;
     for _cell in 0..many {
@@ -62,7 +62,7 @@ fn empty_cells<T: Drop>(alloc: Global, many: usize) -> Result<Vec<OnceBox<T>>, A
     Ok(cells)
 }
 
-// The chunk that is kept there. It is made if none is; if memory is refused there is none.
+// The chunk of this place. It is made if it does not exist; if an allocation fails there is none.
 fn chunk_in<T: Drop>(alloc: Global, kept: &OnceBox<Chunk<T>>) -> Option<&Chunk<T>> {
     if let Some(chunk) = kept.get() {
         return Some(chunk);
@@ -73,7 +73,7 @@ fn chunk_in<T: Drop>(alloc: Global, kept: &OnceBox<Chunk<T>>) -> Option<&Chunk<T
     let Ok(boxed) = Box::new(alloc, Chunk { cells }) else {
         return None;
     };
-    // Another worker may have put its chunk there first; then that one is used.
+    // Another worker may have set its chunk first; then that one is used.
     let _set = kept.set(boxed);
     kept.get()
 }
@@ -101,7 +101,7 @@ fn row_at(place: Option<u32>, tuple: &[u32]) -> Option<u32>
 }
 
 impl<K: Remembering, T: Drop> Slot<K, T> {
-    // The cell of the row of a tuple. There is none where the table has no row in the tuple.
+    // The cell of the row of a tuple; none if the table has no row in the tuple.
     fn cell<'a>(&'a self, alloc: Global, tuple: &[u32], taken: &'a AtomicU64) -> Option<Cell<'a, T>>
         ensures cell { IfSome result (λ c. IsCellOf K.recollection self.now.0 tuple.now c.at c.place c.row) }
     {
@@ -123,8 +123,7 @@ impl<K: Remembering, T: Drop> Slot<K, T> {
 }
 
 impl<K: Remembering> Memory<K> {
-    /// The memory, if something is remembered, and none if nothing is: then no operator looks for a
-    /// slot.
+    /// The memory if it remembers something, else none: then no operator looks for a slot.
     pub fn in_use(&self) -> Option<&Memory<K>> {
         if self.slots.is_empty() && self.boxes.is_empty() {
             return None;
@@ -132,7 +131,7 @@ impl<K: Remembering> Memory<K> {
         Some(self)
     }
 
-    /// Nothing is remembered yet.
+    /// A memory that remembers nothing.
     pub fn new(alloc: Global) -> Memory<K> {
         Memory {
             slots: Vec::new(alloc),
@@ -142,8 +141,8 @@ impl<K: Remembering> Memory<K> {
     }
 }
 
-// Remembers one more operator or operand, by its place in the script. It names one place of FROM
-// alone, whose table has so many rows, or it names none.
+// Remembers one more operator or operand, by its place in the script. It names one place of FROM,
+// whose table has `rows` rows, or none.
 fn remember<K: Remembering, T: Drop>(
     alloc: Global,
     at: u32,
@@ -163,7 +162,7 @@ fn remember<K: Remembering, T: Drop>(
     Ok(())
 }
 
-// The cell of what stands at a place of the script, on a tuple, if it has a slot.
+// The cell for a place in the script on a tuple, if the place has a slot.
 fn cell_in<'a, K: Remembering, T: Drop>(
     alloc: Global,
     slots: &'a [Slot<K, T>],
@@ -181,7 +180,7 @@ fn cell_in<'a, K: Remembering, T: Drop>(
     None
 }
 
-/// The cell of the operator at a place of the script, on a tuple, if its outcomes are remembered.
+/// The cell of the operator at a place in the script on a tuple, if its outcomes are remembered.
 pub fn cell_of<'a, K: Remembering>(
     alloc: Global,
     memory: Option<&'a Memory<K>>,
@@ -196,7 +195,7 @@ pub fn cell_of<'a, K: Remembering>(
     }
 }
 
-/// The cell of the operand at a place of the script, on a tuple, if its boxes are remembered.
+/// The cell of the operand at a place in the script on a tuple, if its boxes are remembered.
 pub fn box_cell_of<'a, K: Remembering>(
     alloc: Global,
     memory: Option<&'a Memory<K>>,

@@ -1,7 +1,7 @@
-//! The boxes of operands of `&&` that name at most one table.
+//! The remembered boxes of operands of `&&` that name at most one table.
 //!
 //! The box of a moving point takes a pass over its slices. The first evaluation that needs the box
-//! of such an operand on a row keeps it, and each later one takes it from there.
+//! of such an operand on a row keeps it, and later ones reuse it.
 ghost use Rattle.std.specs.Prelude.{◌≡◌, ◌∷◌, [], Ok, Some, None, IfSome};
 ghost use Rattle.mob_typed.specs.Trees.{typed_of};
 ghost use Rattle.mob_value.specs.ValueBoxes.{OnBox};
@@ -23,8 +23,8 @@ use std::alloc::Global;
 use std::marker::{Model, PhantomData};
 use std::mem::size_of;
 
-/// The box of the operand at a place of the script: on a row of the table at a place of FROM, or,
-/// if it names no place, on each tuple.
+/// The box of the operand at a place in the script: on a row of the table at a place of FROM, or on
+/// each tuple if it names no place.
 #[derive(Drop)]
 pub struct OwnBox {
     at: u32,
@@ -52,7 +52,7 @@ impl<K: Remembering> Model for ToldBox<K> {
 }
 
 impl<K: Remembering> ToldBox<K> {
-    // The box, if it is of the operand and row of a cell.
+    // The box, if it belongs to the operand and row of a cell.
     fn area_for(&self, cell: &Cell<'_, ToldBox<K>>) -> Option<StBox>
         ensures told { IfSome result (IsBoxTold K.recollection cell.now.at cell.now.place cell.now.row) }
     {
@@ -65,7 +65,7 @@ impl<K: Remembering> ToldBox<K> {
     }
 }
 
-// The box that is kept in a cell, if one is.
+// The box in a cell, if there is one.
 fn kept_box<K: Remembering>(cell: &Cell<'_, ToldBox<K>>) -> Option<StBox>
     ensures told { IfSome result (IsBoxTold K.recollection cell.now.at cell.now.place cell.now.row) }
 {
@@ -75,7 +75,7 @@ fn kept_box<K: Remembering>(cell: &Cell<'_, ToldBox<K>>) -> Option<StBox>
     }
 }
 
-// Keeps a box where there is room for it, unless another worker was faster.
+// Keeps a box in a cell if it is empty and memory allows.
 fn keep<K: Remembering>(alloc: Global, cell: &Cell<'_, ToldBox<K>>, area: StBox)
     requires told { IsBoxTold K.recollection cell.now.at cell.now.place cell.now.row area }
 {
@@ -94,11 +94,11 @@ fn keep<K: Remembering>(alloc: Global, cell: &Cell<'_, ToldBox<K>>, area: StBox)
     let Ok(boxed) = Box::new(alloc, told) else {
         return;
     };
-    // Another worker may have been faster; then its box stays.
+    // Another worker may have been first; then its box stays.
     let _set = cell.kept.set(boxed);
 }
 
-// The box that the value of an operand has, if it has one: from the memory, if it is there.
+// The box of an operand's value, if it has one; from the memory if it is there.
 fn box_with<'a, K: Remembering>(
     alloc: Global,
     operand: &TExpr,
@@ -123,7 +123,7 @@ fn box_with<'a, K: Remembering>(
     Some(area)
 }
 
-/// `&&` with a memory, from which the boxes of its operands are taken.
+/// `&&` with a memory, which gives the boxes of its operands.
 pub fn overlap_with<'a, K: Remembering>(
     alloc: Global,
     operands: &[TExpr],

@@ -1,10 +1,11 @@
-//! Which operators are remembered, and what the memory tells of them.
+//! What a memory may remember: the operators, and the meaning of their outcomes.
 ghost use Rattle.mob_eval.specs.Remembered.{Recollection, nothing};
 
 use mob_outcome::cells::Telling;
 use std::marker::{Brand, PhantomData};
 
-/// Which operators are remembered, by their places in the script, and over which tables.
+/// The operators that are remembered, by their places in the script, and the tables over which they
+/// are.
 pub trait Remembering {
     ghost recollection: { Recollection };
 }
@@ -12,7 +13,7 @@ pub trait Remembering {
 /// Nothing is remembered.
 pub struct Nothing;
 
-// What is remembered of a query is picked where its memory is made.
+// What is remembered of a query is chosen where its memory is made.
 impl Remembering for Brand {
     ghost recollection = { nothing };
 }
@@ -21,7 +22,7 @@ impl Remembering for Nothing {
     ghost recollection = { nothing };
 }
 
-/// The outcomes of the operators that are remembered, which the cells of a memory tell.
+/// The outcomes of the remembered operators, which are in the cells of a memory.
 pub struct Outcomes<K: Remembering> {
     by: PhantomData<K>,
 }

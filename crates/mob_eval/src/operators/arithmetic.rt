@@ -47,7 +47,7 @@ fn plain(by: Calculation, left: &Value, right: &Value) -> Result<Value, Fault<Fo
     }
 }
 
-// The operation on two operands of which one has slices.
+// The operation on two operands, one of which has slices.
 fn lifted(
     alloc: Global,
     by: Calculation,
@@ -65,7 +65,7 @@ fn lifted(
     }
 }
 
-// `+`, `-` or `*` at each instant, on two values of which one is a tint.
+// `+`, `-` or `*` at each instant, on two values, one of which is a tint.
 fn moving(
     alloc: Global,
     by: Calculation,
@@ -99,7 +99,7 @@ pub fn calculate(
     }
 }
 
-// `/` between two values. NULL where the divisor is 0.
+// `/` between two values; NULL if the divisor is 0.
 fn plain_division(left: &Value, right: &Value) -> Result<Value, Fault<Formula>>
     ensures outcome { IsOutcome (λ v. v ≡ quotient left.now right.now) (IsFirst (plain_entries (parts_on divided_parts left.now right.now))) result }
 {
@@ -118,7 +118,7 @@ fn plain_division(left: &Value, right: &Value) -> Result<Value, Fault<Formula>>
     }
 }
 
-/// `/` between two values, with a result of this type. NULL where the divisor is 0.
+/// `/` between two values, with a result of this type; NULL if the divisor is 0.
 pub fn division(
     alloc: Global,
     ty: SqlType,

@@ -19,7 +19,7 @@ fn is_same_type(from: SqlType, to: SqlType) -> bool
     from == to
 }
 
-// A value of the first type made one of the second.
+// Casts a value of the first type to the second.
 fn cast_to<'a>(
     alloc: Global,
     from: SqlType,

@@ -36,7 +36,7 @@ pub fn lifted_or(alloc: Global, left: &Value, right: &Value) -> Result<Value, Fa
     }
 }
 
-/// `~`: the other truth value, at each instant.
+/// `~`: the opposite truth value, at each instant.
 pub fn lifted_not(alloc: Global, value: &Value) -> Result<Value, AllocError>
     ensures value { IfOk result (λ v. IsLiftedNot value.now v) }
 {

@@ -1,4 +1,4 @@
-//! Arithmetic at each instant on numbers that change evenly.
+//! Arithmetic at each instant on linear temporal numbers.
 ghost use Rattle.std.specs.Prelude.{◌≢◌};
 ghost use Rattle.mob_frac.specs.Formula.{product_parts};
 ghost use Rattle.mob_arith.specs.Operations.{product_of};
@@ -25,7 +25,7 @@ use mob_value::Value;
 use std::alloc::Global;
 use std::mem::drop;
 
-// The sum or the difference of numbers that change evenly.
+// The sum or the difference of linear numbers.
 fn frac_terms(
     alloc: Global,
     by: Calculation,
@@ -54,7 +54,7 @@ fn frac_product(alloc: Global, left: &Value, right: &Value) -> Result<Value, Fau
     }
 }
 
-// The sum or the difference, a tint among them.
+// The sum or the difference of numbers at least one of which is linear.
 fn line_terms(
     alloc: Global,
     by: Calculation,
@@ -74,7 +74,7 @@ fn line_terms(
     }
 }
 
-// The product of a value and a number, where a tint changes evenly.
+// The product of a linear value and a number, where a tint is taken as linear.
 fn widened_product(alloc: Global, line: &Value, factor: &Value) -> Result<Value, Fault<Formula>>
     ensures outcome { IsOutcome (OnOperands line_value_of steady_value (factors (as_line line.now) factor.now) (IsMovingFrac product_of)) (IsFirst (entries_on (entries_at_ends line_value_of line_parts_of steady_value steady_parts product_parts) (factors (as_line line.now) factor.now))) result }
 {
@@ -132,7 +132,7 @@ fn frac_quotient(alloc: Global, left: &Value, right: &Value) -> Result<Value, Fa
     }
 }
 
-/// `/` with a tfrac as the result. NULL where the divisor is 0.
+/// `/` with a tfrac as the result; NULL if the divisor is 0.
 pub fn line_divided(alloc: Global, left: &Value, right: &Value) -> Result<Value, Fault<Formula>>
     ensures outcome { IsOutcome (IsLineQuotient (as_line left.now) right.now) (IsFirst (line_quotient_entries (as_line left.now) right.now)) result }
 {

@@ -1,4 +1,6 @@
-//! Each operator, on the values of its operands.
+//! Each operator, on the values of its operands. `Passed` has its first formula with a part that
+//! does not fit, and `NoMemory` comes if an allocation fails. The named operators are those of
+//! the MobilityDB manual, except `nearestApproachSquared`.
 ghost use Rattle.std.specs.Prelude.{◌≡◌, IfOk};
 ghost use Rattle.mob_eval.specs.Views.{scene_of};
 ghost use Rattle.mob_meaning.specs.Operators.{GivesOfOne, GivesOfTwo, GivesOfThree, OnEntriesOfTwo, entries_of_three};
@@ -88,7 +90,7 @@ pub fn of_one<'a>(
     }
 }
 
-// Whether what a restriction asks for is wanted, as by atTime, or the rest, as by minusTime.
+// Whether a restriction keeps what it asks for, as atTime does, or the rest, as minusTime does.
 fn wanted(op: Op) -> bool
     ensures want { result ≡ wanted op }
 {

@@ -1,4 +1,4 @@
-//! How near two points come, of which one at least moves.
+//! How near two points come, at least one of which moves.
 ghost use Rattle.mob_slice.specs.Entries.{IsFirst};
 ghost use Rattle.mob_meaning.specs.Nearness.{IsEverWithin, IsNearestApproach, within_entries, approach_entries};
 ghost use Rattle.mob_eval.specs.Outcomes.{IsOutcome};
@@ -13,7 +13,7 @@ use mob_value::Value;
 use std::alloc::Global;
 
 /// eDwithin: whether two points are at most a distance apart at some instant at which both are
-/// somewhere.
+/// defined.
 pub fn within(
     alloc: Global,
     left: &Value,
@@ -31,7 +31,7 @@ pub fn within(
     }
 }
 
-/// nearestApproachSquared: the square of the least distance to which two points come.
+/// nearestApproachSquared: the square of the least distance between two points.
 pub fn nearest_approach(alloc: Global, left: &Value, right: &Value) -> Result<Value, Fault<Formula>>
     ensures outcome { IsOutcome (IsNearestApproach left.now right.now) (IsFirst (approach_entries left.now right.now)) result }
 {

@@ -1,4 +1,4 @@
-//! A temporal value at the instants that are asked for, or at the others.
+//! Restricts a temporal value to given instants, or to the others.
 ghost use Rattle.std.specs.Prelude.{[], ◌∷◌, IfOk};
 ghost use Rattle.mob_span.specs.Sets.{in_some};
 ghost use Rattle.mob_slice.specs.Entries.{IsFirst, IsJudged};
@@ -16,7 +16,7 @@ use mob_span::{Span, SpanSet};
 use mob_value::Value;
 use std::alloc::Global;
 
-// What is left at the instants of a set, where those are wanted, or at the others.
+// The part at the instants of a set if `want` is true, else the rest.
 fn cut<C: Course + Drop>(
     alloc: Global,
     want: bool,
@@ -34,7 +34,7 @@ where
     }
 }
 
-// What is left of a temporal value of any type at the instants of a set, or at the others.
+// The same for a temporal value of any type.
 fn restricted(
     alloc: Global,
     want: bool,
@@ -53,7 +53,7 @@ fn restricted(
     }
 }
 
-// What is left of it at the instants of one span, or at the others.
+// The same for the instants of one span.
 fn restricted_to_span(
     alloc: Global,
     want: bool,
@@ -68,8 +68,8 @@ fn restricted_to_span(
     }
 }
 
-/// atTime, where `want` is true, and minusTime, where it is false: the value at the instants for
-/// which the second operand asks, or at the others.
+/// atTime if `want` is true, minusTime if it is false: the value at the instants of the second
+/// operand, or at the others.
 pub fn restriction(
     alloc: Global,
     want: bool,

@@ -29,7 +29,7 @@ use mob_value::Value;
 use std::alloc::Global;
 use std::mem::drop;
 
-// What the sign gives of a comparison of two operands. NULL where there are none.
+// The result of the sign for a comparison of two operands; NULL without operands.
 fn asked<C: Compared + Drop>(
     alloc: Global,
     scope: Scope,
@@ -53,7 +53,7 @@ where
     }
 }
 
-// What the sign gives of operands that go by steps, which have no formula.
+// The result of the sign for operands that change in steps, which have no formula.
 fn steps_asked<B: Ranked + Drop>(
     alloc: Global,
     scope: Scope,
@@ -70,7 +70,7 @@ fn steps_asked<B: Ranked + Drop>(
     }
 }
 
-// What the sign gives of numbers that change evenly, a tint among them.
+// The result of the sign for linear numbers, where a tint becomes linear.
 fn lines_asked(
     alloc: Global,
     scope: Scope,
@@ -90,7 +90,7 @@ fn lines_asked(
     }
 }
 
-// What the sign gives of values that have an order.
+// The result of the sign for ordered values.
 fn order(
     alloc: Global,
     scope: Scope,
@@ -109,8 +109,8 @@ fn order(
     }
 }
 
-// What the sign gives of values that are equal or not: truth values and points too, which have no
-// order here.
+// The result of the sign for equality, which truth values and points have too; they have no order
+// here.
 fn sameness(
     alloc: Global,
     scope: Scope,
@@ -129,7 +129,7 @@ fn sameness(
     }
 }
 
-/// A sign on operands that meet in a type or in none. Truth values and points have no order here.
+/// A sign on operands that have a common type, or none. Truth values and points have no order here.
 pub fn sign_test(
     alloc: Global,
     scope: Scope,

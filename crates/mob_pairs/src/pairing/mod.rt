@@ -1,4 +1,4 @@
-//! Pairs that are tested tile by tile, and found in the order of their rows.
+//! Pairs that are tested tile by tile and returned in the order of their rows.
 pub mod index;
 pub mod near;
 mod shares;

@@ -1,4 +1,4 @@
-//! The tiles that each row reaches, as one of the earlier and as one of the later rows of pairs.
+//! The tiles that each row reaches, as the first and as the second row of a pair.
 pub mod ranging;
 pub mod reach;
 pub mod rows;

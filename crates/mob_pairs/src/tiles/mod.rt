@@ -1,4 +1,4 @@
-//! The list of tiles that rows reach, each with its rows, made by columns of tiles.
+//! The list of tiles that rows reach, each with its rows, made column by column.
 mod columns;
 mod grouping;
 pub mod places;

@@ -1,4 +1,4 @@
-// What a run does before its note.
+//! A run up to its note.
 ghost use Rattle.std.specs.Prelude.{◌≤◌, map, string_bytes};
 ghost use Rattle.mob_outside.specs.EndsSeen.{files_seen, stream_seen};
 ghost use Rattle.mob_shell.specs.Ending.{EndsBy, IsEndingOf};
@@ -14,8 +14,8 @@ use mob_words::{Settings, settings};
 use std::alloc::Global;
 use std::thread::Threads;
 
-/// Judges the arguments, and runs the script that is handed in, or with `--demo` that of the demo.
-/// Returns the ending, `Usage` where the arguments are not accepted.
+/// Judges the arguments and runs the script, or with `--demo` the script of the demo. Returns the
+/// ending, which is `Usage` if the arguments are not accepted.
 pub fn decide<R: Threads + Sync, S: Source, F: Files, K: Sink, G: Gate>(
     rt: &R,
     alloc: Global,

@@ -1,4 +1,4 @@
-// A run of the demo.
+//! A run of the demo.
 ghost use Rattle.std.specs.Prelude.{◌≡◌, ◌≤◌, IfOk};
 ghost use Rattle.mob_outside.specs.EndsSeen.{stream_seen};
 ghost use Rattle.mob_shell.specs.Inputs.{demo_files};
@@ -12,8 +12,8 @@ use mob_words::Settings;
 use std::alloc::{AllocError, Global};
 use std::thread::Threads;
 
-// The files of a demo of so many ships: its one table file, whose calls give as many bytes as they
-// are asked for.
+// The files of a demo with this number of ships: one table file, whose reads give as many bytes as
+// they are asked for.
 fn files_of(alloc: Global, ships: u32) -> Result<MemFiles, AllocError>
     requires few { ships ≤ 1000 }
     ensures files { IfOk result (λ f. f.files ≡ demo_files ships) }
@@ -24,8 +24,8 @@ fn files_of(alloc: Global, ships: u32) -> Result<MemFiles, AllocError>
     Ok(MemFiles::new(alloc, files, Vec::new(alloc), usize::MAX))
 }
 
-// The ending of a demo, by that of its text. Its file stands in memory, so where it cannot be read
-// there is no memory.
+// The ending of a demo, from that of its text. The file is in memory, so a failure to read it is a
+// failed allocation.
 fn ending_of(ending: Ending) -> Ending
     ensures ends { result ≡ demo_ending ending }
 {

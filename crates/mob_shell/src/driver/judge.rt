@@ -1,4 +1,4 @@
-// A text, judged, loaded and run.
+//! Judges, loads and runs a text.
 ghost use Rattle.std.specs.Prelude.{◌≡◌, ◌≤◌};
 ghost use Rattle.mob_outside.specs.Told.{KeepsFiles};
 ghost use Rattle.mob_outside.specs.EndsSeen.{files_seen, stream_seen};
@@ -18,7 +18,7 @@ use mob_words::Settings;
 use std::alloc::Global;
 use std::thread::Threads;
 
-// The ending of a text that is refused.
+// The ending for a refused text.
 fn refused(refusal: Refusal) -> Ending
     ensures ends { IsEndingOfRefusal refusal result }
 {
@@ -28,7 +28,7 @@ fn refused(refusal: Refusal) -> Ending
     }
 }
 
-// The ending of a script that is not loaded.
+// The ending for a script that is not loaded.
 fn unloaded(end: LoadEnd) -> Ending
     ensures ends { result ≡ unloaded end }
 {
@@ -50,9 +50,9 @@ fn unloaded(end: LoadEnd) -> Ending
     }
 }
 
-/// Judges a text. Where it is a script, its literals and files are read and its statements run.
-/// Returns the ending: that of the first refusal, of a file that cannot be read, of a statement
-/// with a fault or of a failed `out`, or out of memory; `Done` where every statement ran.
+/// Judges a text; if it is a script, reads its literals and files and runs its statements. Returns
+/// `Done` if every statement ran. Else it returns the ending of the first refusal, of a file that
+/// cannot be read, of a statement with a fault, of a failed `out`, or of a failed allocation.
 pub fn run_text<R: Threads + Sync, F: Files, K: Sink, G: Gate>(
     rt: &R,
     alloc: Global,

@@ -1,4 +1,4 @@
-// From the arguments of a run to its ending.
+//! From the arguments of a run to its ending.
 
 mod decide;
 mod demo;

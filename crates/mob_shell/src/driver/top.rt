@@ -1,4 +1,4 @@
-// The top call.
+//! The top call.
 ghost use Rattle.std.specs.Prelude.{map, string_bytes};
 ghost use Rattle.mob_outside.specs.EndsSeen.{files_seen, stream_seen};
 ghost use Rattle.mob_shell.specs.Inputs.{seen};
@@ -15,12 +15,11 @@ use mob_words::laws::one_setting;
 use std::alloc::Global;
 use std::thread::Threads;
 
-/// Runs the program on the arguments `words` and returns the exit status. The script is read from
-/// `script` and its table files from `files`, the answers go to `out`, and after every status but 0
+/// Runs the program on the arguments `words` and returns the exit status. The script comes from
+/// `script` and its table files from `files`. The answers go to `out`, and for every status but 0
 /// one line goes to `notes`. With `--demo` the script and the only file are those of the demo, and
-/// neither `script` nor `files` is touched. With `--workers` the outer rows of each query are
-/// divided into pieces, which so many workers take in turn; each passes `gate` as it starts. The
-/// answers are the same.
+/// neither `script` nor `files` is touched. With `--workers` that many workers share the outer rows
+/// of each query, piece by piece; each worker passes `gate` as it starts. The answers are the same.
 ///
 /// | status | when |
 /// |---|---|
@@ -42,8 +41,8 @@ pub fn run<R: Threads + Sync, S: Source, F: Files, K: Sink, E: Sink, G: Gate>(
     notes: &mut E,
     gate: &G,
 ) -> u8
-    // `IsRun` says it all, a line for each status and each other promise, of what is seen of the
-    // run and of its note.
+    // `IsRun` has a line for each status and each other promise, about what is seen of the run and
+    // its note.
     ensures promises { IsRun result
         (seen (map string_bytes words.now) (stream_seen S.left S.faults script.old script.new) (files_seen F.files F.asked F.faults files.old files.new) (stream_seen K.held K.faults out.old out.new))
         (λ line. Puts line (E.held notes.old) (E.held notes.new) (E.faults notes.old) (E.faults notes.new)) }

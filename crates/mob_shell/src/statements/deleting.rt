@@ -1,4 +1,4 @@
-// What a DELETE does.
+//! Runs a DELETE.
 ghost use Rattle.std.specs.Prelude.{◌≡◌, ◌≤◌, Ok, Err, IfOk, IfErr, OnErr, OnOk, get_or, length};
 ghost use Rattle.mob_typed.specs.Selects.{select_seen};
 ghost use Rattle.mob_list.specs.Faults.{OnCause};
@@ -40,7 +40,7 @@ fn first_rows(alloc: Global, kept: &[Tuple]) -> Result<Vec<u32>, AllocError>
     Ok(rows)
 }
 
-// Deletes the rows that are kept. Their numbers are gathered before the first one goes.
+// Deletes the kept rows. All their numbers are collected before the first row is deleted.
 fn take_away(
     alloc: Global,
     select: &TypedSelect,
@@ -60,9 +60,9 @@ fn take_away(
     Ok(())
 }
 
-/// Deletes the rows that a query of one table keeps from this table. They are found before the
-/// first one goes, by the plan of the query and divided among workers as for a SELECT. Where the
-/// query has a fault, or memory is refused, nothing has changed.
+/// Deletes the rows that a query of one table keeps. They are found first, by the plan of the query
+/// and divided among workers as for a SELECT. If the query has a fault or an allocation fails,
+/// nothing is changed.
 pub fn delete_kept<R: Threads + Sync, G: Gate>(
     rt: &R,
     alloc: Global,

@@ -1,4 +1,4 @@
-// Statements that run one after another, each with the text of its answer.
+//! Runs statements one after another, and writes the text of each answer.
 ghost use Rattle.std.specs.Prelude.{◌≤◌, IfErr, IfOk};
 ghost use Rattle.mob_outside.specs.EndsSeen.{stream_seen};
 ghost use Rattle.mob_list.specs.Faults.{OnCause};
@@ -14,10 +14,10 @@ use mob_typed::TypedStatement;
 use std::alloc::Global;
 use std::thread::Threads;
 
-/// Runs all statements by so many workers, which pass the gate, and puts each answer before
-/// the next statement runs. Where all ran, the session is left as the last of them left it. Each
-/// has to be one that can be run in every state that those before it may leave. It ends by `Done`,
-/// by the fault of a statement, by a fault of `out` or out of memory.
+/// Runs all statements with `workers` workers, which pass the gate, and writes each answer before
+/// the next statement runs. If all ran, the session is as the last one left it. Each statement must
+/// be able to run in every state that those before it may leave. The ending is `Done`, the fault of
+/// a statement, a fault of `out`, or out of memory.
 pub fn run_session<R: Threads + Sync, K: Sink, G: Gate>(
     rt: &R,
     alloc: Global,

@@ -1,4 +1,4 @@
-// The statements of a script: what each answers and does to the tables.
+//! The statements of a script: their answers, and what they do to the tables.
 
 mod answers;
 mod deleting;

@@ -1,4 +1,4 @@
-// A run of statements.
+//! The state of a run between its statements.
 ghost use Rattle.std.specs.Prelude.{◌≡◌, ◌≤◌, [], length, IfOk, IfErr, OnErr, OnOk};
 ghost use Rattle.mob_list.specs.Faults.{OnCause};
 ghost use Rattle.mob_typed.specs.Selects.{select_seen};
@@ -22,8 +22,7 @@ use std::alloc::{AllocError, Global};
 use std::collections::VecDeque;
 use std::thread::Threads;
 
-/// Where a run of statements stands: its tables, and the rows of the files of the COPY statements
-/// that are still to come.
+/// The state of a run: its tables, and the rows of the files for the COPY statements to come.
 #[derive(Drop)]
 pub struct Session {
     catalog: Catalog,
@@ -32,7 +31,7 @@ pub struct Session {
 }
 
 impl Session {
-    /// A run before its first statement: no table, the values of the script's literals, and the
+    /// A run before its first statement: no tables, the values of the script's literals, and the
     /// rows of its files.
     pub fn new(alloc: Global, program: Program, epoch: Epoch) -> Session
         ensures begins { session_state result ≡ begin program }
@@ -77,7 +76,7 @@ impl Session {
         answered(rt, alloc, select, &self.catalog, &self.epoch, workers, gate)
     }
 
-    // The text of the plan of a query. It has no fault.
+    // The text of the plan of a query. It has no fault of evaluation.
     fn explain(&self, alloc: Global, select: &TypedSelect) -> Result<Vec<u8>, QueryFault>
         ensures text { IfOk result (λ text. StatementWrites (session_day self.now) (session_state self.now) (plan_of (select_seen select.now)) text.items) }
         ensures fault { IfErr result (OnCause (λ f. Stops (session_day self.now) (session_state self.now) (plan_of (select_seen select.now)) f)) }
@@ -85,8 +84,8 @@ impl Session {
         Ok(explained(alloc, select, &self.catalog)?)
     }
 
-    // Deletes the rows that meet the condition of a DELETE. It writes nothing. Where it has a
-    // fault, or memory is refused, no row has gone.
+    // Deletes the rows for which the condition of a DELETE is true. It writes nothing. If it has a
+    // fault or an allocation fails, no row is deleted.
     fn delete<R: Threads + Sync, G: Gate>(
         &mut self,
         rt: &R,
@@ -117,8 +116,8 @@ impl Session {
         Ok(Vec::new(alloc))
     }
 
-    // What a statement does that makes or fills a table, or makes an index. Every other one leaves
-    // all as it was. `delete` runs a DELETE.
+    // Runs a statement that makes or fills a table, or makes an index; other statements change
+    // nothing here. `delete` runs a DELETE.
     fn change(&mut self, alloc: Global, statement: &TypedStatement) -> Result<(), AllocError>
         requires other { IsNoDelete (statement_seen statement.now) }
         ensures leaves { OnOk result (StatementLeaves (session_day self.old) (session_state self.old) (statement_seen statement.now) (session_state self.new)) }
@@ -148,8 +147,8 @@ impl Session {
         }
     }
 
-    /// Runs one statement by so many workers, which pass the gate, and answers the text of
-    /// its answer.
+    /// Runs one statement with `workers` workers, which pass the gate, and returns the text of its
+    /// answer. The fault is that of its query, or a failed allocation.
     pub fn execute<R: Threads + Sync, G: Gate>(
         &mut self,
         rt: &R,

@@ -1,4 +1,4 @@
--- What is written, and the lines that are still to be written, are the file.
+-- The text so far and the lines that are still to be written are the file.
 use Rattle.std.proofs.Common.{◌≡◌, ◌++◌, string_bytes}
 use Rattle.mob_demo.specs.Demo.{demo_file_text}
 use Rattle.mob_demo.proofs.Lines.{lines_from}

@@ -1,4 +1,4 @@
--- What is written, and the positions that are still to be written.
+-- The text so far, and the positions that are still to be written.
 use Rattle.std.proofs.Common.{◌≡◌, ◌++◌, string_bytes}
 use Rattle.mob_demo.proofs.Positions.{positions_from}
 use Rattle.mob_demo.proofs.table.push_positions.Given as goal

@@ -1,4 +1,4 @@
--- What has passed, and what is left, give what all of them give.
+-- The numbers that passed and the remaining ones give the result for all of them.
 use Rattle.std.proofs.Common.{◌≡◌, drop, Ok}
 use Rattle.mob_fan.specs.Outcomes.{joined_outcomes}
 use Rattle.mob_fan_rows.specs.Numbers.{passed}

@@ -8,7 +8,7 @@ use Rattle.std.proofs.lemmas.Bool.Decides.{Decides-eqb}
 use Rattle.std.proofs.lemmas.Slice.Eq.{slice_eq-Decides}
 use Rattle.mob_words.proofs.readers.count_in.Goals as goal
 
--- what is read of the text of a number is that number, where the greatest one that is taken fits 32
+-- the number read from the text of a number is that number, if the greatest one allowed fits 32
 -- bits
 only : {E : Type 0} (most n : ℕ) (text : List ℕ) (r : Result ℕ E) → most < 2 ^ 32 → text ≡ decimal n → n ≤ most → ParsesUnsigned 32 10 text r → r ≡ Ok n
 only most n text r fits is small reads = parse-decimal 32 n text r (omega arith) (omega arith) is reads
