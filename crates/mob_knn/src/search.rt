@@ -131,8 +131,8 @@ fn search<L: Ledger>(
 ///
 /// A step is one call of `approach_squared`. There is at most one for each row whose gap is not
 /// above the last answer's approach, or for each row that is not apart from what is asked where
-/// there are fewer than `k` answers. `Passed` comes only from a row with a part that does not fit,
-/// where fewer than `k` rows have an approach below that row's gap.
+/// there are fewer than `k` answers. The fault names only a row with a part that does not fit, where
+/// fewer than `k` rows have an approach below that row's gap.
 pub fn nearest<L: Ledger>(
     alloc: Global,
     tree: &RTree,

@@ -230,8 +230,8 @@ where
 /// one is, its value, and elsewhere none.
 ///
 /// For each piece that the two share `both` gives ordered slices that have exactly the instants of
-/// that piece. `Passed` comes from the first shared piece on which a part of F1 of one of the two
-/// does not fit at an end, and then it is F1, or on which `both` answered it.
+/// that piece. The formula comes from the first shared piece on which a part of F1 of one of the
+/// two does not fit at an end, and then it is F1, or on which `both` answered it.
 pub fn either<
     'a,
     C: Course + Drop,
