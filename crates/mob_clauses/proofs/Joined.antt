@@ -8,7 +8,8 @@ use Rattle.mob_typed.specs.declared.typed.ConstText.{ConstText}
 use Rattle.mob_typed.specs.Trees.{TypedTree}
 use Rattle.mob_scope.specs.declared.scope.ScopeTable.{ScopeTable}
 use Rattle.mob_list.specs.declared.fault.Fault.{Fault}
-use Rattle.mob_scope.specs.Answers.{Mistake, StopsTyping}
+use Rattle.mob_scope.specs.Answers.{StopsTyping}
+use Rattle.mob_scope.specs.declared.fault.Mistake.{Mistake}
 use Rattle.mob_expression.specs.Steps.{one_more}
 use Rattle.mob_scope.specs.Scopes.{ScopeParts, source_of, sources_of}
 use Rattle.mob_expression.proofs.Behind.{behind, none_behind, more_behind, fails_behind}

@@ -7,7 +7,8 @@ use Rattle.mob_ast.specs.Trees.{tree_of, item_of}
 use Rattle.mob_typed.specs.Trees.{TypedTree}
 use Rattle.mob_typed.specs.declared.typed.ConstText.{ConstText}
 use Rattle.mob_list.specs.declared.fault.Fault.{Fault}
-use Rattle.mob_scope.specs.Answers.{Mistake, ◌>>=◌, StopsTyping}
+use Rattle.mob_scope.specs.Answers.{◌>>=◌, StopsTyping}
+use Rattle.mob_scope.specs.declared.fault.Mistake.{Mistake}
 use Rattle.mob_scope.specs.Scopes.{ScopeParts}
 use Rattle.mob_expression.proofs.Wrongs.{fails_along, fails_bind}
 use Rattle.mob_clauses.specs.Keys.{typed_group, with_groups}

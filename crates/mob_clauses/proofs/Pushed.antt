@@ -9,7 +9,8 @@ use Rattle.mob_typed.specs.Trees.{typed, none}
 use Rattle.mob_typed.specs.Selects.{Output}
 use Rattle.mob_list.specs.declared.fault.Fault.{Fault}
 use Rattle.mob_list.specs.declared.fault.Fault.TheVariants.{Because, NoMemory}
-use Rattle.mob_scope.specs.Answers.{Mistake, StopsTyping}
+use Rattle.mob_scope.specs.Answers.{StopsTyping}
+use Rattle.mob_scope.specs.declared.fault.Mistake.{Mistake}
 use Rattle.mob_expression.proofs.Lists.{drop_at}
 use Rattle.mob_clauses.specs.Outputs.{columns_of_table}
 

@@ -15,7 +15,8 @@ use Rattle.mob_operators.specs.Lookup.{has_type}
 use Rattle.mob_typed.specs.declared.typed.Agg.{Agg}
 use Rattle.mob_typed.specs.Trees.{TypedTree, typed, none, type_of}
 use Rattle.mob_scope.specs.declared.scope.Found.{Found}
-use Rattle.mob_scope.specs.Answers.{Mistake, refuse, ◌>>=◌, unless, found}
+use Rattle.mob_scope.specs.Answers.{refuse, ◌>>=◌, unless, found}
+use Rattle.mob_scope.specs.declared.fault.Mistake.{Mistake}
 use Rattle.mob_expression.specs.Steps.{TypingStep, one_more}
 use Rattle.mob_scope.specs.Names.{entry_from}
 use Rattle.mob_scope.specs.Scopes.{ScopeParts}

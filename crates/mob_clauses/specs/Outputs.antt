@@ -16,7 +16,8 @@ use Rattle.mob_typed.specs.Trees.{TypedTree, typed, none, typed_of, type_of}
 use Rattle.mob_typed.specs.Selects.{Output, output_of}
 use Rattle.mob_typed.specs.Statements.{ColumnList}
 use Rattle.mob_scope.specs.declared.scope.Found.{Found}
-use Rattle.mob_scope.specs.Answers.{Mistake, ◌>>=◌, unless, found}
+use Rattle.mob_scope.specs.Answers.{◌>>=◌, unless, found}
+use Rattle.mob_scope.specs.declared.fault.Mistake.{Mistake}
 use Rattle.mob_expression.specs.Steps.{TypingStep}
 use Rattle.mob_scope.specs.Scopes.{ScopeTableParts, ScopeParts}
 use Rattle.mob_scope.specs.Columns.{column_named}

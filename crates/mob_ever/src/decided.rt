@@ -43,7 +43,10 @@ where
 {
     let mut found = None;
     for piece in Pieces::new(a, b) {
-        let here = piece_meets(alloc, &piece, rel, want)?;
+        let here = match piece_meets(alloc, &piece, rel, want) {
+            Ok(here) => here,
+            Err(passed) => return Err(passed),
+        };
         found = Some(either(found, here));
     }
     Ok(found)

@@ -3,7 +3,8 @@ use Rattle.std.proofs.Common.{◌≡◌, ◌∙◌, ◌<◌, ◌+◌, refl, sym,
 use Rattle.std.proofs.lemmas.List.{drop_more}
 use Rattle.mob_typed.specs.declared.typed.ConstText.{ConstText}
 use Rattle.mob_list.specs.declared.fault.Fault.{Fault}
-use Rattle.mob_scope.specs.Answers.{Mistake, ◌>>=◌, StopsTyping}
+use Rattle.mob_scope.specs.Answers.{◌>>=◌, StopsTyping}
+use Rattle.mob_scope.specs.declared.fault.Mistake.{Mistake}
 use Rattle.mob_expression.specs.Steps.{TypingStep, one_more}
 use Rattle.mob_expression.proofs.Wrongs.{fails_along, fails_bind}
 

@@ -8,7 +8,8 @@ use Rattle.mob_ast.specs.Trees.{tree_of, trees_of}
 use Rattle.mob_list.specs.declared.fault.Fault.{Fault}
 use Rattle.mob_typed.specs.declared.typed.ConstText.{ConstText}
 use Rattle.mob_typed.specs.declared.typed.TExpr.{TExpr}
-use Rattle.mob_scope.specs.Answers.{Mistake, ◌>>=◌, StopsTyping, AnswersAs}
+use Rattle.mob_scope.specs.Answers.{◌>>=◌, StopsTyping, AnswersAs}
+use Rattle.mob_scope.specs.declared.fault.Mistake.{Mistake}
 use Rattle.mob_expression.specs.Steps.{one_more, TypesTo}
 use Rattle.mob_scope.specs.Scopes.{ScopeParts}
 use Rattle.mob_typed.specs.Trees.{TypedTree, typed_of}

@@ -19,7 +19,8 @@ use Rattle.mob_operators.specs.Table.{table, is_irrational}
 use Rattle.mob_operators.specs.Aggregates.{is_aggregate}
 use Rattle.mob_typed.specs.Trees.{TypedTree, typed, none, more, typed_trees, types_of}
 use Rattle.mob_typed.specs.declared.typed.ConstText.{ConstText}
-use Rattle.mob_scope.specs.Answers.{Mistake, refuse, ◌>>=◌, unless, found}
+use Rattle.mob_scope.specs.Answers.{refuse, ◌>>=◌, unless, found}
+use Rattle.mob_scope.specs.declared.fault.Mistake.{Mistake}
 use Rattle.mob_expression.specs.Steps.{TypingStep, one_more}
 use Rattle.mob_scope.specs.Scopes.{ScopeParts}
 use Rattle.mob_scope.specs.Columns.{column_named}

@@ -2,7 +2,8 @@
 use Rattle.std.specs.Prelude.{◌≡◌, List, ◌∷◌, Result, Ok, Err}
 use Rattle.mob_typed.specs.declared.typed.ConstText.{ConstText}
 use Rattle.mob_list.specs.declared.fault.Fault.{Fault}
-use Rattle.mob_scope.specs.Answers.{Mistake, ◌>>=◌, StopsTyping}
+use Rattle.mob_scope.specs.Answers.{◌>>=◌, StopsTyping}
+use Rattle.mob_scope.specs.declared.fault.Mistake.{Mistake}
 
 -- a step takes the constants so far, and gives a value and the constants after it
 abbrev pub TypingStep : Type 0 → Type 0

@@ -131,7 +131,7 @@ fn search<L: Ledger>(
 ///
 /// A step is one call of `approach_squared`. There is at most one for each row whose gap is at most
 /// the last answer's approach, or, if there are fewer than `k` answers, for each row that is not
-/// apart from `asked`. `Passed` comes only from a row with a part that does not fit, if fewer than
+/// apart from `asked`. The fault names a row only if a part of its trip does not fit, and fewer than
 /// `k` rows have an approach below that row's gap. `NoMemory` comes if an allocation fails.
 pub fn nearest<L: Ledger>(
     alloc: Global,

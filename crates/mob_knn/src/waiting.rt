@@ -14,7 +14,6 @@ use crate::fault::NearFault;
 use mob_frac::Frac;
 use mob_gaps::Gap;
 use mob_gaps::measure::gap;
-use mob_list::fault::Fault;
 use mob_plane::greater;
 use mob_rtree::Child;
 use mob_stbox::StBox;

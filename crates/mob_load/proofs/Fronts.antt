@@ -3,7 +3,7 @@ use Rattle.std.proofs.Common.{arith, ◌≡◌, ◌∙◌, ap, sym, subst, ℕ, 
 use Rattle.std.specs.Prelude.{Option, IfSome, OnErr, Result, is_err}
 use Rattle.std.proofs.lemmas.Bool.{cases_lt}
 use Rattle.mob_value.specs.declared.value.Value.{Value}
-use Rattle.mob_catalog.specs.Faults.{FileFault}
+use Rattle.mob_catalog.specs.declared.fault.FileFault.{FileFault}
 use Rattle.std.proofs.lemmas.List.{length-take, length-take-le, append-nil, take_all, take-append-le}
 use Rattle.mob_outside.specs.Told.{Contents, Opens}
 use Rattle.mob_outside.specs.Streams.{ReadsPart, ReadsTo}

@@ -3,7 +3,7 @@ use Rattle.std.proofs.Common.{◌≡◌, ◌∙◌, sym, ap, subst, ℕ, ℤ, �
 use Rattle.std.specs.Prelude.{Result}
 use Rattle.mob_outside.specs.Told.{Contents, file_of}
 use Rattle.mob_catalog.specs.Outcomes.{HasOneFault, HasOneTable, NeverReadAndRefused}
-use Rattle.mob_catalog.specs.Faults.{FileFault}
+use Rattle.mob_catalog.specs.declared.fault.FileFault.{FileFault}
 use Rattle.mob_catalog.proofs.OneMeaning.{one_value, one_refusal, value_or_refusal}
 use Rattle.mob_typed.specs.declared.typed.ConstText.{ConstText}
 use Rattle.mob_load.specs.Checks.{CheckParts, literal, table, room, file, checks_of}

@@ -8,7 +8,7 @@ use Rattle.mob_value.specs.declared.value.Value.{Value}
 use Rattle.mob_outside.specs.Faults.{Rose}
 use Rattle.mob_outside.specs.Told.{Contents, file_of}
 use Rattle.mob_catalog.specs.Constants.{IsConstant, ConstantFails}
-use Rattle.mob_catalog.specs.Faults.{FileFault}
+use Rattle.mob_catalog.specs.declared.fault.FileFault.{FileFault}
 use Rattle.mob_catalog.specs.TableFile.{IsTable, FileFails}
 use Rattle.mob_typed.specs.declared.typed.ConstText.{ConstText}
 use Rattle.mob_typed.specs.Statements.{ColumnList}

@@ -3,7 +3,7 @@ use Rattle.std.specs.Prelude.{◌≡◌, ℕ, Bool, Option, Some, None, Result, 
 use Rattle.mob_ast.specs.declared.refusal.Kind.{Kind}
 use Rattle.mob_list.specs.declared.fault.Fault.{Fault}
 use Rattle.mob_list.specs.declared.fault.Fault.TheVariants.{Because, NoMemory}
-pub use Rattle.mob_scope.specs.declared.fault.Mistake.{Mistake}
+use Rattle.mob_scope.specs.declared.fault.Mistake.{Mistake}
 
 abbrev pub refuse : {A : Type 0} → Kind → ℕ → Result A Mistake
 refuse kind place = Err (record { kind = kind; place = place })

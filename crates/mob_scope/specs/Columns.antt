@@ -4,7 +4,8 @@ use Rattle.mob_ast.specs.declared.types.Word.{Word}
 use Rattle.mob_ast.specs.declared.types.SqlType.{SqlType}
 use Rattle.mob_ast.specs.declared.refusal.Kind.TheVariants as kind
 use Rattle.mob_scope.specs.declared.scope.Found.{Found}
-use Rattle.mob_scope.specs.Answers.{Mistake, refuse, ◌>>=◌, found}
+use Rattle.mob_scope.specs.Answers.{refuse, ◌>>=◌, found}
+use Rattle.mob_scope.specs.declared.fault.Mistake.{Mistake}
 use Rattle.mob_scope.specs.Names.{column_of, entry_from}
 use Rattle.mob_scope.specs.Scopes.{ScopeTableParts, ScopeParts}
 

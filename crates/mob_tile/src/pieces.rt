@@ -159,7 +159,10 @@ fn piece_on(
     requires one { HasOneTile grid.now slice.now cell.now }
     ensures piece { IsMadeBy F1 (at_ends (slice_parts plane_parts_of slice.now) cell.now) (λ q. HasValues plane_value_of (λ c. c.from) (λ c. c.to) (slice_value plane_value_of slice.now) cell.now q.slice × IsInItsTile grid.now q) result }
 {
-    let part = cut(alloc, slice, cell)?;
+    let part = match cut(alloc, slice, cell) {
+        Ok(part) => part,
+        Err(fault) => return Err(fault),
+    };
     let tile = grid.tile_at(
         range,
         &least(&part.course.from, &part.course.to),

@@ -5,7 +5,8 @@ use Rattle.std.specs.Io.KnownBytes.{Keeps}
 use Rattle.mob_ast.specs.declared.refusal.Kind.{Kind}
 use Rattle.mob_slice.specs.declared.formula.Formula.{Formula}
 use Rattle.mob_value.specs.declared.value.Value.{Value}
-use Rattle.mob_catalog.specs.Faults.{FileFault, file_fault}
+use Rattle.mob_catalog.specs.Faults.{file_fault}
+use Rattle.mob_catalog.specs.declared.fault.FileFault.{FileFault}
 use Rattle.mob_catalog.specs.Outcomes.{HasOneTable, NeverReadAndRefused}
 use Rattle.mob_outside.specs.Faults.{Rose}
 use Rattle.mob_trips.specs.Endings.{WritesAll, CutsShort, IsTableRefused, PassLimit, StopsAt, IsTripsCause, IsTripsEnding}

@@ -5,7 +5,8 @@ use Rattle.std.proofs.Math.Nat.{eq-or-lt_of_le}
 use Rattle.std.specs.Io.KnownBytes.{IsAtEnd, Keeps}
 use Rattle.mob_value.specs.declared.value.Value.{Value}
 use Rattle.mob_ast.specs.declared.refusal.Kind.{Kind}
-use Rattle.mob_catalog.specs.Faults.{FileFault, file_fault}
+use Rattle.mob_catalog.specs.Faults.{file_fault}
+use Rattle.mob_catalog.specs.declared.fault.FileFault.{FileFault}
 use Rattle.mob_catalog.specs.TableFile.{file_limit}
 use Rattle.mob_outside.specs.Streams.{ReadsTo, ReadsPart}
 use Rattle.mob_outside.proofs.Known.{read_whole, read_within}

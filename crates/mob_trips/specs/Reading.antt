@@ -3,7 +3,8 @@ use Rattle.std.specs.Prelude.{◌∷◌, [], ℕ, ℤ, List, Option, codes}
 use Rattle.std.specs.Io.KnownBytes.{Appends}
 use Rattle.mob_ast.specs.declared.types.SqlType.TheVariants.{Int, TPoint}
 use Rattle.mob_value.specs.declared.value.Value.{Value}
-use Rattle.mob_catalog.specs.Faults.{FileFault, file_fault}
+use Rattle.mob_catalog.specs.Faults.{file_fault}
+use Rattle.mob_catalog.specs.declared.fault.FileFault.{FileFault}
 use Rattle.mob_catalog.specs.TableFile.{Column, IsTable, FileFails, file_limit}
 use Rattle.mob_outside.specs.Faults.{Rose}
 use Rattle.mob_outside.specs.Streams.{ReadsTo, PutsPart}

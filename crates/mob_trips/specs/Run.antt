@@ -3,7 +3,7 @@ use Rattle.std.specs.Prelude.{◌≡◌, ◌⊎◌, ◌≤◌, ℕ, List, Some}
 use Rattle.std.specs.Io.KnownBytes.{Keeps}
 use Rattle.mob_ast.specs.declared.refusal.Kind.{Kind}
 use Rattle.mob_slice.specs.declared.formula.Formula.{Formula}
-use Rattle.mob_catalog.specs.Faults.{FileFault}
+use Rattle.mob_catalog.specs.declared.fault.FileFault.{FileFault}
 use Rattle.mob_catalog.specs.TableFile.{file_limit}
 use Rattle.mob_outside.specs.Faults.{Rose}
 use Rattle.mob_outside.specs.Streams.{ReadsPart}

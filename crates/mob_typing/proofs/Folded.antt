@@ -2,7 +2,8 @@
 use Rattle.std.proofs.Common.{◌≡◌, ◌∙◌, ◌<◌, ◌≤◌, ◌+◌, sym, ap, ℕ, List, [], ◌∷◌, length, drop, get_or, Result, Ok}
 use Rattle.std.proofs.lemmas.List.{drop_more, drop_all}
 use Rattle.mob_list.specs.declared.fault.Fault.{Fault}
-use Rattle.mob_scope.specs.Answers.{Mistake, ◌>>=◌, StopsTyping}
+use Rattle.mob_scope.specs.Answers.{◌>>=◌, StopsTyping}
+use Rattle.mob_scope.specs.declared.fault.Mistake.{Mistake}
 use Rattle.mob_expression.proofs.Wrongs.{fails_along, fails_bind}
 
 -- the entries before this position are processed

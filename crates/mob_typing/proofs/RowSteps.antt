@@ -8,7 +8,8 @@ use Rattle.mob_ast.specs.Trees.{tree_of}
 use Rattle.mob_typed.specs.declared.typed.ConstText.{ConstText}
 use Rattle.mob_typed.specs.Statements.{ColumnList}
 use Rattle.mob_list.specs.declared.fault.Fault.{Fault}
-use Rattle.mob_scope.specs.Answers.{Mistake, StopsTyping}
+use Rattle.mob_scope.specs.Answers.{StopsTyping}
+use Rattle.mob_scope.specs.declared.fault.Mistake.{Mistake}
 use Rattle.mob_expression.specs.Steps.{TypingStep, one_more}
 use Rattle.mob_expression.proofs.Behind.{behind, fails_behind, more_behind, none_behind}
 use Rattle.mob_expression.proofs.Lists.{drop_at}

@@ -9,7 +9,8 @@ use Rattle.mob_typed.specs.declared.typed.ConstText.{ConstText}
 use Rattle.mob_typed.specs.Statements.{StatementOut, ScriptOut}
 use Rattle.mob_list.specs.declared.fault.Fault.{Fault}
 use Rattle.mob_list.specs.declared.fault.Fault.TheVariants.{Because, NoMemory}
-use Rattle.mob_scope.specs.Answers.{Mistake, StopsTyping}
+use Rattle.mob_scope.specs.Answers.{StopsTyping}
+use Rattle.mob_scope.specs.declared.fault.Mistake.{Mistake}
 use Rattle.mob_typing.specs.Names.{NameLists}
 use Rattle.mob_typing.specs.Statements.{Made, in_statement, or_refused, put_statement, typed_statement, typed_from, IsTypingRefusal, refusal_of}
 

@@ -9,7 +9,8 @@ use Rattle.mob_grammar.specs.Places.{IsWithin, nothing, same}
 use Rattle.mob_grammar.proofs.Within.{within_both, within_trans}
 use Rattle.mob_typed.specs.declared.typed.ConstText.{ConstText}
 use Rattle.mob_list.proofs.Each.{each_both, each_on}
-use Rattle.mob_scope.specs.Answers.{Mistake, ◌>>=◌, unless, found}
+use Rattle.mob_scope.specs.Answers.{◌>>=◌, unless, found}
+use Rattle.mob_scope.specs.declared.fault.Mistake.{Mistake}
 
 -- an answer has a value with this property, or a mistake at such a place
 pub data GivesOrStops {A : Type 0} (At : ℕ → Type 0) (Gives : A → Type 0) : Result A Mistake → Type 0 where

@@ -8,7 +8,7 @@ use Rattle.mob_ast.specs.Trees.{StatementParts}
 use Rattle.mob_typed.specs.declared.typed.ConstText.{ConstText}
 use Rattle.mob_typed.specs.Statements.{StatementOut, ScriptOut}
 use Rattle.mob_list.proofs.Each.{each_on}
-use Rattle.mob_scope.specs.Answers.{Mistake}
+use Rattle.mob_scope.specs.declared.fault.Mistake.{Mistake}
 use Rattle.mob_typing.specs.Names.{NameLists}
 use Rattle.mob_typing.specs.Statements.{Made, in_statement, or_refused, put_statement, typed_from, typed_script, no_names}
 use Rattle.mob_typing.specs.Stands.{IsHeldIn, OperatorsStand, TypingHoldsOperators, TypingRefusesWhatIsHeld}

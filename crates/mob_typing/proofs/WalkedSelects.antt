@@ -22,7 +22,8 @@ use Rattle.mob_typed.specs.Selects.{Output, TypedSelectParts, on_of}
 use Rattle.mob_typed.specs.Statements.{ColumnList}
 use Rattle.mob_list.proofs.Each.{each_both, each_get, each_map, each_on, each_parts}
 use Rattle.mob_scope.specs.declared.scope.Found.{Found}
-use Rattle.mob_scope.specs.Answers.{Mistake, ◌>>=◌}
+use Rattle.mob_scope.specs.Answers.{◌>>=◌}
+use Rattle.mob_scope.specs.declared.fault.Mistake.{Mistake}
 use Rattle.mob_expression.specs.Steps.{one_more}
 use Rattle.mob_scope.specs.Columns.{column_named}
 use Rattle.mob_scope.specs.Names.{has_entry}

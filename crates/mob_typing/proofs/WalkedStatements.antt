@@ -20,7 +20,7 @@ use Rattle.mob_operators.specs.Table.{is_one_of}
 use Rattle.mob_typed.specs.declared.typed.ConstText.{ConstText}
 use Rattle.mob_typed.specs.Statements.{ColumnList, StatementOut, nothing, new_rows, rows_from, deletion, query, plan_of}
 use Rattle.mob_typed.specs.Written.{brackets_of}
-use Rattle.mob_scope.specs.Answers.{Mistake}
+use Rattle.mob_scope.specs.declared.fault.Mistake.{Mistake}
 use Rattle.mob_scope.specs.Names.{column_of, has_entry}
 use Rattle.mob_expression.specs.Words.{type_named}
 use Rattle.mob_typing.specs.Names.{NameLists, table_of}

@@ -19,7 +19,8 @@ use Rattle.mob_typed.specs.Statements.{ColumnList, StatementOut, nothing, new_ta
 use Rattle.mob_list.specs.declared.fault.Fault.{Fault}
 use Rattle.mob_list.specs.declared.fault.Fault.TheVariants.{Because, NoMemory}
 use Rattle.mob_ast.specs.Kinds.{no_memory}
-use Rattle.mob_scope.specs.Answers.{Mistake, refuse, ◌>>=◌, unless, found}
+use Rattle.mob_scope.specs.Answers.{refuse, ◌>>=◌, unless, found}
+use Rattle.mob_scope.specs.declared.fault.Mistake.{Mistake}
 use Rattle.mob_expression.specs.Steps.{TypingStep, one_more}
 use Rattle.mob_typing.specs.Names.{NameLists, table_of}
 use Rattle.mob_scope.specs.Names.{column_of, has_entry}

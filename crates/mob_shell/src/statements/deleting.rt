@@ -10,7 +10,6 @@ ghost use Rattle.mob_shell.specs.Deletes.{IsDeleted};
 use crate::statements::answers::kept_tuples;
 use mob_catalog::Catalog;
 use mob_eval::QueryFault;
-use mob_list::fault::Fault;
 use mob_list::items::Items;
 use mob_outside::Gate;
 use mob_scalar::Epoch;

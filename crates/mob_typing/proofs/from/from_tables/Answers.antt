@@ -6,7 +6,8 @@ use Rattle.mob_ast.specs.declared.statement.FromTable.{FromTable}
 use Rattle.mob_ast.specs.Trees.{from_of}
 use Rattle.mob_typed.specs.Statements.{ColumnList}
 use Rattle.mob_scope.specs.declared.scope.ScopeTable.{ScopeTable}
-use Rattle.mob_scope.specs.Answers.{Mistake, StopsTyping}
+use Rattle.mob_scope.specs.Answers.{StopsTyping}
+use Rattle.mob_scope.specs.declared.fault.Mistake.{Mistake}
 use Rattle.mob_scope.specs.Scopes.{ScopeTableParts, source_of, sources_of}
 use Rattle.mob_typing.specs.Selects.{from_table, from_tables}
 use Rattle.mob_typing.proofs.Folded.{step_fails, step_made, steps_made}
