@@ -41,8 +41,8 @@ fn trip_at(trips: &[Option<Moving<PlaneLine>>], row: u32) -> Option<&Moving<Plan
     }
 }
 
-/// The square of the nearest approach of the trip of a row, if there is one. `Passed` has its first
-/// formula with a part that does not fit.
+/// The square of the nearest approach of the trip of a row, if there is one. The fault is its
+/// first formula with a part that does not fit.
 pub fn row_approach(
     alloc: Global,
     trips: &[Option<Moving<PlaneLine>>],

@@ -179,8 +179,8 @@ fn is_near(p: &Break, n: &Break, reach: &Reach, b: &Break, limit: &Limit) -> Res
 }
 
 /// Whether the break `n` passes after the kept break `p`: at each break between, the straight
-/// course from `p` to `n` is within the limit of the place there. `Passed` has the formula of the
-/// first test with a part that does not fit. The tests stop at the first that fails.
+/// course from `p` to `n` is within the limit of the place there. The error is the formula of
+/// the first test with a part that does not fit. The tests stop at the first that fails.
 pub fn passes(p: &Break, between: &[Break], n: &Break, limit: &Limit) -> Result<bool, Formula>
     requires square { IsSquared limit.now }
     requires between { AllByRecursion (λ b. (before p.now.instant b.instant ≡ true) × (before b.instant n.now.instant ≡ true)) between.now }

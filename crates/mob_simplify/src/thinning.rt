@@ -24,7 +24,7 @@ use std::alloc::Global;
 /// At every instant the result is within `d` of the point, and it is defined exactly where the
 /// point is. With `d` 0 it is the point.
 ///
-/// `Passed` has the formula of the first test with a part that does not fit. The tests are in the
+/// The fault is the formula of the first test with a part that does not fit. The tests are in the
 /// order of the runs, their kept breaks, the tested breaks, and the breaks between. Each test has
 /// F1, the straight course at the break between; F2, the difference by coordinate; and F6, the
 /// square of its length and that of `d`. For a kept break the tests stop at the first that fails.

@@ -123,7 +123,7 @@ fn truths_in<U: Uniting<Steady<bool>>>(
 
 /// Adds one more value to an aggregate whose state without it is `state`.
 ///
-/// `Passed` has the formula that overflows: F2 of `+` for a count or a sum, and for a sum over time
+/// The fault is the formula that overflows: F2 of `+` for a count or a sum, and for a sum over time
 /// the first formula of `+` at each instant. NULL is ignored, except by `count(*)`. `NoMemory`
 /// comes if an allocation fails.
 pub fn state_in(

@@ -27,7 +27,7 @@ pub enum SplitCause {
     Limit,
 }
 
-    /// An allocation failed.
+/// An allocation failed.
 pub type SplitFault = Fault<SplitCause>;
 
 // The parts in the tiles of a range that contains them all.

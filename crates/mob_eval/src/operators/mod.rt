@@ -1,4 +1,4 @@
-//! Each operator, on the values of its operands. `Passed` has its first formula with a part that
+//! Each operator, on the values of its operands. The fault is its first formula with a part that
 //! does not fit, and `NoMemory` comes if an allocation fails. The named operators are those of
 //! the MobilityDB manual, except `nearestApproachSquared`.
 ghost use Rattle.std.specs.Prelude.{◌≡◌, IfOk};
