@@ -11,7 +11,7 @@ use Rattle.mob_typed.specs.Selects.{Output, TypedSelectParts}
 use Rattle.mob_value.specs.declared.value.Value.{Value}
 use Rattle.mob_value.specs.declared.store.Store.{Store}
 use Rattle.mob_literal.specs.Fields.{field_text}
-use Rattle.mob_meaning.specs.Evaluation.{Fault}
+use Rattle.mob_meaning.specs.Evaluation.{PlacedFormula}
 use Rattle.mob_meaning.specs.Scene.{Scene, scene}
 use Rattle.mob_groups.specs.Groups.{groups_by}
 use Rattle.mob_tagg.specs.Rows.{IsItem, IsRowFault, IsTuple, earlier}
@@ -73,7 +73,7 @@ argument_kind : (kind : AggKind) (s : Scene) (e : TypedTree) (v : Value) → IsA
 argument_kind CountAll s e v h = h
 argument_kind _ s e v h = evaluated_bare s e v h
 
-abbrev at_place : ℕ → Formula → Fault
+abbrev at_place : ℕ → Formula → PlacedFormula
 at_place place formula = (place, formula)
 
 -- adding without a fault has none at another place
