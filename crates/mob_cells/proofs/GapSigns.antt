@@ -8,6 +8,7 @@ use Rattle.mob_ratio.specs.Ratio.{Ratio}
 use Rattle.mob_ratio.specs.Order.{before, same}
 use Rattle.mob_ratio.specs.Line.{line_at}
 use Rattle.mob_ratio.specs.Sign.{nil, sign_of}
+use Rattle.mob_ratio.proofs.Signs.{eq_sign}
 use Rattle.mob_span.specs.Span.{SpanOf}
 use Rattle.mob_slice.specs.Ranks.{holds}
 use Rattle.mob_slice.specs.Comparison.{IsComparison, MayAsk, gaps_at, relates_gaps}
@@ -17,15 +18,6 @@ use Rattle.mob_slice.specs.declared.comparison.Gaps.TheVariants.{Constant, One, 
 use Rattle.mob_cells.specs.Roots.{IsLevel}
 use Rattle.mob_cells.specs.Cells.{signs_of}
 use Rattle.mob_cells.specs.Gaps.{gap_ends, related_by}
-
-eq_sign : (q : Ratio) → is_eq (sign_of q) ≡ same q nil
-unfolding sign_of same
-eq_sign q = cases (before q nil) (before nil q)
-  where
-    cases : (a b : Bool) → is_eq (cond a Less (cond b Greater Equal)) ≡ (not a && not b)
-    cases true b = refl
-    cases false true = refl
-    cases false false = refl
 
 signs_related : (rel : Rel) (a b : Gaps) (s : SpanOf) (t : Ratio) → related_by rel (signs_of s (gap_ends a b) t) ≡ relates_gaps rel (gaps_at a b s.lower s.upper t)
 signs_related rel Constant b s t = refl

@@ -19,10 +19,10 @@ upto_of l c a b h = grind (arith, h, before-back l c)
 abbrev Kept : Ratio → Ratio → SpanOf → SpanOf → Type 0
 Kept f0 f1 s c = (t : Ratio) → has c t ≡ true → sign_of (line_at f0 f1 s.lower s.upper t) ≡ sign_on f0 f1 s.lower s.upper c.lower c.upper
 
-open_has : (c : SpanOf) (t : Ratio) → is_cell c ≡ true → before c.lower c.upper ≡ true → has c t ≡ true → (before c.lower t ≡ true) × (before t c.upper ≡ true)
+pub open_has : (c : SpanOf) (t : Ratio) → is_cell c ≡ true → before c.lower c.upper ≡ true → has c t ≡ true → (before c.lower t ≡ true) × (before t c.upper ≡ true)
 open_has c t i h k = (grind (arith, i, h, k), grind (arith, i, h, k))
 
-point_has : (c : SpanOf) (t : Ratio) → is_cell c ≡ true → before c.lower c.upper ≡ false → has c t ≡ true → (c.lower ≡ c.upper) × (t ≡ c.lower)
+pub point_has : (c : SpanOf) (t : Ratio) → is_cell c ≡ true → before c.lower c.upper ≡ false → has c t ≡ true → (c.lower ≡ c.upper) × (t ≡ c.lower)
 point_has c t i h k =
     let e : c.lower ≡ c.upper = before-neither c.lower c.upper h (grind (arith, i, h)) in
     (e, before-neither t c.lower (grind (arith, i, h, k, before-back c.lower t)) (grind (arith, i, h, k, e, before-back t c.upper)))

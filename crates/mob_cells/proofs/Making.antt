@@ -7,6 +7,7 @@ use Rattle.std.proofs.lemmas.Option.{slice_get_read}
 use Rattle.std.proofs.lemmas.List.Concat.{flat_map-append}
 use Rattle.std.specs.declared.cmp.Ordering.{Ordering}
 use Rattle.mob_list.proofs.Each.{each_both, each_get, each_more, each_on}
+use Rattle.mob_list.proofs.Entries.{drop_read}
 use Rattle.mob_ratio.specs.Ratio.{Ratio}
 use Rattle.mob_ratio.specs.Order.{before}
 use Rattle.mob_ratio.specs.Sign.{opposite, root_at, sign_of}
@@ -184,9 +185,6 @@ sign_found s placed cells i j c p o h ei ej eo c' f di dj t k =
 
 pub signs_found : (s : SpanOf) (placed : List Placed) (cells : List SpanOf) (i : ℕ) (c : SpanOf) (os : List Ordering) → AreSigned s placed cells → slice_get cells i ≡ Some c → os ≡ map (placed_sign s c) placed → (c' : SpanOf) → slice_get cells i ≡ Some c' → (t : Ratio) → has c' t ≡ true → os ≡ signs_of s (functions_of placed) t
 signs_found s placed cells i c os h ei eo c' di t k = signs_kept s placed cells i c os h ei eo t (subst (λ z. has z t ≡ true) (same_some (sym di ∙ ei)) k)
-
-pub list_read : {A : Type 0} (xs : List A) (i : ℕ) (x : A) → i < length xs → x ≡ get_or xs i x → drop i xs ≡ x ∷ drop (i + 1) xs
-list_read xs i x h e = rw add-one (rw (drop-cons xs i x) (ap (λ y. y ∷ drop (suc i) xs) (sym e)))
 
 -- ---- loops over lists
 pub mapped_step : {A B : Type 0} (f : A → B) (rest later : List A) (x : A) (y : B) (out out' all : List B) → rest ≡ x ∷ later → y ≡ f x → out' ≡ out ++ y ∷ [] → out ++ map f rest ≡ all → out' ++ map f later ≡ all

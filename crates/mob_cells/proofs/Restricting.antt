@@ -15,6 +15,7 @@ use Rattle.mob_ratio.proofs.Order.{before-trans, before-neither}
 use Rattle.mob_slice.specs.Slices.{value_at}
 use Rattle.mob_span.specs.Pieces.{piece_at}
 use Rattle.mob_span.specs.Flags.{same_bool}
+use Rattle.mob_span.proofs.Insides.{inside-trans}
 use Rattle.mob_slice.specs.Pieces.{AreInside}
 use Rattle.mob_cells.specs.Cells.{IsIn}
 use Rattle.mob_slice.specs.Sides.{HasValues, at_ends}
@@ -47,23 +48,9 @@ module _ {C B : Type 0} (value : C → Ratio → Ratio → Ratio → B) (start e
   cell_is items (Err fault) f c part want keeps signs os k fits h a n e m = rw m tt
 
 -- ---- all cells
-low_in : (a b c : Ratio) (i j k : Bool) → (before a b || (up_to a b && (i || not j))) ≡ true → (before b c || (up_to b c && (j || not k))) ≡ true → (before a c || (up_to a c && (i || not k))) ≡ true
-low_in a b c i j k h g = grind (arith, h, g, before-trans a b c, before-neither a b, before-neither b c, before-trans c a b, before-trans b c a)
-
-high_in : (a b c : Ratio) (i j k : Bool) → (before a b || (up_to a b && (j || not i))) ≡ true → (before b c || (up_to b c && (k || not j))) ≡ true → (before a c || (up_to a c && (k || not i))) ≡ true
-high_in a b c i j k h g = grind (arith, h, g, before-trans a b c, before-neither a b, before-neither b c, before-trans c a b, before-trans b c a)
-
-pub inside_trans : (s c x : SpanOf) → is_inside s c ≡ true → is_inside c x ≡ true → is_inside s x ≡ true
-inside_trans s c x h k =
-    let p = and_parts (before s.lower c.lower || (up_to s.lower c.lower && (s.lower_inc || not c.lower_inc))) (before c.upper s.upper || (up_to c.upper s.upper && (s.upper_inc || not c.upper_inc))) h in
-    let q = and_parts (before c.lower x.lower || (up_to c.lower x.lower && (c.lower_inc || not x.lower_inc))) (before x.upper c.upper || (up_to x.upper c.upper && (c.upper_inc || not x.upper_inc))) k in
-    and_from (before s.lower x.lower || (up_to s.lower x.lower && (s.lower_inc || not x.lower_inc))) (before x.upper s.upper || (up_to x.upper s.upper && (s.upper_inc || not x.upper_inc)))
-    (low_in s.lower c.lower x.lower s.lower_inc c.lower_inc x.lower_inc p.0 q.0)
-    (high_in x.upper c.upper s.upper x.upper_inc c.upper_inc s.upper_inc q.1 p.1)
-
 all_inside : {D : Type 0} (s c : SpanOf) (v : List (Slice D)) → is_inside s c ≡ true → AreInside c v → AreInside s v
 all_inside s c [] h k = tt
-all_inside s c (x ∷ v) h k = (inside_trans s c x.span h k.0, all_inside s c v h k.1)
+all_inside s c (x ∷ v) h k = (inside-trans s c x.span h k.0, all_inside s c v h k.1)
 
 more_inside : {D : Type 0} (s : SpanOf) (v w : List (Slice D)) → AreInside s v → AreInside s w → AreInside s (v ++ w)
 more_inside s [] w h k = k

@@ -1,10 +1,11 @@
 -- The sign on a cell, in the form that the search uses.
 use Rattle.std.specs.Prelude.{◌≡◌, Bool, true, false, cond, ◌↔◌, IsTrue, Some, None, refl}
 use Rattle.std.proofs.Common.{sym, ◌∙◌, true≢false, Equal}
+use Rattle.std.proofs.lemmas.Bool.{false_from_ne_true}
 use Rattle.mob_ratio.specs.Ratio.{Ratio}
 use Rattle.mob_ratio.specs.Order.{before, same}
 use Rattle.mob_ratio.specs.Sign.{nil, sign_of, opposite, root_at, sign_on}
-use Rattle.mob_ratio.proofs.Order.{false_unless, same_exact}
+use Rattle.mob_ratio.proofs.Order.{same_exact}
 use Rattle.mob_span.specs.Span.{SpanOf}
 use Rattle.mob_lifted.proofs.Options.{none_some, same_some}
 use Rattle.mob_cells.specs.Roots.{root_of}
@@ -45,4 +46,4 @@ pub if_nil : (s : SpanOf) (f : Ends) (a b : Ratio) (r : Bool) → root_of s f �
 if_nil s f a b r e h k i t = let z : same f.at_lower nil ≡ true = (same_exact f.at_lower nil).1 (i.0 t) in sym (none_sign s f a b e ∙ (rw (h, k, z) refl))
 
 pub if_not_nil : (s : SpanOf) (f : Ends) (a b : Ratio) (r : Bool) → root_of s f ≡ None → same b s.lower ≡ false → same a s.upper ≡ false → IsTrue r ↔ (f.at_lower ≡ nil) → r ≡ false → sign_of f.at_lower ≡ sign_on f.at_lower f.at_upper s.lower s.upper a b
-if_not_nil s f a b r e h k i t = let z : same f.at_lower nil ≡ false = false_unless _ (λ w. true≢false (sym (i.1 ((same_exact f.at_lower nil).0 w)) ∙ t)) in sym (none_sign s f a b e ∙ (rw (h, k, z) refl))
+if_not_nil s f a b r e h k i t = let z : same f.at_lower nil ≡ false = false_from_ne_true _ (λ w. true≢false (sym (i.1 ((same_exact f.at_lower nil).0 w)) ∙ t)) in sym (none_sign s f a b e ∙ (rw (h, k, z) refl))

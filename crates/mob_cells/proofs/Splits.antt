@@ -5,7 +5,7 @@ use Rattle.std.specs.List.{AllByRecursion}
 use Rattle.std.proofs.Common.{arith, ap, ◌∙◌}
 use Rattle.mob_ratio.specs.Ratio.{Ratio}
 use Rattle.mob_ratio.specs.Order.{before, up_to}
-use Rattle.mob_ratio.proofs.Order.{before-self, before-back, before-trans, before-neither}
+use Rattle.mob_ratio.proofs.Order.{before-self, before-back, before-trans, before-neither, before-up_to, up_to-before}
 use Rattle.mob_span.specs.Span.{SpanOf, has, has_instant}
 use Rattle.mob_span.specs.Neighbours.{is_clear, is_inside}
 use Rattle.mob_span.specs.Sets.{in_some}
@@ -15,12 +15,6 @@ use Rattle.mob_cells.specs.Cells.{instant_span, inner, until, beyond, split_at, 
 
 -- ---- one cell
 
-low_of : (l c r : Ratio) → before c r ≡ true → up_to l c ≡ true → before l r ≡ true
-low_of l c r h k = grind (arith, h, k, before-trans l c r, before-neither l c)
-
-high_of : (r c u : Ratio) → before r c ≡ true → up_to c u ≡ true → before r u ≡ true
-high_of r c u h k = grind (arith, h, k, before-trans r c u, before-neither c u)
-
 cut_has : (r : Ratio) (c : SpanOf) (t : Ratio) → before c.lower r ≡ true → before r c.upper ≡ true → (has (until c r) t || (has (instant_span r) t || has (beyond c r) t)) ≡ has c t
 cut_has r c t h k = grind (arith, h, k, before-trans c.lower r t, before-trans t r c.upper, before-trans r t c.upper, before-trans c.lower t r, before-back t r, before-back c.lower t, before-back t c.upper, before-neither t r, before-neither c.lower t, before-neither t c.upper)
 
@@ -29,8 +23,8 @@ cut_cells s c r h k i =
     let w = and_parts (is_cell c) (is_inside s c) i in
     let o : (before c.lower c.upper && not c.lower_inc && not c.upper_inc) ≡ true = grind (arith, w.0, before-trans c.lower r c.upper, h, k) in
     let x = and_parts (before s.lower c.lower || (up_to s.lower c.lower && (s.lower_inc || not c.lower_inc))) (before c.upper s.upper || (up_to c.upper s.upper && (s.upper_inc || not c.upper_inc))) w.1 in
-    let low : before s.lower r ≡ true = low_of s.lower c.lower r h (grind (arith, x.0, before-back s.lower c.lower)) in
-    let high : before r s.upper ≡ true = high_of r c.upper s.upper k (grind (arith, x.1, before-back c.upper s.upper)) in
+    let low : before s.lower r ≡ true = up_to-before s.lower c.lower r (grind (arith, x.0, before-back s.lower c.lower)) h in
+    let high : before r s.upper ≡ true = before-up_to r c.upper s.upper k (grind (arith, x.1, before-back c.upper s.upper)) in
     let p : is_cell_of s (until c r) ≡ true = and_from (is_cell (until c r)) (is_inside s (until c r)) (grind (arith, o, h)) (and_from (before s.lower c.lower || (up_to s.lower c.lower && (s.lower_inc || not c.lower_inc))) (before r s.upper || (up_to r s.upper && (s.upper_inc || not false))) x.0 (rw high refl)) in
     let q : is_cell_of s (instant_span r) ≡ true = rw (before-self r, low, high) refl in
     let v : is_cell_of s (beyond c r) ≡ true = and_from (is_cell (beyond c r)) (is_inside s (beyond c r)) (grind (arith, o, k)) (and_from (before s.lower r || (up_to s.lower r && (s.lower_inc || not false))) (before c.upper s.upper || (up_to c.upper s.upper && (s.upper_inc || not c.upper_inc))) (rw low refl) x.1) in

@@ -7,18 +7,14 @@ use Rattle.mob_ratio.specs.Order.{before}
 use Rattle.mob_ratio.specs.Line.{line_at}
 use Rattle.mob_ratio.specs.Sign.{nil, opposite, root_at, sign_of, IsRoot}
 use Rattle.mob_ratio.proofs.Order.{before-back, before-neither}
-use Rattle.mob_ratio.proofs.Signs.{root_holds, opposite_cases, sign_below, sign_above, sign_nil}
+use Rattle.mob_ratio.proofs.Signs.{root_holds, opposite_cases, sign_below, sign_above, sign_nil, opposite-self}
 use Rattle.mob_span.specs.Span.{SpanOf, has}
 use Rattle.mob_cells.specs.declared.linear.Ends.{Ends}
 use Rattle.mob_cells.specs.Roots.{IsLevel, IsOneRoot}
 
-opposite_self : (x : Ratio) → opposite x x ≡ false
-unfolding opposite
-opposite_self x = grind (arith, before-back x nil)
-
 pub long_of : (s : SpanOf) (f : Ends) → IsLevel s f → opposite f.at_lower f.at_upper ≡ true → (b : Bool) → before s.lower s.upper ≡ b → before s.lower s.upper ≡ true
 long_of s f l o true e = e
-long_of s f l o false e = absurd (true≢false (sym o ∙ ap (λ z. opposite f.at_lower z) (sym (l e)) ∙ opposite_self f.at_lower))
+long_of s f l o false e = absurd (true≢false (sym o ∙ ap (λ z. opposite f.at_lower z) (sym (l e)) ∙ opposite-self f.at_lower))
 
 is_root : (s : SpanOf) (f : Ends) → IsLevel s f → opposite f.at_lower f.at_upper ≡ true → IsRoot f.at_lower f.at_upper s.lower s.upper (root_at f.at_lower f.at_upper s.lower s.upper)
 is_root s f l o = root_holds f.at_lower f.at_upper s.lower s.upper (long_of s f l o (before s.lower s.upper) refl) o

@@ -4,13 +4,14 @@ use Rattle.std.proofs.Common.{◌≡◌, ◌<◌, ◌≤◌, ◌+◌, ◌∙◌,
 use Rattle.std.specs.List.{prefix_len}
 use Rattle.std.proofs.lemmas.List.{length-take}
 use Rattle.std.proofs.lemmas.List.Sums.{take_while-cons}
+use Rattle.std.proofs.lemmas.Bool.{cases_Bool, or_left}
 use Rattle.mob_chars.specs.declared.token.TokenKind.{TokenKind}
 use Rattle.mob_chars.specs.declared.token.TokenKind.TheVariants.{Word, Number, Str, Sign}
 use Rattle.mob_language.specs.Language.{is_blank, is_digit, is_number_sign, is_exponent_letter}
 use Rattle.mob_chars.specs.Scan.{is_letter, is_word, is_point, is_quote, begins_digit, begins_number, word_length, digits_length, fraction_length, mantissa_length, with_digits, power_length, exponent_length, number_length, quoted_length, string_length, begins_comment, comment_length, gap_length}
 use Rattle.mob_chars.specs.Signs.{signs, sign_length}
 use Rattle.mob_chars.specs.Tokens.{token_at}
-use Rattle.mob_chars.proofs.Longest.{told, first_is_longest, first_fits}
+use Rattle.mob_chars.proofs.Longest.{first_is_longest, first_fits}
 
 abbrev pub Within : ℕ → Option ℕ → Type 0
 Within m o = IfSome o (λ n. (0 < n) × (n ≤ m))
@@ -20,11 +21,6 @@ taken_upto p l = omega (arith, length-take (prefix_len p l) l)
 
 taken_first : (p : ℕ → Bool) (b : ℕ) (l : List ℕ) → p b ≡ true → 0 < length (take_while p (b ∷ l))
 taken_first p b l h = let long : length (take_while p (b ∷ l)) ≡ suc (length (take_while p l)) = ap length (take_while-cons p b l ∙ ap (λ v. cond v (b ∷ take_while p l) []) h) in omega (arith, long)
-
-or_left : (x y : Bool) → x ≡ true → (x || y) ≡ true
-or_left true y h = refl
-or_left false true h = refl
-or_left false false h = h
 
 cond_upto : (b : Bool) (x y m : ℕ) → x ≤ m → y ≤ m → cond b x y ≤ m
 cond_upto true x y m h k = h
@@ -58,7 +54,7 @@ point_first b l zero e h = let P : Bool → Type 0 = λ v. 0 < 0 + cond v (1 + d
 point_first b l (suc n) e h = omega arith
 
 number_first : (b : ℕ) (l : List ℕ) → begins_number (b ∷ l) ≡ true → 0 < number_length (b ∷ l)
-number_first b l h = elim (told (is_point b)) [
+number_first b l h = elim (cases_Bool (is_point b)) [
   | inl yes_ ↦ omega (arith, point_first b l (digits_length (b ∷ l)) refl yes_)
   | inr no_ ↦ omega (arith, taken_first is_digit b l (sym (ap (λ v. cond v (begins_digit l) (is_digit b)) no_) ∙ h))
 ]

@@ -3,14 +3,13 @@ use Rattle.std.specs.Prelude.{◌≡◌, Bool, false, not, ◌&&◌, List, ◌++
 use Rattle.std.specs.List.{AllByRecursion}
 use Rattle.std.proofs.Common.{ap, sym, ◌∙◌, subst, inl, inr}
 use Rattle.std.specs.Ordering.{is_lt, is_gt}
-use Rattle.mob_plane.proofs.BySigns.{lt_cond, gt_cond}
 use Rattle.mob_ratio.specs.Ratio.{Ratio, ◌-ℚ◌}
 use Rattle.mob_ratio.specs.Order.{before, up_to}
 use Rattle.mob_ratio.specs.Line.{line_at}
 use Rattle.mob_ratio.specs.Sign.{sign_of}
 use Rattle.mob_ratio.proofs.Order.{before-back}
 use Rattle.mob_plane.proofs.TurnsAlong.{line_at-from}
-use Rattle.mob_ratio.proofs.Signs.{sign-diff}
+use Rattle.mob_ratio.proofs.Signs.{sign-diff, lt_cond, gt_cond}
 use Rattle.mob_frac.specs.Formula.{AllFit}
 use Rattle.mob_span.specs.Span.{SpanOf}
 use Rattle.mob_slice.specs.declared.formula.Formula.TheVariants.{F2}

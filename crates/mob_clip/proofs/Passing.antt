@@ -10,7 +10,7 @@ use Rattle.mob_frac.specs.Formula.{AllFit}
 use Rattle.mob_span.specs.Span.{SpanOf, has, has_instant}
 use Rattle.mob_span.specs.Neighbours.{is_clear, is_inside}
 use Rattle.mob_span.proofs.SpanLemmas.{no_instant}
-use Rattle.mob_span.proofs.Insides.{clear_inside, inside_clear, clear_has, inside_has, inside_self}
+use Rattle.mob_span.proofs.Insides.{clear_inside, inside_clear, clear_has, inside_has, inside_self, inside-trans}
 use Rattle.mob_span.specs.Flags.{same_bool}
 use Rattle.mob_plane.specs.declared.point.Point.{Point}
 use Rattle.mob_slice.specs.Slices.{value_at, IsOrdered, IsSound, IsClearOf, OfHead}
@@ -26,7 +26,6 @@ use Rattle.mob_slice.proofs.Cuts.{all_both, all_first, all_second}
 use Rattle.mob_lifted.specs.OnPiece.{AreKeptOn}
 use Rattle.mob_lifted.proofs.OnOnePiece.{kept_same}
 use Rattle.mob_cells.specs.Restricted.{kept_value}
-use Rattle.mob_cells.proofs.Restricting.{inside_trans}
 use Rattle.mob_plane.specs.declared.edges.Tally.{Tally}
 use Rattle.mob_clip.specs.declared.steps.Change.{Change}
 use Rattle.mob_clip.specs.declared.steps.Steps.{Steps}
@@ -97,7 +96,7 @@ inside_joined s c [] v h i k = all v k
   where
     all : (v : List (Slice PlaneLine)) → AreInside c v → AreInside s v
     all [] k = tt
-    all (y ∷ v) k = (inside_trans s c y.span i k.0, all v k.1)
+    all (y ∷ v) k = (inside-trans s c y.span i k.0, all v k.1)
 inside_joined s c (x ∷ out) v h i k = (h.0, inside_joined s c out v h.1 i k)
 
 before_joined : (c d : SpanOf) (out v : List (Slice PlaneLine)) → AllBefore d out → is_clear c d ≡ true → AreInside c v → AllBefore d (out ++ v)
@@ -172,10 +171,10 @@ module _ (s : Slice PlaneLine) where
       by false = tt
 
   pub left_holds : (c : SpanOf) (r : Ratio) (i : Bool) → IsOnSlice s (Some c) → AllFit (parts r) → IsOnSlice s (some_span (left_span c r i))
-  left_holds c r i h k = some_holds (left_span c r i) (inside_trans s.span c (left_span c r i) h.0 (left_inside c r i)) (left_fits c r i h.1 k)
+  left_holds c r i h k = some_holds (left_span c r i) (inside-trans s.span c (left_span c r i) h.0 (left_inside c r i)) (left_fits c r i h.1 k)
 
   pub right_holds : (c : SpanOf) (r : Ratio) (i : Bool) → IsOnSlice s (Some c) → AllFit (parts r) → IsOnSlice s (some_span (right_span c r i))
-  right_holds c r i h k = some_holds (right_span c r i) (inside_trans s.span c (right_span c r i) h.0 (right_inside c r i)) (right_fits c r i h.1 k)
+  right_holds c r i h k = some_holds (right_span c r i) (inside-trans s.span c (right_span c r i) h.0 (right_inside c r i)) (right_fits c r i h.1 k)
 
   pub rest_holds : (rest : Option SpanOf) (r : Ratio) (i : Bool) → IsOnSlice s rest → AllFit (parts r) → IsOnSlice s (right_piece rest r i)
   rest_holds None r i h k = tt
@@ -214,7 +213,7 @@ module _ (s : Slice PlaneLine) where
     passed_some : (c : SpanOf) (r : Ratio) (i : Bool) (out v : List (Slice PlaneLine)) → AllFit (parts r) → AreKeptOn plane_value_of (λ k. k.from) (λ k. k.to) f (left_span c r i) v → IsLeft f (Some c) out → IsLeft f (some_span (right_span c r i)) (out ++ v)
     passed_some c r i out v k w m = record {
       ordered = order_joined (left_span c r i) out v m.ordered (before_part c (left_span c r i) out (left_inside c r i) m.ahead.1) w.inside w.ordered;
-      inside = inside_joined s.span (left_span c r i) out v m.inside (inside_trans s.span c (left_span c r i) m.holds.0 (left_inside c r i)) w.inside;
+      inside = inside_joined s.span (left_span c r i) out v m.inside (inside-trans s.span c (left_span c r i) m.holds.0 (left_inside c r i)) w.inside;
       ahead = ahead (has_instant (right_span c r i)) refl;
       holds = right_holds c r i m.holds k;
       values = λ t h n. at t h (sym (some_has (right_span c r i) t) ∙ n) (has c t) refl;

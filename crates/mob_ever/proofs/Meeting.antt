@@ -1,12 +1,13 @@
 -- When courses satisfy a test of their order on a piece.
 use Rattle.std.specs.Prelude.{◌≡◌, ◌↔◌, Bool, true, false, cond, ◌&&◌, ◌||◌, refl}
 use Rattle.std.proofs.Common.{arith, ap, sym, ◌∙◌, true≢false}
+use Rattle.std.proofs.lemmas.Bool.{false_from_ne_true}
 use Rattle.std.specs.declared.cmp.Ordering.{Ordering}
 use Rattle.std.specs.declared.cmp.Ordering.TheVariants.{Less, Equal, Greater}
 use Rattle.mob_ratio.specs.Ratio.{Ratio}
 use Rattle.mob_ratio.specs.Order.{same}
 use Rattle.mob_ratio.specs.Sign.{nil, sign_of}
-use Rattle.mob_ratio.proofs.Order.{same_exact, false_unless}
+use Rattle.mob_ratio.proofs.Order.{same_exact}
 use Rattle.mob_span.specs.Span.{SpanOf, has, has_instant}
 use Rattle.mob_span.proofs.SpanLemmas.{some_instant}
 use Rattle.mob_slice.specs.Comparison.{gaps_at}
@@ -49,7 +50,7 @@ greater_not : Greater ≡ Equal → ⊥
 greater_not e = cc
 
 apart : (s : SpanOf) (f : Ends) (o : Ordering) (t : Ratio) → sign_of (function_at s f t) ≡ o → (o ≡ Equal → ⊥) → same (function_at s f t) nil ≡ false
-apart s f o t e n = false_unless (same (function_at s f t) nil) (λ h. n (sym e ∙ sign_of_is (function_at s f t) Equal h))
+apart s f o t e n = false_from_ne_true (same (function_at s f t) nil) (λ h. n (sym e ∙ sign_of_is (function_at s f t) Equal h))
 
 at_less : (test : Ordering → Bool) (s : SpanOf) (f e : Ends) (t : Ratio) → has s t ≡ true → test Less ≡ true → (same (function_at s f t) nil && same (function_at s e t) nil) ≡ false → Meets test s (two_order s f e)
 at_less test s f e t h k n = (t, h, ap (λ z. test (cond z Equal Less)) n ∙ k)

@@ -1,13 +1,14 @@
 -- The signs of a linear function follow from its ends.
 use Rattle.std.specs.Prelude.{◌≡◌, Bool, true, false, cond, not, ◌&&◌, ◌||◌, refl}
 use Rattle.std.proofs.Common.{arith, ap, sym, ◌∙◌, subst, true≢false}
+use Rattle.std.proofs.lemmas.Bool.{false_from_ne_true}
 use Rattle.std.specs.declared.cmp.Ordering.{Ordering}
 use Rattle.std.specs.declared.cmp.Ordering.TheVariants.{Less, Equal, Greater}
 use Rattle.mob_ratio.specs.Ratio.{Ratio}
 use Rattle.mob_ratio.specs.Order.{before, up_to, same}
 use Rattle.mob_ratio.specs.Line.{line_at}
 use Rattle.mob_ratio.specs.Sign.{nil, opposite, root_at, sign_of, sign_on, IsRoot}
-use Rattle.mob_ratio.proofs.Order.{before-self, before-back, before-trans, before-neither, between, false_unless, same_exact}
+use Rattle.mob_ratio.proofs.Order.{before-self, before-back, before-trans, before-neither, between, same_exact}
 use Rattle.mob_ratio.proofs.Signs.{root_holds, sign_open, sign_below, sign_above, sign_nil}
 use Rattle.mob_ever.specs.Taken.{sign_is, takes_inside}
 
@@ -49,10 +50,10 @@ is_sign_of q Greater e = greater_is (before q nil) (before nil q) e
 
 -- ---- strictly between the ends
 not_same : (l u : Ratio) → before l u ≡ true → same u l ≡ false
-not_same l u h = false_unless (same u l) (λ e. true≢false (sym h ∙ ap (λ z. before l z) ((same_exact u l).0 e) ∙ before-self l))
+not_same l u h = false_from_ne_true (same u l) (λ e. true≢false (sym h ∙ ap (λ z. before l z) ((same_exact u l).0 e) ∙ before-self l))
 
 not_same' : (l u : Ratio) → before l u ≡ true → same l u ≡ false
-not_same' l u h = false_unless (same l u) (λ e. true≢false (sym h ∙ ap (λ z. before z u) ((same_exact l u).0 e) ∙ before-self u))
+not_same' l u h = false_from_ne_true (same l u) (λ e. true≢false (sym h ∙ ap (λ z. before z u) ((same_exact l u).0 e) ∙ before-self u))
 
 up_to_self : (t : Ratio) → up_to t t ≡ true
 up_to_self t = rw (before-self t) refl

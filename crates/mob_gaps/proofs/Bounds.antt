@@ -1,14 +1,14 @@
 -- What the gap of two boxes says about their contents.
 use Rattle.std.proofs.Common.{◌≡◌, ◌⊎◌, inl, inr, Bool, true, false, Option, Some, None, arith, refl, sym, ap, ◌∙◌, subst}
 use Rattle.std.specs.Prelude.{cond, not, IfSome}
-use Rattle.std.proofs.lemmas.Bool.{and_parts}
+use Rattle.std.proofs.lemmas.Bool.{and_parts, false_from_ne_true}
 use Rattle.mob_ratio.specs.Ratio.{Ratio, ◌+ℚ◌, ◌-ℚ◌, ◌*ℚ◌, ◌≤ℚ◌}
 use Rattle.mob_ratio.specs.Order.{before, up_to}
 use Rattle.mob_ratio.specs.Sign.{nil}
 use Rattle.mob_ratio.proofs.IntRing.{linear}
 use Rattle.mob_ratio.proofs.Clear.{clear4, cleared}
 use Rattle.mob_ratio.proofs.Field.{not_both}
-use Rattle.mob_ratio.proofs.Order.{not-up_to-le, le-up_to, before-lt, false_unless}
+use Rattle.mob_ratio.proofs.Order.{not-up_to-le, le-up_to, before-lt}
 use Rattle.mob_quadratic.proofs.Convex.{square_le, add_le}
 use Rattle.mob_span.specs.Span.{SpanOf, InSpan}
 use Rattle.mob_plane.specs.declared.point.Point.{Point}
@@ -58,7 +58,7 @@ square_not_below p q = add_le _ _ (square_le (p.x -ℚ q.x)) (square_le (p.y -�
 
 -- a lower bound of all squared distances is at most the nearest approach
 up_to_nearest : (left right : Ratio → Option Point) (m v : Ratio) → IsNearest left right m → ((t : Ratio) (p q : Point) → left t ≡ Some p → right t ≡ Some q → v ≤ℚ distance_squared p q) → up_to v m ≡ true
-up_to_nearest left right m v near h = ap not (false_unless (before m v) (λ k. let w = near.greatest v k in not_both _ _ (before-lt _ _ w.5) (h w.0 w.1 w.2 w.3 w.4)))
+up_to_nearest left right m v near h = ap not (false_from_ne_true (before m v) (λ k. let w = near.greatest v k in not_both _ _ (before-lt _ _ w.5) (h w.0 w.1 w.2 w.3 w.4)))
 
 -- the gap of areas that contain their points at each common instant
 fit_below : (a c : Area) (p q : Point) (t : Bool) → all_fit (area_gap_parts a c) ≡ t → InArea a p → InArea c q → exact_or_nil (area_gap_parts a c) (area_gap a c) ≤ℚ distance_squared p q

@@ -2,7 +2,7 @@
 use Rattle.std.proofs.Common.{◌≡◌, ℕ, Bool, true, false, List, [], ◌∷◌, ◌++◌, refl, subst, ◌<◌, ◌^◌}
 use Rattle.std.specs.Prelude.{Result, Ok, Err, nat_lt, nat_abs}
 use borrow.Author.Tests.{ltb-true, lt-ltb}
-use Rattle.std.proofs.lemmas.Bool.{and_parts, and_from}
+use Rattle.std.proofs.lemmas.Bool.{and_parts, and_from, ltb-true, lt-ltb}
 use Rattle.mob_ratio.specs.Ratio.{Ratio}
 use Rattle.mob_ratio.specs.Sign.{nil}
 use Rattle.mob_frac.specs.Fits.{Fits}
@@ -11,17 +11,11 @@ use Rattle.mob_frac.proofs.Fitting.{all_both, all_second}
 use Rattle.mob_near.specs.Distances.{length_squared}
 use Rattle.mob_gaps.specs.Gaps.{part_fits, all_fit, exact_or_nil}
 
-lt_is : (a b : ℕ) → nat_lt a b ≡ true → a < b
-lt_is a b h = ltb-true a b h
-
-lt_test : (a b : ℕ) → a < b → nat_lt a b ≡ true
-lt_test a b h = lt-ltb a b h
-
 fits_is : (q : Ratio) → part_fits q ≡ true → Fits q
-fits_is q h = let k = and_parts _ _ h in record { num_fits = lt_is (nat_abs q.num) (2 ^ 62) k.0; den_fits = lt_is q.den (2 ^ 62) k.1 }
+fits_is q h = let k = and_parts _ _ h in record { num_fits = ltb-true (nat_abs q.num) (2 ^ 62) k.0; den_fits = ltb-true q.den (2 ^ 62) k.1 }
 
 is_fits : (q : Ratio) → Fits q → part_fits q ≡ true
-is_fits q h = and_from _ _ (lt_test (nat_abs q.num) (2 ^ 62) h.num_fits) (lt_test q.den (2 ^ 62) h.den_fits)
+is_fits q h = and_from _ _ (lt-ltb (nat_abs q.num) (2 ^ 62) h.num_fits) (lt-ltb q.den (2 ^ 62) h.den_fits)
 
 pub all_fit_is : (parts : List Ratio) → all_fit parts ≡ true → AllFit parts
 all_fit_is [] h = tt

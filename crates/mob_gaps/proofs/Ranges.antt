@@ -2,14 +2,13 @@
 use Rattle.std.proofs.Common.{◌≡◌, ◌⊎◌, inl, inr, Bool, true, false, arith, refl, sym, ap, ◌∙◌, subst}
 use Rattle.std.specs.Prelude.{cond, not}
 use Rattle.mob_ratio.specs.Ratio.{Ratio, ◌-ℚ◌, ◌*ℚ◌, ◌<ℚ◌, ◌≤ℚ◌}
-use Rattle.mob_ratio.specs.Order.{before, up_to}
+use Rattle.mob_ratio.specs.Order.{before, up_to, smaller, greater}
 use Rattle.mob_ratio.specs.Sign.{nil}
 use Rattle.mob_ratio.proofs.IntRing.{linear}
 use Rattle.mob_ratio.proofs.Clear.{clear1, clear2, clear4, cleared}
-use Rattle.mob_ratio.proofs.Field.{le_trans, le_refl, le_of_lt, mul_comm, sub_self}
+use Rattle.mob_ratio.proofs.Field.{le_trans, le_refl, le_of_lt, mul_comm, sub_self, square-turned}
 use Rattle.mob_ratio.proofs.Order.{not-up_to-le, up_to-le, before-lt}
 use Rattle.mob_quadratic.proofs.Convex.{square_le, le_mul_pos, sub_le}
-use Rattle.mob_plane.specs.Corners.{smaller, greater}
 use Rattle.mob_gaps.specs.Gaps.{range_gap}
 
 -- the greater of two numbers is one of them, and at least both
@@ -55,13 +54,10 @@ diff_pos d a h = sub_le d a (le_of_lt d a h)
 square_up : (g z : Ratio) → nil ≤ℚ g → g ≤ℚ z → (g *ℚ g) ≤ℚ (z *ℚ z)
 square_up g z h k = le_trans (g *ℚ g) (z *ℚ g) (z *ℚ z) (le_mul_pos g z g h k) (subst (λ w. w ≤ℚ (z *ℚ z)) (mul_comm g z) (le_mul_pos g z z (le_trans nil g z h k) k))
 
-other_way : (p q : Ratio) → (q -ℚ p) *ℚ (q -ℚ p) ≡ (p -ℚ q) *ℚ (p -ℚ q)
-other_way = clear2 _ (λ D x y p. simp cleared (omega (arith, linear)))
-
 by_way : (a b c d g x y : Ratio) → AreSplit a b c d g → a ≤ℚ x → x ≤ℚ b → c ≤ℚ y → y ≤ℚ d → (g *ℚ g) ≤ℚ ((x -ℚ y) *ℚ (x -ℚ y))
 by_way a b c d g x y w ax xb cy yd = elim w.way [
   | inl h ↦ subst (λ z. (z *ℚ z) ≤ℚ ((x -ℚ y) *ℚ (x -ℚ y))) (sym h.1) (square_up (a -ℚ d) (x -ℚ y) (diff_pos d a h.0) (apart_up a d x y ax yd))
-  | inr h ↦ subst (λ z. (z *ℚ z) ≤ℚ ((x -ℚ y) *ℚ (x -ℚ y))) (sym h.1) (subst (λ z. ((c -ℚ b) *ℚ (c -ℚ b)) ≤ℚ z) (other_way x y) (square_up (c -ℚ b) (y -ℚ x) (diff_pos b c h.0) (apart_up c b y x cy xb)))
+  | inr h ↦ subst (λ z. (z *ℚ z) ≤ℚ ((x -ℚ y) *ℚ (x -ℚ y))) (sym h.1) (subst (λ z. ((c -ℚ b) *ℚ (c -ℚ b)) ≤ℚ z) (square-turned x y) (square_up (c -ℚ b) (y -ℚ x) (diff_pos b c h.0) (apart_up c b y x cy xb)))
 ]
 
 zero_self : (x : Ratio) → (x -ℚ x) *ℚ (x -ℚ x) ≡ nil
@@ -114,7 +110,7 @@ taken_test a b c d true e r s =
     }
 taken_test a b c d false e r s = elim (split a b c d r s e).way [
   | inl h ↦ record { x = a; y = d; from_a = le_refl a; to_b = r; from_c = s; to_d = le_refl d; square = ap (λ z. z *ℚ z) (sym h.1) }
-  | inr h ↦ record { x = b; y = c; from_a = r; to_b = le_refl b; from_c = le_refl c; to_d = s; square = sym (other_way b c) ∙ ap (λ z. z *ℚ z) (sym h.1) }
+  | inr h ↦ record { x = b; y = c; from_a = r; to_b = le_refl b; from_c = le_refl c; to_d = s; square = sym (square-turned b c) ∙ ap (λ z. z *ℚ z) (sym h.1) }
 ]
 
 pub between_taken : (a b c d : Ratio) → a ≤ℚ b → c ≤ℚ d → AreTaken a b c d (range_gap a b c d)

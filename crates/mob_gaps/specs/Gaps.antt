@@ -1,11 +1,10 @@
 -- The gap of two boxes.
 use Rattle.std.specs.Prelude.{◌≡◌, ◌^◌, Bool, true, false, cond, not, ◌&&◌, List, [], ◌∷◌, ◌++◌, Option, Some, None, nat_abs, nat_lt}
 use Rattle.mob_ratio.specs.Ratio.{Ratio, ◌-ℚ◌}
-use Rattle.mob_ratio.specs.Order.{up_to}
+use Rattle.mob_ratio.specs.Order.{up_to, smaller, greater}
 use Rattle.mob_ratio.specs.Sign.{nil}
 use Rattle.mob_frac.specs.Formula.{AllFit, difference_parts, square_parts}
 use Rattle.mob_span.specs.Span.{SpanOf, InSpan}
-use Rattle.mob_plane.specs.Corners.{smaller, greater}
 use Rattle.mob_plane.specs.declared.point.Point.{Point}
 use Rattle.mob_stbox.specs.Areas.{InArea}
 use Rattle.mob_stbox.specs.Boxes.{BoxOf, where_both, spans_meet}

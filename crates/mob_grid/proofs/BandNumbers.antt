@@ -65,7 +65,7 @@ whole_lt n m h = (same_lt n m 1 one_positive).0 (rw (whole-over n, whole-over m)
 pub edges_lt : (c : Ratio) (n m : ℤ) → nil <ℚ c → (whole n *ℚ c) <ℚ (whole m *ℚ c) → n <ℤ m
 edges_lt c n m p h = whole_lt n m (lt_of_mul_pos (whole n) (whole m) c p h)
 
-next_le : (n m : ℤ) → n <ℤ (m +ℤ pos 1) → n ≤ℤ m
+pub next_le : (n m : ℤ) → n <ℤ (m +ℤ pos 1) → n ≤ℤ m
 next_le n m h = omega (arith, ints)
 
 -- the numbers of bands are ordered like their numbers

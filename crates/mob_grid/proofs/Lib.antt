@@ -1,3 +1,3 @@
 pub mod BandNumbers
-pub mod Machine
 pub mod Ranges
+pub mod TileOrder

@@ -7,10 +7,9 @@ use Rattle.mob_ratio.specs.Ratio.{Ratio}
 use Rattle.mob_plane.specs.declared.point.Point.{Point}
 use Rattle.mob_slice.specs.Lines.{plane_value_of}
 use Rattle.mob_slice.specs.Sides.{Slices, Base, given_at}
-use Rattle.mob_ratio.proofs.Order.{not-up_to-le}
+use Rattle.mob_ratio.proofs.Order.{not-up_to-le, smaller_left, greater_right}
 use Rattle.mob_stbox.specs.Areas.{InArea, area_between}
 use Rattle.mob_stbox.specs.Boxes.{BoxOf, InBox, contains}
-use Rattle.mob_plane.proofs.Widening.{smaller_left, greater_right}
 use Rattle.mob_list.proofs.Entries.{first_in, later_in, none_in, which_in}
 use Rattle.mob_rtree_nodes.specs.Tree.{EntryOf}
 use Rattle.mob_rtree_nodes.specs.Reach.{Branch}

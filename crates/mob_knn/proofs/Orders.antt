@@ -7,9 +7,8 @@ use Rattle.std.specs.declared.cmp.Ordering.{Ordering}
 use Rattle.std.specs.declared.cmp.Ordering.TheVariants.{Less, Equal, Greater}
 use borrow.Author.Tests.{ltb-false, eqb-true, eqb-false}
 use Rattle.mob_ratio.specs.Ratio.{Ratio}
-use Rattle.mob_ratio.specs.Order.{before, up_to}
+use Rattle.mob_ratio.specs.Order.{before, up_to, greater}
 use Rattle.mob_ratio.proofs.Order.{before-self, before-back, before-trans, before-neither}
-use Rattle.mob_plane.specs.Corners.{greater}
 use Rattle.mob_list.proofs.Entries.{each_of_all}
 use Rattle.mob_gaps.specs.Gaps.{gap_reaches}
 use Rattle.mob_gaps.specs.declared.kind.Gap.{Gap}

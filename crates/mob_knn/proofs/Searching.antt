@@ -11,10 +11,9 @@ use Rattle.std.proofs.lemmas.List.Sums.{sum_by-append, sum_by-cons}
 use Rattle.mob_list.proofs.Each.{each_more}
 use borrow.Author.Tests.{eq-eqb, lt-ltb, eqb-true}
 use Rattle.mob_ratio.specs.Ratio.{Ratio}
-use Rattle.mob_ratio.specs.Order.{before, up_to, same}
+use Rattle.mob_ratio.specs.Order.{before, up_to, same, greater}
 use Rattle.mob_ratio.specs.Sign.{nil}
 use Rattle.mob_ratio.proofs.Order.{same_exact}
-use Rattle.mob_plane.specs.Corners.{greater}
 use Rattle.mob_stbox.specs.Boxes.{BoxOf, contains}
 use Rattle.mob_list.proofs.Entries.{first_in, later_in, none_in, which_in, all_by_each}
 use Rattle.mob_rtree_nodes.specs.Tree.{AreSame, EntryOf, Kid}

@@ -6,7 +6,7 @@ use Rattle.std.proofs.lemmas.List.Elements.{All-contains}
 use Rattle.std.proofs.lemmas.List.Sorted.{sum_by-IsPermutation}
 use Rattle.std.proofs.lemmas.List.Sums.{sum_by-append, sum_by-cons}
 use Rattle.mob_ratio.specs.Ratio.{Ratio}
-use Rattle.mob_plane.specs.Corners.{greater}
+use Rattle.mob_ratio.specs.Order.{greater}
 use Rattle.mob_stbox.specs.Boxes.{BoxOf}
 use Rattle.mob_list.proofs.Entries.{first_in, later_in}
 use Rattle.mob_rtree_nodes.specs.Tree.{Kid, target, is_kind}

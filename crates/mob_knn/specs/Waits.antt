@@ -5,7 +5,7 @@ use Rattle.std.specs.List.{flat_map}
 use Rattle.std.specs.Ordering.{nat_cmp, then_cmp, on, flip_args}
 use Rattle.std.specs.declared.cmp.Ordering.{Ordering}
 use Rattle.mob_ratio.specs.Ratio.{Ratio}
-use Rattle.mob_plane.specs.Corners.{greater}
+use Rattle.mob_ratio.specs.Order.{greater}
 use Rattle.mob_slice.specs.Ranks.{compare_ratio}
 use Rattle.mob_slice.specs.RankLaws.{ranking_ratio}
 use Rattle.mob_stbox.specs.Boxes.{BoxOf}

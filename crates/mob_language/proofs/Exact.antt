@@ -11,6 +11,10 @@ use Rattle.std.specs.Char.{to_ascii_lowercase}
 use Rattle.mob_language.specs.Language.{Text, Language, ◌▷◌, ◌∣◌, Maybe, Means, Where, Word, AnyCase, OneOf, AreAll, ManyOf}
 use Rattle.mob_language.specs.Readers.{TextReader, ◌>>=◌, then_at, else_at, or_at, maybe_at, maybe_of, means_at, where_at, word_at, any_case_at, one_at, split_while, grown, many_at, ended, all_of}
 
+-- the text after two texts, regrouped
+pub regrouped : (text a b rest : Text) → text ≡ a ++ b → text ++ rest ≡ a ++ (b ++ rest)
+regrouped text a b rest e = ap (λ (t : Text). t ++ rest) e ∙ append_assoc a b rest
+
 -- the text has a prefix that denotes v in the language, followed by the rest
 pub record Reads {A : Type 0} (l : Language A) (text rest : Text) (v : A) : Type 0 where
   pub front : Text

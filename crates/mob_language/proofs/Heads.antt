@@ -10,7 +10,7 @@
 use Rattle.std.proofs.Common.{◌≡◌, ℕ, [], ◌∷◌, ◌++◌, Bool, true, false, Some, None, refl, sym, ap, subst, ◌∙◌, inl, inr}
 use Rattle.mob_language.specs.Language.{Text, Language, ◌▷◌, ◌∣◌, Maybe, Means, Where, Word, OneOf, AreAll, ManyOf, blanks, spaced, is_blank, in_middle, within_blanks}
 use Rattle.mob_language.specs.Readers.{TextReader, then_at, or_at, maybe_at, means_at, where_at, word_at, one_at, spaced_at, within_blanks_at}
-use Rattle.std.proofs.lemmas.Bool.{ne_eqb}
+use Rattle.std.proofs.lemmas.Bool.{ne_eqb, both_ways}
 use Rattle.std.proofs.lemmas.List.{append-nil}
 use Rattle.mob_language.proofs.Exact.{Exact, Stops, Any, then_exact, or_exact, maybe_exact, means_exact, word_exact, many_exact}
 
@@ -71,12 +71,9 @@ pub one_nothing : (p : ℕ → Bool) → Nothing (one_at p) p
 one_nothing p [] s = refl
 one_nothing p (c ∷ cs) s = rw s refl
 
-true_false : (b : Bool) → b ≡ true → b ≡ false → ⊥
-true_false b h k = absurd cc
-
 pub word_nothing : (w : ℕ) (ws : Text) (p : ℕ → Bool) → p w ≡ true → Nothing (word_at (w ∷ ws)) p
 word_nothing w ws p e [] s = refl
-word_nothing w ws p e (c ∷ cs) s = rw (ne_eqb c w (λ same. true_false (p c) (ap p same ∙ e) s)) refl
+word_nothing w ws p e (c ∷ cs) s = rw (ne_eqb c w (λ same. both_ways (p c) s (ap p same ∙ e))) refl
 
 pub then_nothing : {A B : Type 0} {r : TextReader A} (s : TextReader B) {test : ℕ → Bool} → Nothing r test → Nothing (then_at r s) test
 then_nothing s h rest stops = rw (h rest stops) refl

@@ -2,3 +2,4 @@ pub mod Each
 pub mod Entries
 pub mod Changing
 pub mod Faults
+pub mod Tests

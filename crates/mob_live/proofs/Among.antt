@@ -1,10 +1,11 @@
 -- A search in sorted numbers.
-use Rattle.std.proofs.Common.{arith, ◌≡◌, ◌⊎◌, inl, inr, ◌∙◌, refl, sym, ap, ℕ, zero, suc, ◌<◌, ◌≤◌, ◌==◌, ◌||◌, Bool, true, false, length, List, [], ◌∷◌, get_or, Result, Ok, Err}
-use Rattle.std.specs.Prelude.{◌≢◌, is_ok, nat_lt}
+use Rattle.std.proofs.Common.{arith, ◌≡◌, ◌↔◌, ◌⊎◌, inl, inr, ◌∙◌, refl, sym, ap, subst, true≢false, ℕ, zero, suc, ◌<◌, ◌≤◌, ◌==◌, ◌||◌, Bool, true, false, length, List, [], ◌∷◌, get_or, Result, Ok, Err}
+use Rattle.std.specs.Prelude.{◌≢◌, Contains, is_ok, nat_lt}
 use Rattle.std.specs.Ordering.{nat_cmp}
 use Rattle.std.specs.List.Sorted.{IsBinarySearchResult, IsNonDecreasing}
 use Rattle.std.proofs.lemmas.List.Sorted.{searched}
-use Rattle.std.proofs.lemmas.Bool.{eq-eqb, ltb-true, ltb-false, ne_eqb}
+use Rattle.std.proofs.lemmas.Bool.{eq-eqb, eqb-true, or_cases, or_left, or_right, ltb-true, ltb-false, ne_eqb}
+use Rattle.mob_list.proofs.Entries.{first_in, later_in, none_in, which_in}
 use Rattle.mob_live.specs.Rows.{is_among}
 
 pub at_among : (xs : List ℕ) (x i : ℕ) → i < length xs → get_or xs i 0 ≡ x → is_among x xs ≡ true
@@ -36,3 +37,21 @@ found_among xs x (Err i) h rise =
     apart : ((k : ℕ) → k < i → get_or xs k 0 < x) → ((k : ℕ) → i ≤ k → k < length xs → x < get_or xs k 0) → (k : ℕ) → k < length xs → get_or xs k 0 ≡ x → (k < i) ⊎ (i ≤ k) → ⊥
     apart below above k lt e (inl l) = let b = below k l in omega (arith, b, e)
     apart below above k lt e (inr l) = let b = above k l lt in omega (arith, b, e)
+
+-- the test is true exactly of the numbers in the list
+pub among-Contains : (n : ℕ) (ns : List ℕ) → (is_among n ns ≡ true) ↔ Contains ns n
+among-Contains n ns = (is_there ns, is_among_them ns)
+  where
+    is_there : (ns : List ℕ) → is_among n ns ≡ true → Contains ns n
+    is_there [] h = absurd (true≢false (sym h))
+    is_there (m ∷ ms) h = elim (or_cases (m == n) (is_among n ms) h) [
+      | inl e ↦ subst (Contains (m ∷ ms)) (eqb-true m n e) (first_in m ms)
+      | inr k ↦ later_in m ms n (is_there ms k)
+    ]
+
+    is_among_them : (ns : List ℕ) → Contains ns n → is_among n ns ≡ true
+    is_among_them [] h = absurd (none_in n h)
+    is_among_them (m ∷ ms) h = elim (which_in m ms n h) [
+      | inl e ↦ or_left (m == n) (is_among n ms) (eq-eqb m n e)
+      | inr k ↦ or_right (m == n) (is_among n ms) (is_among_them ms k)
+    ]

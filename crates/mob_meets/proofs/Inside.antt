@@ -9,8 +9,8 @@ use Rattle.mob_ratio.specs.Order.{before, up_to}
 use Rattle.mob_ratio.specs.Sign.{nil}
 use Rattle.mob_ratio.proofs.IntRing.{linear}
 use Rattle.mob_ratio.proofs.Clear.{clear1, clear6, cleared}
-use Rattle.mob_ratio.proofs.Field.{cases_lt, le_lt, lt_le}
-use Rattle.mob_ratio.proofs.Order.{lt-before, before-lt, up_to-le, before-back}
+use Rattle.mob_ratio.proofs.Field.{cases_lt, le_lt, lt_le, neg_lt}
+use Rattle.mob_ratio.proofs.Order.{lt-before, before-lt, up_to-le, before-back, before-from}
 use Rattle.mob_quadratic.proofs.Convex.{mul_lt, mul_le, sub_lt, sub_le, add_lt_le}
 use Rattle.mob_plane.specs.Corners.{all_points}
 use Rattle.mob_plane.specs.EdgeWise.{signs_at, signs_to, is_on, crosses, some_on, odd_cross}
@@ -19,7 +19,7 @@ use Rattle.mob_plane.specs.Points.{same_point, same_point_exact}
 use Rattle.mob_plane.specs.Rings.{edges, all_edges, are_one, is_open_ring, has_open}
 use Rattle.mob_plane.specs.Turns.{turn}
 use Rattle.mob_plane.specs.declared.point.Point.{Point}
-use Rattle.mob_plane.proofs.BySigns.{falls, on_is, right_is, inside_signs}
+use Rattle.mob_plane.proofs.BySigns.{on_is, right_is, inside_signs}
 use Rattle.mob_plane.proofs.Crossings.{rising_crossing, falling_crossing}
 use Rattle.mob_stbox.specs.Areas.{InArea}
 use Rattle.mob_stbox.specs.declared.area.Area.{Area}
@@ -43,9 +43,6 @@ lt_of = clear1 _ (λ D x p h. let h' = simp cleared at h in simp cleared (omega 
 neg_lt : (a : Ratio) → nil <ℚ a → neg_ℚ a <ℚ nil
 neg_lt = clear1 _ (λ D x p h. let h' = simp cleared at h in simp cleared (omega (arith, linear)))
 
-lt_neg : (a : Ratio) → a <ℚ nil → nil <ℚ neg_ℚ a
-lt_neg = clear1 _ (λ D x p h. let h' = simp cleared at h in simp cleared (omega (arith, linear)))
-
 -- a is above p
 abbrev above : Point → Point → Bool
 above p a = before p.y a.y
@@ -65,7 +62,7 @@ falls_left p a b ua ub la lb =
     lt-before _ _ (subst (λ z. nil <ℚ z) (sym (turn_right a.x a.y b.x b.y p.x p.y)) (add_lt_le _ _ bc ea))
 
 turned_up : (p a b : Point) → before (turn b a p) nil ≡ true → before nil (turn a b p) ≡ true
-turned_up p a b h = lt-before _ _ (subst (λ z. nil <ℚ z) (sym (turn_back a.x a.y b.x b.y p.x p.y)) (lt_neg _ (before-lt _ _ h)))
+turned_up p a b h = lt-before _ _ (subst (λ z. nil <ℚ z) (sym (turn_back a.x a.y b.x b.y p.x p.y)) (neg_lt _ (before-lt _ _ h)))
 
 turned_down : (p a b : Point) → before nil (turn b a p) ≡ true → before (turn a b p) nil ≡ true
 turned_down p a b h = lt-before _ _ (subst (λ z. z <ℚ nil) (sym (turn_back a.x a.y b.x b.y p.x p.y)) (neg_lt _ (before-lt _ _ h)))
@@ -86,15 +83,15 @@ never_far false false far h k = refl
 cross_right : (p a b : Point) → before p.x a.x ≡ true → before p.x b.x ≡ true → passes_right p (a, b) ≡ is_one_alone (above p a) (above p b)
 cross_right p a b la lb =
     by_height (above p a) (above p b) (before p.x (crossing_at (a, b) p.y))
-    (λ ua ub. falling_crossing a b p (falls p.y a.y b.y ua ub) ∙ falls_right p a b ua ub la lb)
-    (λ ub ua. rising_crossing a b p (falls p.y b.y a.y ub ua) ∙ turned_up p a b (falls_right p b a ub ua lb la))
+    (λ ua ub. falling_crossing a b p (before-from b.y p.y a.y ub ua) ∙ falls_right p a b ua ub la lb)
+    (λ ub ua. rising_crossing a b p (before-from a.y p.y b.y ua ub) ∙ turned_up p a b (falls_right p b a ub ua lb la))
 
 -- an edge to the left of it never does
 cross_left : (p a b : Point) → before a.x p.x ≡ true → before b.x p.x ≡ true → passes_right p (a, b) ≡ false
 cross_left p a b la lb =
     never_far (above p a) (above p b) (before p.x (crossing_at (a, b) p.y))
-    (λ ua ub. falling_crossing a b p (falls p.y a.y b.y ua ub) ∙ before-back _ _ (falls_left p a b ua ub la lb))
-    (λ ub ua. rising_crossing a b p (falls p.y b.y a.y ub ua) ∙ before-back _ _ (turned_down p a b (falls_left p b a ub ua lb la)))
+    (λ ua ub. falling_crossing a b p (before-from b.y p.y a.y ub ua) ∙ before-back _ _ (falls_left p a b ua ub la lb))
+    (λ ub ua. rising_crossing a b p (before-from a.y p.y b.y ua ub) ∙ before-back _ _ (turned_down p a b (falls_left p b a ub ua lb la)))
 
 alone_same : (a b far : Bool) → a ≡ b → (is_one_alone a b && far) ≡ false
 alone_same true true far e = refl

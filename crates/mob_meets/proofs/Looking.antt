@@ -5,7 +5,7 @@ use Rattle.std.proofs.lemmas.List.Elements.{All-contains}
 use Rattle.mob_ratio.specs.Ratio.{Ratio}
 use Rattle.mob_ratio.specs.Order.{up_to}
 use Rattle.mob_ratio.proofs.Field.{le_trans}
-use Rattle.mob_ratio.proofs.Order.{before-neither, not-up_to-le}
+use Rattle.mob_ratio.proofs.Order.{before-neither, not-up_to-le, smaller_left, greater_right, up_to-both}
 use Rattle.mob_span.specs.Span.{SpanOf, InSpan}
 use Rattle.mob_plane.specs.Corners.{all_points, AreCorners, IsLeastAmong, IsGreatestAmong}
 use Rattle.mob_plane.specs.Membership.{inside}
@@ -14,7 +14,6 @@ use Rattle.mob_plane.specs.Rings.{has_open}
 use Rattle.mob_plane.specs.declared.point.Point.{Point as PointOf}
 use Rattle.mob_stbox.specs.Areas.{InArea, area_between}
 use Rattle.mob_stbox.specs.Boxes.{BoxOf, BoxesMeet, both_have}
-use Rattle.mob_plane.proofs.Widening.{smaller_left, greater_right}
 use Rattle.mob_value.specs.declared.value.Value.{Value}
 use Rattle.mob_value.specs.declared.value.Value.TheVariants.{Point, Polygon}
 use Rattle.mob_value.proofs.ValueBoxes.{one_own_box}
@@ -57,14 +56,11 @@ least_up c ps x y h k = subst (λ z. up_to y z ≡ true) h.some.4 (All-contains 
 greatest_up : (c : PointOf → Ratio) (ps : List PointOf) (x y : Ratio) → IsGreatestAmong c ps x → IsGreatestAmong c ps y → up_to x y ≡ true
 greatest_up c ps x y h k = subst (λ z. up_to z y ≡ true) h.some.4 (All-contains (λ p. up_to (c p) y ≡ true) ps h.some.1 k.none_greater (h.some.0, h.some.2, h.some.3))
 
-one_number : (x y : Ratio) → up_to x y ≡ true → up_to y x ≡ true → x ≡ y
-one_number x y h k = before-neither x y (grind (arith, k)) (grind (arith, h))
-
 one_least : (c : PointOf → Ratio) (ps : List PointOf) (x y : Ratio) → IsLeastAmong c ps x → IsLeastAmong c ps y → x ≡ y
-one_least c ps x y h k = one_number x y (least_up c ps y x k h) (least_up c ps x y h k)
+one_least c ps x y h k = up_to-both x y (least_up c ps y x k h) (least_up c ps x y h k)
 
 one_greatest : (c : PointOf → Ratio) (ps : List PointOf) (x y : Ratio) → IsGreatestAmong c ps x → IsGreatestAmong c ps y → x ≡ y
-one_greatest c ps x y h k = one_number x y (greatest_up c ps x y h k) (greatest_up c ps y x k h)
+one_greatest c ps x y h k = up_to-both x y (greatest_up c ps x y h k) (greatest_up c ps y x k h)
 
 corner_box : (ps : List PointOf) (l g m h : PointOf) → AreCorners ps l g → AreCorners ps m h → box_between l g ≡ box_between m h
 corner_box ps l g m h a b =

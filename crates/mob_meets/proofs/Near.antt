@@ -7,7 +7,7 @@ use Rattle.mob_ratio.specs.Order.{up_to}
 use Rattle.mob_ratio.specs.Sign.{nil}
 use Rattle.mob_ratio.proofs.IntRing.{linear}
 use Rattle.mob_ratio.proofs.Clear.{clear2, clear4, cleared}
-use Rattle.mob_ratio.proofs.Field.{le_trans, le_of_lt, le_of_eq, cases_lt, not_both, lt_mul_pos, add_comm, mul_comm, le_lt}
+use Rattle.mob_ratio.proofs.Field.{le_trans, le_of_lt, le_of_eq, cases_lt, not_both, lt_mul_pos, add_comm, mul_comm, le_lt, square-turned}
 use Rattle.mob_ratio.proofs.Order.{not-up_to-le}
 use Rattle.mob_quadratic.proofs.Convex.{le_mul_pos, square_le}
 use Rattle.mob_span.specs.Span.{SpanOf, InSpan}
@@ -37,9 +37,6 @@ root_le u d h k = elim (cases_lt d u) [
   | inr r ↦ r
 ]
 
-other_way : (p q : Ratio) → (q -ℚ p) *ℚ (q -ℚ p) ≡ (p -ℚ q) *ℚ (p -ℚ q)
-other_way = clear2 _ (λ D x y p. simp cleared (omega (arith, linear)))
-
 -- on one coordinate: p at or past the side l, and q at most d before p
 not_before_side : (l p q d : Ratio) → l ≤ℚ p → (p -ℚ q) ≤ℚ d → (l -ℚ d) ≤ℚ q
 not_before_side = clear4 _ (λ D l p q d z a b. let a' = simp cleared at a in let b' = simp cleared at b in simp cleared (omega (arith, linear)))
@@ -59,7 +56,7 @@ close p q d o h k sum =
     let square : (u *ℚ u) ≤ℚ (d *ℚ d) = le_trans (u *ℚ u) (u *ℚ u +ℚ o) (d *ℚ d) (part_le (u *ℚ u) o k) sum in
     record {
       forward = root_le u d h square;
-      back = root_le (q -ℚ p) d h (le_trans _ (u *ℚ u) (d *ℚ d) (le_of_eq _ _ (other_way p q)) square);
+      back = root_le (q -ℚ p) d h (le_trans _ (u *ℚ u) (d *ℚ d) (le_of_eq _ _ (square-turned p q)) square);
     }
 
 pub near_second : (a : Area) (p q : Point) (d : Ratio) → are_within d p q ≡ true → InArea a p → InArea (moved_area a d) q
@@ -80,7 +77,7 @@ near_second a p q d h i =
 
 -- a distance is the same both ways
 within_back : (d : Ratio) (p q : Point) → are_within d p q ≡ true → are_within d q p ≡ true
-within_back d p q h = subst (λ z. (up_to nil d && up_to z (d *ℚ d)) ≡ true) (sym (ap (λ x. x +ℚ (q.y -ℚ p.y) *ℚ (q.y -ℚ p.y)) (other_way p.x q.x) ∙ ap (λ y. (p.x -ℚ q.x) *ℚ (p.x -ℚ q.x) +ℚ y) (other_way p.y q.y))) h
+within_back d p q h = subst (λ z. (up_to nil d && up_to z (d *ℚ d)) ≡ true) (sym (ap (λ x. x +ℚ (q.y -ℚ p.y) *ℚ (q.y -ℚ p.y)) (square-turned p.x q.x) ∙ ap (λ y. (p.x -ℚ q.x) *ℚ (p.x -ℚ q.x) +ℚ y) (square-turned p.y q.y))) h
 
 pub near_first : (a : Area) (p q : Point) (d : Ratio) → are_within d p q ≡ true → InArea a q → InArea (moved_area a d) p
 near_first a p q d h i = near_second a q p d (within_back d p q h) i

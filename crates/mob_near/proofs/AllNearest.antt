@@ -3,13 +3,12 @@ use Rattle.std.specs.Prelude.{◌≡◌, ◌⊎◌, ◌||◌, Bool, true, false,
 use Rattle.std.specs.List.{AllByRecursion}
 use Rattle.std.proofs.Common.{arith, ap, sym, ◌∙◌, subst, inl, inr}
 use Rattle.mob_ratio.specs.Ratio.{Ratio}
-use Rattle.mob_ratio.specs.Order.{before, up_to}
+use Rattle.mob_ratio.specs.Order.{before, up_to, smaller}
 use Rattle.mob_ratio.proofs.Order.{before-self, before-trans, not-up_to-le, le-up_to}
 use Rattle.mob_ratio.proofs.Field.{le_trans}
 use Rattle.mob_plane.specs.declared.point.Point.{Point}
 use Rattle.mob_span.specs.Pieces.{PiecesAreClear, piece_at}
 use Rattle.mob_span.proofs.SpanLemmas.{some_instant}
-use Rattle.mob_plane.specs.Corners.{smaller}
 use Rattle.mob_slice.specs.Sides.{OperandOf, side_at, pieces, given_at, has_slices}
 use Rattle.mob_slice.specs.Lines.{plane_value_of}
 use Rattle.mob_slice.specs.declared.line.PlaneLine.{PlaneLine}

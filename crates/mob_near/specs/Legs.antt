@@ -2,7 +2,7 @@
 -- y1), and the consequences for its length.
 use Rattle.std.specs.Prelude.{Bool, true, false, cond, ◌&&◌, List, [], ◌∷◌, ◌++◌, Option, Some, None}
 use Rattle.mob_ratio.specs.Ratio.{Ratio, ◌+ℚ◌, ◌-ℚ◌, ◌*ℚ◌, ◌/ℚ◌}
-use Rattle.mob_ratio.specs.Order.{before, up_to, same}
+use Rattle.mob_ratio.specs.Order.{before, up_to, same, smaller}
 use Rattle.mob_ratio.specs.Sign.{nil}
 use Rattle.mob_frac.specs.Formula.{square_parts}
 use Rattle.mob_plane.specs.declared.point.Point.{Point}
@@ -13,7 +13,6 @@ use Rattle.mob_slice.specs.Lines.{plane_value_of}
 use Rattle.mob_slice.specs.Sides.{SideOf, side_at}
 use Rattle.mob_slice.specs.declared.line.PlaneLine.{PlaneLine}
 use Rattle.mob_quadratic.specs.Quadratic.{reaches_by, infimum_by, square_is_within}
-use Rattle.mob_plane.specs.Corners.{smaller}
 use Rattle.mob_near.specs.Distances.{length_squared}
 use Rattle.mob_near.specs.Entries.{PointPiece, gap_x, gap_y}
 use Rattle.mob_near.specs.declared.leg.Leg.{Leg}

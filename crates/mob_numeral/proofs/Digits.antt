@@ -6,6 +6,7 @@ use Rattle.std.specs.Str.Parse.{digits_value, AllDigits}
 use Rattle.std.proofs.lemmas.Str.{digit_value_digit}
 use Rattle.std.proofs.lemmas.Int.Digits.{digits_value-lt, digits_value_more}
 use Rattle.std.proofs.Math.Nat.{pow-le-pow_right}
+use Rattle.mob_list.proofs.Entries.{take_short}
 use Rattle.mob_language.specs.Language.{is_digit}
 use Rattle.mob_numeral.specs.Figures.{AreFigures}
 
@@ -31,11 +32,6 @@ pub figure_at : (ds : List ℕ) (i : ℕ) → AreFigures ds → i < length ds �
 figure_at [] i h lt = absurd (omega arith)
 figure_at (c ∷ cs) zero h lt = h.0
 figure_at (c ∷ cs) (suc i) h lt = figure_at cs i h.1 (omega arith)
-
-take_short : (i : ℕ) (ds : List ℕ) → length (take i ds) ≤ i
-take_short zero ds = omega arith
-take_short (suc i) [] = omega arith
-take_short (suc i) (c ∷ cs) = let h = take_short i cs in omega (arith, h)
 
 pub front_lt : (ds : List ℕ) (i k : ℕ) → AreFigures ds → i ≤ k → digits_value 10 (take i ds) < 10 ^ k
 front_lt ds i k h le =

@@ -5,6 +5,7 @@ use Rattle.std.specs.List.{list_any}
 use Rattle.std.specs.Char.{digit_value}
 use Rattle.std.specs.Str.Parse.{digits_value, digits_value_after}
 use Rattle.std.proofs.lemmas.List.Sums.{take_while-cons}
+use Rattle.std.proofs.lemmas.Bool.{or_cases, or_right, both_ways}
 use Rattle.mob_ratio.specs.Ratio.{Ratio, over}
 use Rattle.mob_ratio.proofs.Clear.{eq_zero, one_positive}
 use Rattle.mob_ratio.proofs.IntRing.{linear, products}
@@ -29,14 +30,6 @@ use Rattle.mob_numeral.proofs.Powers.{ten_pos}
 abbrev pub goes_on : ℕ → Bool
 goes_on c = not (is_exponent_letter c || nat_eq c 47)
 
-either : (a b : Bool) → (a || b) ≡ true → (a ≡ true) ⊎ (b ≡ true)
-either true b e = inl refl
-either false b e = inr e
-
-or_right : (a b : Bool) → b ≡ true → (a || b) ≡ true
-or_right true b e = refl
-or_right false b e = e
-
 -- the effect of the first byte
 figure_first : (c : ℕ) (cs : Text) → has_figure (c ∷ cs) ≡ cond (goes_on c) (is_figure c || has_figure cs) false
 figure_first c cs = ap (list_any is_figure) (take_while-cons goes_on c cs) ∙ picked (goes_on c)
@@ -51,14 +44,11 @@ figure_on c cs e = figure_first c cs ∙ ap (λ (b : Bool). cond b (is_figure c 
 figure_stops : (c : ℕ) (cs : Text) → goes_on c ≡ false → has_figure (c ∷ cs) ≡ false
 figure_stops c cs e = figure_first c cs ∙ ap (λ (b : Bool). cond b (is_figure c || has_figure cs) false) e
 
-not_both : (b : Bool) → b ≡ true → b ≡ false → ⊥
-not_both b e f = cc
-
 -- bytes that do not end the search: the figure is among them or after them
 pub figure_within : (p : ℕ → Bool) → ((c : ℕ) → p c ≡ true → goes_on c ≡ true) → (front rest : Text) → AreAll p front → has_figure (front ++ rest) ≡ true
     → (list_any is_figure front ≡ true) ⊎ (has_figure rest ≡ true)
 figure_within p on [] rest each h = inr h
-figure_within p on (c ∷ cs) rest each h = elim (either (is_figure c) (has_figure (cs ++ rest)) (sym (figure_on c (cs ++ rest) (on c each.0)) ∙ h)) [
+figure_within p on (c ∷ cs) rest each h = elim (or_cases (is_figure c) (has_figure (cs ++ rest)) (sym (figure_on c (cs ++ rest) (on c each.0)) ∙ h)) [
   | inl e ↦ inl (ap (λ (b : Bool). b || list_any is_figure cs) e)
   | inr e ↦ elim (figure_within p on cs rest each.1 e) [
     | inl f ↦ inl (or_right (is_figure c) (list_any is_figure cs) f)
@@ -74,20 +64,20 @@ no_figure_in p less (c ∷ cs) each = ap (λ (b : Bool). b || list_any is_figure
 pub figure_behind : (p : ℕ → Bool) → ((c : ℕ) → p c ≡ true → goes_on c ≡ true) → ((c : ℕ) → p c ≡ true → is_figure c ≡ false)
     → (front rest : Text) → AreAll p front → has_figure (front ++ rest) ≡ true → has_figure rest ≡ true
 figure_behind p on less front rest each h = elim (figure_within p on front rest each h) [
-  | inl e ↦ absurd (not_both (list_any is_figure front) e (no_figure_in p less front each))
+  | inl e ↦ absurd (both_ways (list_any is_figure front) (no_figure_in p less front each) e)
   | inr e ↦ e
 ]
 
 -- the rest has no figure: the figure is before it
 pub figure_before : (front rest : Text) → has_figure rest ≡ false → has_figure (front ++ rest) ≡ true → has_figure front ≡ true
-figure_before [] rest none h = absurd (not_both (has_figure rest) h none)
+figure_before [] rest none h = absurd (both_ways (has_figure rest) none h)
 figure_before (c ∷ cs) rest none h = kept (goes_on c) (is_figure c) (has_figure cs) (sym (figure_first c (cs ++ rest)) ∙ h) (figure_before cs rest none) (figure_first c cs)
   where
     kept : (on is some : Bool) → cond on (is || has_figure (cs ++ rest)) false ≡ true → (has_figure (cs ++ rest) ≡ true → some ≡ true)
         → has_figure (c ∷ cs) ≡ cond on (is || some) false → has_figure (c ∷ cs) ≡ true
     kept true true some k inner e = e
     kept true false some k inner e = e ∙ inner k
-    kept false is some k inner e = absurd (not_both false k refl)
+    kept false is some k inner e = absurd (both_ways false refl k)
 
 blank_on : (c : ℕ) → is_blank c ≡ true → goes_on c ≡ true
 blank_on c e = search rules
@@ -122,7 +112,7 @@ value_grows n (c ∷ cs) h = value_grows (n * 10 + digit_value c) cs (omega (ari
 
 value_after : (n : ℕ) (ds : Text) → AreFigures ds → list_any is_figure ds ≡ true → 0 < digits_value_after 10 n ds
 value_after n [] each h = absurd cc
-value_after n (c ∷ cs) each h = elim (either (is_figure c) (list_any is_figure cs) h) [
+value_after n (c ∷ cs) each h = elim (or_cases (is_figure c) (list_any is_figure cs) h) [
   | inl e ↦ value_grows (n * 10 + digit_value c) cs (let a = figure_least c e in let b = digit_is c each.0 in omega (arith, a, b))
   | inr e ↦ value_after (n * 10 + digit_value c) cs each.1 e
 ]
@@ -151,9 +141,9 @@ sign_figure text rest b s h = of_sign s.meant s.said
 
 -- an optional exponent has no figure before its letter
 exponent_less : (text : Text) (o : Option Exponent) → Maybe exponent text o → has_figure text ≡ true → ⊥
-exponent_less text None e h = not_both (has_figure text) h (ap has_figure e)
-exponent_less text (Some x) k h = not_both (has_figure text) h
-    (ap has_figure (k.said.whole ∙ ap (λ (t : Text). t ++ k.said.back) k.said.first.0) ∙ figure_stops k.meant.0 k.said.back (e_stops k.meant.0 k.said.first.1))
+exponent_less text None e h = both_ways (has_figure text) (ap has_figure e) h
+exponent_less text (Some x) k h = both_ways (has_figure text)
+    (ap has_figure (k.said.whole ∙ ap (λ (t : Text). t ++ k.said.back) k.said.first.0) ∙ figure_stops k.meant.0 k.said.back (e_stops k.meant.0 k.said.first.1)) h
 
 abbrev HasPart : Tail → Type 0
 HasPart (Over denominator) = ⊥
@@ -171,8 +161,8 @@ part_figure front back (Some f) x said raised h =
 
 tail_figure : (text : Text) (t : Tail) → tail text t → has_figure text ≡ true → HasPart t
 tail_figure text t said h = elim said [
-  | inl o ↦ absurd (not_both (has_figure text) h
-      (ap has_figure (o.said.said.whole ∙ ap (λ (x : Text). x ++ o.said.said.back) o.said.said.first) ∙ figure_stops 47 o.said.said.back refl))
+  | inl o ↦ absurd (both_ways (has_figure text)
+      (ap has_figure (o.said.said.whole ∙ ap (λ (x : Text). x ++ o.said.said.back) o.said.said.first) ∙ figure_stops 47 o.said.said.back refl) h)
   | inr d ↦ subst HasPart (sym d.is)
       (part_figure d.said.front d.said.back d.meant.0 d.meant.1 d.said.first d.said.second (subst (λ (x : Text). has_figure x ≡ true) d.said.whole h))
 ]

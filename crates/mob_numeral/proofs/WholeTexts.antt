@@ -32,7 +32,7 @@ pub number_head : (test : ℕ → Bool) → Apart is_number_sign test → Apart 
 number_head test s d p q e = where_head (means_head (then_head (means_head (maybe_head (one_head s)))
     (then_head (means_head (where_head (many_head d))) (tail_head test p q e))))
 
-sign_blank : Apart is_number_sign is_blank
+pub sign_blank : Apart is_number_sign is_blank
 sign_blank c e = search rules
 
 digit_blank : Apart is_digit is_blank

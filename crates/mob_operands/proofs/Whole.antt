@@ -3,6 +3,7 @@
 use Rattle.std.proofs.Common.{◌≡◌, ◌∙◌, ℕ, ℤ, ◌+ℤ◌, ◌*ℤ◌, neg_ℤ, nat_abs, Bool, true, false, [], ◌∷◌, Option, Some, None, refl, sym, ap, subst, arith}
 use Rattle.std.specs.Prelude.{nat_eq, cond}
 use Rattle.std.proofs.lemmas.Bool.{eqb-true}
+use Rattle.std.proofs.lemmas.Option.{same_Some}
 use Rattle.mob_ratio.specs.GcdLaws.{gcd_one_right}
 use Rattle.mob_ratio.specs.LowestLaws.{lowest_in}
 use Rattle.mob_ratio.specs.Order.{same}
@@ -16,7 +17,7 @@ use Rattle.mob_span.proofs.SpanLemmas.{some_instant}
 use Rattle.mob_slice.specs.CourseOf.{steady_course}
 use Rattle.mob_slice.specs.Operands.{steady_value, steady_limit, map_both}
 use Rattle.mob_slice.specs.Slices.{IsSound, IsOrdered}
-use Rattle.mob_slice.proofs.LookUps.{some_same, found_value}
+use Rattle.mob_slice.proofs.LookUps.{found_value}
 use Rattle.mob_slice.proofs.OneAt.{one_slice_at}
 use Rattle.mob_slice.proofs.Orders.{ordered, all_sound}
 use Rattle.mob_written.specs.Values.{is_whole_number}
@@ -72,11 +73,11 @@ ints_there [] h t x e = absurd (cc e)
 ints_there (s ∷ m) h t x e = by (has s.span t) e (ints_there m h.1 t x)
   where
     by : (b : Bool) → cond b (Some s.course.value) (step_function m t) ≡ Some x → (step_function m t ≡ Some x → IsInt x) → IsInt x
-    by true e rest = subst IsInt (some_same s.course.value x e) h.0
+    by true e rest = subst IsInt (same_Some s.course.value x e) h.0
     by false e rest = rest e
 
 pub ints_of_one : (n : Ratio) → IsInt n → HasInts (λ t. Some n)
-ints_of_one n h t x e = subst IsInt (some_same n x e) h
+ints_of_one n h t x e = subst IsInt (same_Some n x e) h
 
 -- ordered slices with whole numbers at all instants are those of a tint, since each slice has an
 -- instant
@@ -92,4 +93,4 @@ tint_of m n h = record { form = refl; whole = ints_of m (ordered steady_limit st
 pub int_both : (by : Calculation) (x y : Option Ratio) → ((a : Ratio) → x ≡ Some a → IsInt a) → ((b : Ratio) → y ≡ Some b → IsInt b) → (n : Ratio) → map_both (result_by by) x y ≡ Some n → IsInt n
 int_both by None y h k n e = absurd (cc e)
 int_both by (Some a) None h k n e = absurd (cc e)
-int_both by (Some a) (Some b) h k n e = subst IsInt (some_same (result_by by a b) n e) (int_by by a b (h a refl) (k b refl))
+int_both by (Some a) (Some b) h k n e = subst IsInt (same_Some (result_by by a b) n e) (int_by by a b (h a refl) (k b refl))

@@ -9,8 +9,8 @@ use Rattle.std.specs.Ordering.{is_eq, is_lt, is_gt}
 use Rattle.mob_ratio.specs.Ratio.{Ratio, ◌-ℚ◌}
 use Rattle.mob_ratio.specs.Order.{before, same}
 use Rattle.mob_ratio.specs.Sign.{sign_of, nil}
-use Rattle.mob_ratio.proofs.Order.{before-back, before-trans, before-neither}
-use Rattle.mob_ratio.proofs.Signs.{sign-diff}
+use Rattle.mob_ratio.proofs.Order.{before-back, before-trans, before-neither, before-from}
+use Rattle.mob_ratio.proofs.Signs.{sign-diff, lt_sign, gt_sign, eq_sign, lt_diff, gt_diff}
 use Rattle.mob_plane.specs.Turns.{turn}
 use Rattle.mob_plane.specs.Rings.{all_edges}
 use Rattle.mob_plane.specs.Membership.{lies_between, lies_on, is_one_alone, passes_height, crossing_at, passes_right, is_odd, inside}
@@ -21,40 +21,6 @@ use Rattle.mob_plane.specs.declared.point.Point.{Point}
 
 -- ---- the meaning of a sign
 
-pub lt_cond : (a b : Bool) → is_lt (cond a Less (cond b Greater Equal)) ≡ a
-lt_cond true b = refl
-lt_cond false true = refl
-lt_cond false false = refl
-
-pub gt_cond : (a b : Bool) → (a ≡ true → b ≡ false) → is_gt (cond a Less (cond b Greater Equal)) ≡ b
-gt_cond true true h = absurd (let e = h refl in cc)
-gt_cond true false h = refl
-gt_cond false true h = refl
-gt_cond false false h = refl
-
-eq_cond : (a b : Bool) → is_eq (cond a Less (cond b Greater Equal)) ≡ (not a && not b)
-eq_cond true b = refl
-eq_cond false true = refl
-eq_cond false false = refl
-
-lt_of : (q : Ratio) → is_lt (sign_of q) ≡ before q nil
-unfolding sign_of
-lt_of q = lt_cond (before q nil) (before nil q)
-
-gt_of : (q : Ratio) → is_gt (sign_of q) ≡ before nil q
-unfolding sign_of
-gt_of q = gt_cond (before q nil) (before nil q) (before-back q nil)
-
-eq_of : (q : Ratio) → is_eq (sign_of q) ≡ same q nil
-unfolding sign_of same
-eq_of q = eq_cond (before q nil) (before nil q)
-
-lt_diff : (x y : Ratio) → is_lt (sign_of (x -ℚ y)) ≡ before x y
-lt_diff x y = ap is_lt (sym (sign-diff x y)) ∙ lt_cond (before x y) (before y x)
-
-gt_diff : (x y : Ratio) → is_gt (sign_of (x -ℚ y)) ≡ before y x
-gt_diff x y = ap is_gt (sym (sign-diff x y)) ∙ gt_cond (before x y) (before y x) (before-back x y)
-
 -- ---- a point on an edge
 
 between_cases : (a a' b b' : Bool) → (a ≡ true → a' ≡ false) → (b ≡ true → b' ≡ false) → ((not a && not b') || (not b && not a')) ≡ (not (a && b) && not (a' && b'))
@@ -64,12 +30,9 @@ between_is : (x y q : Ratio) → lies_between x y q ≡ is_between (sign_of (q -
 between_is x y q = between_cases (before q x) (before x q) (before q y) (before y q) (before-back q x) (before-back q y) ∙ rw (lt_diff q x, lt_diff q y, gt_diff q x, gt_diff q y) refl
 
 pub on_is : (a b p : Point) → lies_on p (a, b) ≡ is_on (signs_at p a b)
-on_is a b p = rw (eq_of (turn a b p), ← between_is a.x b.x p.x, ← between_is a.y b.y p.y) refl
+on_is a b p = rw (eq_sign (turn a b p), ← between_is a.x b.x p.x, ← between_is a.y b.y p.y) refl
 
 -- ---- an edge to the right
-
-pub falls : (p a b : Ratio) → before p a ≡ true → before p b ≡ false → before b a ≡ true
-falls p a b h k = grind (arith, h, k, before-trans b p a, before-neither b p)
 
 or_false : (a : Bool) → (a || false) ≡ a
 or_false true = refl
@@ -84,9 +47,9 @@ crosses_cases false false left right far f g = refl
 pub right_is : (a b p : Point) → passes_right p (a, b) ≡ crosses (signs_at p a b)
 right_is a b p =
     crosses_cases (before p.y a.y) (before p.y b.y) (before nil (turn a b p)) (before (turn a b p) nil) (before p.x (crossing_at (a, b) p.y))
-    (λ h k. falling_crossing a b p (falls p.y a.y b.y h k))
-    (λ h k. rising_crossing a b p (falls p.y b.y a.y h k))
-    ∙ rw (lt_diff p.y a.y, lt_diff p.y b.y, lt_of (turn a b p), gt_of (turn a b p)) refl
+    (λ h k. falling_crossing a b p (before-from b.y p.y a.y k h))
+    (λ h k. rising_crossing a b p (before-from a.y p.y b.y k h))
+    ∙ rw (lt_diff p.y a.y, lt_diff p.y b.y, lt_sign (turn a b p), gt_sign (turn a b p)) refl
 
 rises_by : (ya yb : Bool) (up o : Ordering) (far : Bool) → is_one_alone ya yb ≡ true → (ya ≡ true → yb ≡ false → (up ≡ Less) × (far ≡ is_lt o)) → (yb ≡ true → ya ≡ false → (up ≡ Greater) × (far ≡ is_gt o)) → far ≡ same_order up o
 rises_by true true up o far e f g = absurd cc
@@ -97,8 +60,8 @@ rises_by false false up o far e f g = absurd cc
 pub right_turn : (a b p : Point) → passes_height p (a, b) ≡ true → before p.x (crossing_at (a, b) p.y) ≡ same_order (sign_of (b.y -ℚ a.y)) (sign_of (turn a b p))
 right_turn a b p e =
     rises_by (before p.y a.y) (before p.y b.y) (sign_of (b.y -ℚ a.y)) (sign_of (turn a b p)) (before p.x (crossing_at (a, b) p.y)) e
-    (λ h k. let d = falls p.y a.y b.y h k in (sym (side_below b.y a.y d), falling_crossing a b p d ∙ sym (lt_of (turn a b p))))
-    (λ h k. let d = falls p.y b.y a.y h k in (sym (side_above b.y a.y (before-back a.y b.y d) d), rising_crossing a b p d ∙ sym (gt_of (turn a b p))))
+    (λ h k. let d = before-from b.y p.y a.y k h in (sym (side_below b.y a.y d), falling_crossing a b p d ∙ sym (lt_sign (turn a b p))))
+    (λ h k. let d = before-from a.y p.y b.y k h in (sym (side_above b.y a.y (before-back a.y b.y d) d), rising_crossing a b p d ∙ sym (gt_sign (turn a b p))))
 
 -- ---- all edges
 

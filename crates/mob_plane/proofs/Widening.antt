@@ -2,9 +2,9 @@
 use Rattle.std.specs.Prelude.{◌≡◌, refl, Bool, true, false, cond, ◌⊎◌, zero, suc, List, [], ◌∷◌, Any, All, Contains, fold}
 use Rattle.std.proofs.Common.{arith, sym, ◌∙◌, subst, inl, inr}
 use Rattle.mob_ratio.specs.Ratio.{Ratio}
-use Rattle.mob_ratio.specs.Order.{before, up_to}
-use Rattle.mob_ratio.proofs.Order.{before-self, before-back, before-trans, before-neither}
-use Rattle.mob_plane.specs.Corners.{IsLeastAmong, IsGreatestAmong, AreCorners, smaller, greater, widened}
+use Rattle.mob_ratio.specs.Order.{before, up_to, smaller, greater}
+use Rattle.mob_ratio.proofs.Order.{up_to-self, up_to-trans, smaller_left, smaller_right, greater_left, greater_right}
+use Rattle.mob_plane.specs.Corners.{IsLeastAmong, IsGreatestAmong, AreCorners, widened}
 use Rattle.mob_plane.specs.declared.point.Point.{Point}
 use Rattle.mob_plane.specs.declared.rectangle.Corners.{Corners}
 
@@ -55,40 +55,9 @@ module _ (comes : Ratio → Ratio → Bool) (kept : Ratio → Ratio → Ratio) (
 
 -- ---- the smaller and the greater of two
 
-up_to-next : (x y z : Ratio) → up_to x y ≡ true → up_to y z ≡ true → up_to x z ≡ true
-up_to-next x y z h k = grind (arith, h, k, before-trans z x y, before-neither x y)
-
-pub smaller_left : (x y : Ratio) → up_to (smaller x y) x ≡ true
-smaller_left x y = by (before y x) refl
-  where
-    by : (b : Bool) → before y x ≡ b → up_to (smaller x y) x ≡ true
-    by true h = rw (h, before-back y x h) refl
-    by false h = rw (h, before-self x) refl
-
-pub smaller_right : (x y : Ratio) → up_to (smaller x y) y ≡ true
-smaller_right x y = by (before y x) refl
-  where
-    by : (b : Bool) → before y x ≡ b → up_to (smaller x y) y ≡ true
-    by true h = rw (h, before-self y) refl
-    by false h = rw (h, h) refl
-
 cond_one : (b : Bool) (x y : Ratio) → (cond b y x ≡ x) ⊎ (cond b y x ≡ y)
 cond_one true x y = inr refl
 cond_one false x y = inl refl
-
-pub greater_left : (x y : Ratio) → up_to x (greater x y) ≡ true
-greater_left x y = by (before x y) refl
-  where
-    by : (b : Bool) → before x y ≡ b → up_to x (greater x y) ≡ true
-    by true h = rw (h, before-back x y h) refl
-    by false h = rw (h, before-self x) refl
-
-pub greater_right : (x y : Ratio) → up_to y (greater x y) ≡ true
-greater_right x y = by (before x y) refl
-  where
-    by : (b : Bool) → before x y ≡ b → up_to y (greater x y) ≡ true
-    by true h = rw (h, before-self y) refl
-    by false h = rw (h, h) refl
 
 abbrev least_by : (Point → Ratio) → Ratio → List Point → Ratio
 least_by f x ps = fold (λ x p. smaller x (f p)) x ps
@@ -98,14 +67,14 @@ greatest_by f x ps = fold (λ x p. greater x (f p)) x ps
 
 is_least : (f : Point → Ratio) (s : Point) (ps : List Point) → Contains ps s → IsLeastAmong f ps (least_by f (f s) ps)
 is_least f s ps h = record {
-  some = listed up_to smaller smaller_left smaller_right (λ x y. cond_one (before y x) x y) (λ x. rw (before-self x) refl) up_to-next f s ps h;
-  none_less = before_all up_to smaller smaller_left smaller_right (λ x y. cond_one (before y x) x y) (λ x. rw (before-self x) refl) up_to-next f (f s) ps;
+  some = listed up_to smaller smaller_left smaller_right (λ x y. cond_one (before y x) x y) up_to-self up_to-trans f s ps h;
+  none_less = before_all up_to smaller smaller_left smaller_right (λ x y. cond_one (before y x) x y) up_to-self up_to-trans f (f s) ps;
 }
 
 is_greatest : (f : Point → Ratio) (s : Point) (ps : List Point) → Contains ps s → IsGreatestAmong f ps (greatest_by f (f s) ps)
 is_greatest f s ps h = record {
-  some = listed (λ x y. up_to y x) greater greater_left greater_right (λ x y. cond_one (before x y) x y) (λ x. rw (before-self x) refl) (λ x y z h k. up_to-next z y x k h) f s ps h;
-  none_greater = before_all (λ x y. up_to y x) greater greater_left greater_right (λ x y. cond_one (before x y) x y) (λ x. rw (before-self x) refl) (λ x y z h k. up_to-next z y x k h) f (f s) ps;
+  some = listed (λ x y. up_to y x) greater greater_left greater_right (λ x y. cond_one (before x y) x y) up_to-self (λ x y z h k. up_to-trans z y x k h) f s ps h;
+  none_greater = before_all (λ x y. up_to y x) greater greater_left greater_right (λ x y. cond_one (before x y) x y) up_to-self (λ x y z h k. up_to-trans z y x k h) f (f s) ps;
 }
 
 -- ---- corner by corner

@@ -2,7 +2,7 @@
 use Rattle.std.specs.Prelude.{◌≡◌, true, cond, List, Any, All}
 use Rattle.std.specs.List.{flat_map}
 use Rattle.mob_ratio.specs.Ratio.{Ratio}
-use Rattle.mob_ratio.specs.Order.{before, up_to}
+use Rattle.mob_ratio.specs.Order.{before, up_to, smaller, greater}
 use Rattle.mob_plane.specs.declared.point.Point.{Point}
 use Rattle.mob_plane.specs.declared.rectangle.Corners.{Corners}
 
@@ -26,13 +26,6 @@ pub record AreCorners (points : List Point) (least greatest : Point) : Type 0 wh
   pub least_y : IsLeastAmong (λ p. p.y) points least.y
   pub greatest_x : IsGreatestAmong (λ p. p.x) points greatest.x
   pub greatest_y : IsGreatestAmong (λ p. p.y) points greatest.y
-
--- the smaller and the greater of two numbers
-abbrev pub smaller : Ratio → Ratio → Ratio
-smaller x y = cond (before y x) y x
-
-abbrev pub greater : Ratio → Ratio → Ratio
-greater x y = cond (before x y) y x
 
 -- the corners of the smallest rectangle that contains another one and a point
 abbrev pub widened : Corners → Point → Corners

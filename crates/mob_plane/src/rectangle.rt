@@ -1,6 +1,7 @@
 //! The bounding box of points.
 ghost use Rattle.std.specs.Prelude.{◌≡◌, fold};
-ghost use Rattle.mob_plane.specs.Corners.{all_points, widened, smaller, greater};
+ghost use Rattle.mob_ratio.specs.Order.{smaller, greater};
+ghost use Rattle.mob_plane.specs.Corners.{all_points, widened};
 ghost use Rattle.mob_plane.specs.Rings.{rings_of};
 
 use crate::Point;

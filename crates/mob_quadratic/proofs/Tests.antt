@@ -2,19 +2,16 @@
 use Rattle.std.proofs.Common.{◌≡◌, Bool, true, false, cond, ◌&&◌, ◌||◌, ◌⊎◌, ◌↔◌, inl, inr, pos, [], ◌∷◌, arith, refl, sym, ap, ◌∙◌, subst, true≢false}
 use Rattle.mob_ratio.specs.Ratio.{Ratio, over, ◌+ℚ◌, ◌-ℚ◌, neg_ℚ, ◌*ℚ◌, ◌/ℚ◌, ◌<ℚ◌, ◌≤ℚ◌}
 use Rattle.mob_ratio.specs.Order.{before, up_to}
-use Rattle.mob_ratio.proofs.Order.{before-lt, lt-before, before-self, before-back, before-neither, up_to-le, le-up_to, not-up_to-le}
+use Rattle.mob_ratio.proofs.Order.{before-lt, lt-before, before-self, before-back, before-neither, up_to-le, le-up_to, not-up_to-le, le-test}
 use Rattle.mob_ratio.proofs.IntRing.{linear}
 use Rattle.mob_ratio.proofs.Clear.{clear2, cleared}
-use Rattle.mob_ratio.proofs.Field.{le_by, lt_by, le_trans, le_of_lt, cases_lt, not_both, le_refl, mul_comm, midpoint, lt_of_mul_pos, le_lt}
+use Rattle.mob_ratio.proofs.Field.{le_by, lt_by, le_trans, le_of_lt, cases_lt, not_both, le_refl, mul_comm, midpoint, lt_of_mul_pos, le_lt, neg_lt}
 use Rattle.mob_ratio.proofs.Divide.{div-mul}
 use Rattle.mob_ratio.proofs.Ring.{at, lit, minus, ◌⊕◌, ◌⊗◌, ◌⊖◌}
 use Rattle.mob_ratio.proofs.Rings.{ring_ℚ}
 use Rattle.mob_ratio.specs.Sign.{nil}
 use Rattle.mob_quadratic.specs.Quadratic.{one, quadratic, at_one, in_unit, dips, scaled_least, reaches, IsAtMost, infimum, IsUnderAt, IsInfimum}
 use Rattle.mob_quadratic.proofs.Convex.{above_ne, mul_le, add_le, sub_le, sub_lt, le_of_mul_pos, le_mul_pos, one_above, least, taken, rises, rises_above, back, mirror, mirror_last, convex, quadratic-first, quadratic-at_one, IsBelowInside, below_first, below_last}
-
-le-up_to' : (s t : Ratio) → s ≤ℚ t → up_to s t ≡ true
-le-up_to' s t h = rw (le-up_to s t h) refl
 
 -- ---- inside the interval
 strictly_within : (li ui : Bool) (s : Ratio) → nil <ℚ s → s <ℚ one → in_unit li ui s ≡ true
@@ -34,7 +31,7 @@ within_upper li ui s h = up_to-le s one (grind (arith, h, before-back s one))
 
 -- ---- a true test gives an instant
 from_below : (a b c d : Ratio) (li ui : Bool) → (s : Ratio) × IsBelowInside a b c d s → (s : Ratio) × IsAtMost a b c d li ui s
-from_below a b c d li ui (s, f) = (s, record { inside = strictly_within li ui s f.after f.until; near = le-up_to' _ _ (le_of_lt _ _ f.below) })
+from_below a b c d li ui (s, f) = (s, record { inside = strictly_within li ui s f.after f.until; near = le-test _ _ (le_of_lt _ _ f.below) })
 
 at_first : (a b c d : Ratio) (ui : Bool) → up_to c d ≡ true → (s : Ratio) × IsAtMost a b c d true ui s
 at_first a b c d ui h = (nil, record { inside = first_within ui; near = rw (quadratic-first a b c) h })
@@ -58,7 +55,7 @@ at_both a b c d li ui ha h k =
       s,
       record {
         inside = strictly_within li ui s m.0 m.1;
-        near = le-up_to' _ _ (le_trans _ _ d (convex a b c s ha lo hi) (chord c (at_one a b c) d s lo hi (not-up_to-le c d h) (not-up_to-le _ d k)));
+        near = le-test _ _ (le_trans _ _ d (convex a b c s ha lo hi) (chord c (at_one a b c) d s lo hi (not-up_to-le c d h) (not-up_to-le _ d k)));
       },
     )
 
@@ -71,9 +68,6 @@ pub record IsInner (a b c s : Ratio) : Type 0 where
 
 pub pos_by : (a b : Ratio) → b <ℚ nil → nil <ℚ (a +ℚ b) → nil <ℚ a
 pos_by = clear2 _ (λ D a b p h k. let h' = simp cleared at h in let k' = simp cleared at k in simp cleared (omega (arith, linear)))
-
-neg_lt : (b : Ratio) → b <ℚ nil → nil <ℚ neg_ℚ b
-neg_lt b h = let B = at 0 in lt_by b nil nil (neg_ℚ b) h (ring_ℚ (b ∷ []) (lit (pos 0) ⊕ lit (pos 0)) (minus B ⊕ B) refl)
 
 inner_by : (a b c s : Ratio) → b <ℚ nil → nil <ℚ (a +ℚ b) → s *ℚ a ≡ neg_ℚ b → IsInner a b c s
 inner_by a b c s hb hab e =
@@ -105,7 +99,7 @@ at_inner a b c d li ui h k =
       f.0,
       record {
         inside = strictly_within li ui f.0 i.after i.until;
-        near = le-up_to' _ _ (le_of_mul_left a _ d i.positive (rw i.value (not-up_to-le _ _ k)));
+        near = le-test _ _ (le_of_mul_left a _ d i.positive (rw i.value (not-up_to-le _ _ k)));
       },
     )
 
@@ -209,7 +203,7 @@ bound_inner a b c li ui ha h =
     let m = scaled_least a b c /ℚ a in
     let e : a *ℚ m ≡ scaled_least a b c = mul_comm a m ∙ div-mul (scaled_least a b c) a (above_ne a i.positive) in
     record {
-      lower = λ s w. le-up_to' _ _ (le_of_mul_left a m _ i.positive (rw e (least a b c s)));
+      lower = λ s w. le-test _ _ (le_of_mul_left a m _ i.positive (rw e (least a b c s)));
       greatest = λ n k. (
         f.0,
         record {
@@ -224,13 +218,13 @@ falls a b c s ha hb hs ht = rw (← mirror a b c s) (rises a (back a b) (at_one 
 
 bound_first : (a b c : Ratio) (li ui : Bool) → nil ≤ℚ a → nil ≤ℚ c → nil ≤ℚ at_one a b c → nil ≤ℚ b → IsInfimum a b c li ui c
 bound_first a b c li ui ha hc hl hb = record {
-  lower = λ s w. le-up_to' _ _ (rises a b c s ha hb (within_lower li ui s w));
+  lower = λ s w. le-test _ _ (rises a b c s ha hb (within_lower li ui s w));
   greatest = λ n k. under a b c n li ui (below_first a b c n ha hc hl (before-lt c n k));
 }
 
 bound_last : (a b c : Ratio) (li ui : Bool) → nil ≤ℚ a → nil ≤ℚ c → nil ≤ℚ at_one a b c → (a +ℚ b) ≤ℚ nil → IsInfimum a b c li ui (at_one a b c)
 bound_last a b c li ui ha hc hl hb = record {
-  lower = λ s w. le-up_to' _ _ (falls a b c s ha hb (within_lower li ui s w) (within_upper li ui s w));
+  lower = λ s w. le-test _ _ (falls a b c s ha hb (within_lower li ui s w) (within_upper li ui s w));
   greatest = λ n k. under a b c n li ui (below_last a b c n ha hc hl (before-lt _ n k));
 }
 

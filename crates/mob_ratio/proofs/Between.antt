@@ -5,7 +5,7 @@ use Rattle.mob_ratio.specs.Order.{before, up_to}
 use Rattle.mob_ratio.specs.Line.{IsOnLine, line_at}
 use Rattle.mob_ratio.proofs.IntRing.{linear, products, lt_mul, le_mul, lt_of_mul, le_cancel}
 use Rattle.mob_ratio.proofs.Clear.{clear6, fractions, cleared}
-use Rattle.mob_ratio.proofs.Order.{before-lt, lt-before, before-trans, before-neither, before-back, between, le-up_to, not-up_to-le}
+use Rattle.mob_ratio.proofs.Order.{before-lt, lt-before, before-trans, before-neither, before-back, before-weak, before-up_to, up_to-before, between, le-test, not-up_to-le}
 use Rattle.mob_ratio.proofs.LineAt.{line_at-is, line_at-known}
 
 le_of_mul : (a b c : ℤ) → pos 0 <ℤ c → (a *ℤ c) ≤ℤ (b *ℤ c) → a ≤ℤ b
@@ -75,15 +75,12 @@ pub record IsWithin (x0 x1 x : Ratio) : Type 0 where
   pub rising : up_to x0 x1 ≡ true → (up_to x0 x ≡ true) × (up_to x x1 ≡ true)
   pub falling : up_to x1 x0 ≡ true → (up_to x1 x ≡ true) × (up_to x x0 ≡ true)
 
-pub as_test : (s t : Ratio) → s ≤ℚ t → up_to s t ≡ true
-as_test s t h = grind (arith, le-up_to s t h)
-
 pub within : (x0 x1 l u t : Ratio) → before l u ≡ true → up_to l t ≡ true → up_to t u ≡ true → IsWithin x0 x1 (line_at x0 x1 l u t)
 within x0 x1 l u t h a b =
     let x = line_at x0 x1 l u t in
     record {
-      rising = λ c. let r = rising_within l x0 u x1 t x (before-lt l u h) (line_at-is x0 x1 l u t h) (not-up_to-le l t a) (not-up_to-le t u b) (not-up_to-le x0 x1 c) in (as_test x0 x r.0, as_test x x1 r.1);
-      falling = λ c. let r = falling_within l x0 u x1 t x (before-lt l u h) (line_at-is x0 x1 l u t h) (not-up_to-le l t a) (not-up_to-le t u b) (not-up_to-le x1 x0 c) in (as_test x1 x r.0, as_test x x0 r.1);
+      rising = λ c. let r = rising_within l x0 u x1 t x (before-lt l u h) (line_at-is x0 x1 l u t h) (not-up_to-le l t a) (not-up_to-le t u b) (not-up_to-le x0 x1 c) in (le-test x0 x r.0, le-test x x1 r.1);
+      falling = λ c. let r = falling_within l x0 u x1 t x (before-lt l u h) (line_at-is x0 x1 l u t h) (not-up_to-le l t a) (not-up_to-le t u b) (not-up_to-le x1 x0 c) in (le-test x1 x r.0, le-test x x0 r.1);
     }
 
 -- an instant strictly between the ends, at which the line has the number y
@@ -121,28 +118,19 @@ pub record HasAbove (x0 x1 l u c : Ratio) : Type 0 where
   pub until : before at u ≡ true
   pub is : before c (line_at x0 x1 l u at) ≡ true
 
-below : (x y c : Ratio) → up_to x y ≡ true → before y c ≡ true → before x c ≡ true
-below x y c h k = grind (arith, h, k, before-trans x y c, before-neither x y)
-
-above : (c y x : Ratio) → before c y ≡ true → up_to y x ≡ true → before c x ≡ true
-above c y x h k = grind (arith, h, k, before-trans c y x, before-neither y x)
-
-until_test : (s t : Ratio) → before s t ≡ true → up_to s t ≡ true
-until_test s t h = grind (arith, before-back s t h)
-
 middle_below : (x0 x1 l u c : Ratio) → before l u ≡ true → before x0 c ≡ true → before x1 c ≡ true → HasBelow x0 x1 l u c
-middle_below x0 x1 l u c h a b = let m = between l u h in record { at = m.0; after = m.1; until = m.2; is = by_test m.0 (within x0 x1 l u m.0 h (until_test l m.0 m.1) (until_test m.0 u m.2)) (before x1 x0) refl }
+middle_below x0 x1 l u c h a b = let m = between l u h in record { at = m.0; after = m.1; until = m.2; is = by_test m.0 (within x0 x1 l u m.0 h (before-weak l m.0 m.1) (before-weak m.0 u m.2)) (before x1 x0) refl }
   where
     by_test : (t : Ratio) → IsWithin x0 x1 (line_at x0 x1 l u t) → (d : Bool) → before x1 x0 ≡ d → before (line_at x0 x1 l u t) c ≡ true
-    by_test t w true e = below (line_at x0 x1 l u t) x0 c (w.falling (until_test x1 x0 e)).1 a
-    by_test t w false e = below (line_at x0 x1 l u t) x1 c (w.rising (grind (arith, e))).1 b
+    by_test t w true e = up_to-before (line_at x0 x1 l u t) x0 c (w.falling (before-weak x1 x0 e)).1 a
+    by_test t w false e = up_to-before (line_at x0 x1 l u t) x1 c (w.rising (grind (arith, e))).1 b
 
 middle_above : (x0 x1 l u c : Ratio) → before l u ≡ true → before c x0 ≡ true → before c x1 ≡ true → HasAbove x0 x1 l u c
-middle_above x0 x1 l u c h a b = let m = between l u h in record { at = m.0; after = m.1; until = m.2; is = by_test m.0 (within x0 x1 l u m.0 h (until_test l m.0 m.1) (until_test m.0 u m.2)) (before x1 x0) refl }
+middle_above x0 x1 l u c h a b = let m = between l u h in record { at = m.0; after = m.1; until = m.2; is = by_test m.0 (within x0 x1 l u m.0 h (before-weak l m.0 m.1) (before-weak m.0 u m.2)) (before x1 x0) refl }
   where
     by_test : (t : Ratio) → IsWithin x0 x1 (line_at x0 x1 l u t) → (d : Bool) → before x1 x0 ≡ d → before c (line_at x0 x1 l u t) ≡ true
-    by_test t w true e = above c x1 (line_at x0 x1 l u t) b (w.falling (until_test x1 x0 e)).0
-    by_test t w false e = above c x0 (line_at x0 x1 l u t) a (w.rising (grind (arith, e))).0
+    by_test t w true e = before-up_to c x1 (line_at x0 x1 l u t) b (w.falling (before-weak x1 x0 e)).0
+    by_test t w false e = before-up_to c x0 (line_at x0 x1 l u t) a (w.rising (grind (arith, e))).0
 
 -- A line that starts below c is below c at some instant strictly between its ends.
 pub start_below : (x0 x1 l u c : Ratio) → before l u ≡ true → before x0 c ≡ true → HasBelow x0 x1 l u c
@@ -152,7 +140,7 @@ start_below x0 x1 l u c h a = by_test (before x1 c) refl
     by_test true e = middle_below x0 x1 l u c h a e
     by_test false e =
         let y = between x0 c a in
-        let i = rises_through x0 x1 l u y.0 h y.1 (above y.0 c x1 y.2 (grind (arith, e))) in
+        let i = rises_through x0 x1 l u y.0 h y.1 (before-up_to y.0 c x1 y.2 (grind (arith, e))) in
         record { at = i.at; after = i.after; until = i.until; is = rw i.is y.2 }
 
 pub end_below : (x0 x1 l u c : Ratio) → before l u ≡ true → before x1 c ≡ true → HasBelow x0 x1 l u c
@@ -162,7 +150,7 @@ end_below x0 x1 l u c h a = by_test (before x0 c) refl
     by_test true e = middle_below x0 x1 l u c h e a
     by_test false e =
         let y = between x1 c a in
-        let i = falls_through x0 x1 l u y.0 h y.1 (above y.0 c x0 y.2 (grind (arith, e))) in
+        let i = falls_through x0 x1 l u y.0 h y.1 (before-up_to y.0 c x0 y.2 (grind (arith, e))) in
         record { at = i.at; after = i.after; until = i.until; is = rw i.is y.2 }
 
 -- A line that starts above c is above it at some instant there.
@@ -173,7 +161,7 @@ start_above x0 x1 l u c h a = by_test (before c x1) refl
     by_test true e = middle_above x0 x1 l u c h a e
     by_test false e =
         let y = between c x0 a in
-        let i = falls_through x0 x1 l u y.0 h (below x1 c y.0 (grind (arith, e)) y.1) y.2 in
+        let i = falls_through x0 x1 l u y.0 h (up_to-before x1 c y.0 (grind (arith, e)) y.1) y.2 in
         record { at = i.at; after = i.after; until = i.until; is = rw i.is y.1 }
 
 pub end_above : (x0 x1 l u c : Ratio) → before l u ≡ true → before c x1 ≡ true → HasAbove x0 x1 l u c
@@ -183,5 +171,5 @@ end_above x0 x1 l u c h a = by_test (before c x0) refl
     by_test true e = middle_above x0 x1 l u c h e a
     by_test false e =
         let y = between c x1 a in
-        let i = rises_through x0 x1 l u y.0 h (below x0 c y.0 (grind (arith, e)) y.1) y.2 in
+        let i = rises_through x0 x1 l u y.0 h (up_to-before x0 c y.0 (grind (arith, e)) y.1) y.2 in
         record { at = i.at; after = i.after; until = i.until; is = rw i.is y.1 }

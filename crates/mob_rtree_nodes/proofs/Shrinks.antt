@@ -2,7 +2,7 @@
 use Rattle.std.proofs.Common.{◌≡◌, refl, ℕ, zero, suc, ◌+◌, ◌<◌, ◌≤◌, Bool, true, false, cond, ◌==◌, ◌&&◌, List, [], ◌∷◌, length, get_or, set, take, arith, ap, sym, ◌∙◌, subst, eq-eqb, take_all}
 use Rattle.std.specs.Prelude.{All, sum_by, count_by}
 use Rattle.std.specs.List.{remove}
-use Rattle.std.proofs.lemmas.Bool.{eqb-true}
+use Rattle.std.proofs.lemmas.Bool.{and_from, eqb-true}
 use Rattle.std.proofs.lemmas.List.{length-set, get_or-set_other}
 use Rattle.std.proofs.lemmas.List.Sums.{sum_by-cons, sum_by-set, sum_by-remove, sum_by_more, get_or-le-sum_by}
 use Rattle.std.proofs.lemmas.List.Elements.{All-set}
@@ -26,6 +26,9 @@ pub at_place : {X : Type 0} (xs : List X) (n : ℕ) → n < length xs → (x : X
 at_place [] n h = absurd (omega arith)
 at_place (x ∷ xs) zero h = (x, refl)
 at_place (x ∷ xs) (suc n) h = at_place xs n (omega arith)
+
+pub hit_self : (e : EntryOf) → hit e e ≡ 1
+hit_self e = ap {B = ℕ} (λ b. cond b 1 0) (and_from (same_box e.0 e.0) (e.1 == e.1) (same_self e.0) (eq-eqb e.1 e.1 refl))
 
 pub settled_narrow : (p part : TreeNode) (i : ℕ) (b : BoxOf) → i < length p.kids.items → IsReplaced p i b part → IsSettled p i (Narrowed b) (Narrowed part.area) part
 settled_narrow p part i b within by =

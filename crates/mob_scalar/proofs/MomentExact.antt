@@ -18,6 +18,7 @@ use Rattle.mob_scalar.specs.CalendarReaders.{fixed_at, dash_at, date_at}
 use Rattle.mob_scalar.specs.Moment.{is_below, two_digits_below, point_part, is_point_part, fraction_part, is_fraction_part, part, clock_of, clock, offset_of, utc, is_z, zone, is_t, gap, time_of, time, stamp_of, is_in_years, moment}
 use Rattle.mob_scalar.specs.MomentReaders.{two_digits_below_at, colon_at, decimals_at, below_at, quotient_at, second_part_at, seconds_at, clock_at, z_at, hours_at, zone_at, t_at, gap_at, time_at, moment_at}
 use Rattle.mob_numeral.proofs.NumberExact.{digits_base, left, right}
+use Rattle.mob_numeral.proofs.WholeTexts.{sign_blank}
 
 same : (c : ℕ) → is_digit c ≡ false → is_digit c ≡ false
 same c e = e
@@ -259,12 +260,9 @@ clock_head = means_head (then_head (where_head (fixed_head 2)) (then_head (marke
 z_no_blank : Apart is_z is_blank
 z_no_blank c e = search rules
 
-sign_no_blank : Apart is_number_sign is_blank
-sign_no_blank c e = search rules
-
 zone_no_blank : NoHead zone is_blank
 unfolding hours_language
-zone_no_blank = or_head (means_head (one_head z_no_blank)) (hours_head is_blank sign_no_blank)
+zone_no_blank = or_head (means_head (one_head z_no_blank)) (hours_head is_blank sign_blank)
 
 time_exact : Exact time time_at (Stops moment_on)
 unfolding time_at

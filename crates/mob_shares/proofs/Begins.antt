@@ -1,6 +1,7 @@
 -- Two spans with a common end: their intersection, and the parts before and after.
 use Rattle.std.specs.Prelude.{◌≡◌, Bool, true, false, cond, refl, not, ◌||◌, ◌&&◌}
 use Rattle.std.proofs.Common.{arith, ap, sym, ◌∙◌}
+use Rattle.mob_list.proofs.Tests.{neither_true}
 use Rattle.mob_ratio.specs.Ratio.{Ratio}
 use Rattle.mob_ratio.specs.Order.{before, up_to}
 use Rattle.mob_ratio.proofs.Order.{before-back}
@@ -12,23 +13,19 @@ use Rattle.mob_span.proofs.Leaving.{front_has, back_has}
 use Rattle.mob_shares.proofs.Spans.{not_precedes, not_follows}
 use Rattle.mob_shares.specs.Begins.{BeginTogether, EndTogether}
 
-neither_of : (a f : Bool) → (a ≡ true → f ≡ false) → (a && f) ≡ false
-neither_of true f h = h refl
-neither_of false f h = refl
-
 pub begin_back : (a b : SpanOf) → BeginTogether a b → BeginTogether b a
 begin_back a b h = record { lower = sym h.lower; with = sym h.with }
 
 -- a span has no part before one that begins with it
 pub none_front : (a b : SpanOf) → BeginTogether a b → has_instant (front_of a b) ≡ false
-none_front a b h = none_has (front_of a b) (λ t. front_has a b t ∙ neither_of (has a t) (precedes t b) (λ k. sym (same t) ∙ not_precedes a t k))
+none_front a b h = none_has (front_of a b) (λ t. front_has a b t ∙ neither_true (has a t) (precedes t b) (λ k. sym (same t) ∙ not_precedes a t k))
   where
     same : (t : Ratio) → precedes t a ≡ precedes t b
     same t = ap (λ l. before t l || (not a.lower_inc && up_to t l)) h.lower ∙ ap (λ i. before t b.lower || (not i && up_to t b.lower)) h.with
 
 -- and no part after one that ends with it
 pub none_back : (a b : SpanOf) → EndTogether a b → has_instant (back_of a b) ≡ false
-none_back a b h = none_has (back_of a b) (λ t. back_has a b t ∙ neither_of (has a t) (follows t b) (λ k. sym (same t) ∙ not_follows a t k))
+none_back a b h = none_has (back_of a b) (λ t. back_has a b t ∙ neither_true (has a t) (follows t b) (λ k. sym (same t) ∙ not_follows a t k))
   where
     same : (t : Ratio) → follows t a ≡ follows t b
     same t = ap (λ u. before u t || (not a.upper_inc && up_to u t)) h.upper ∙ ap (λ i. before b.upper t || (not i && up_to b.upper t)) h.with

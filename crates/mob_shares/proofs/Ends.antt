@@ -3,6 +3,8 @@
 use Rattle.std.specs.Prelude.{◌≡◌, ◌⊎◌, Bool, true, false, cond, refl, ◌||◌, ◌&&◌, not, List, [], ◌∷◌, ◌++◌, Option, Some, None}
 use Rattle.std.specs.List.{AllByRecursion}
 use Rattle.std.proofs.Common.{ap, sym, ◌∙◌, subst, arith, true≢false, inl, inr}
+use Rattle.std.proofs.lemmas.Bool.{and_right}
+use Rattle.std.proofs.lemmas.Option.{same_Some}
 use Rattle.mob_ratio.specs.Ratio.{Ratio}
 use Rattle.mob_ratio.specs.Order.{before, up_to}
 use Rattle.mob_span.specs.Span.{SpanOf, has, has_instant}
@@ -13,6 +15,7 @@ use Rattle.mob_span.specs.Pieces.{PiecesAreClear, piece_at}
 use Rattle.mob_span.specs.Remainders.{front_of}
 use Rattle.mob_ratio.proofs.Order.{before-back}
 use Rattle.mob_span.proofs.SpanLemmas.{meet_has}
+use Rattle.mob_span.proofs.Sets.{starts_one_way}
 use Rattle.mob_shares.specs.Cuts.{CutOf, entry_at, row_pieces, shared_cuts}
 use Rattle.mob_shares.specs.Sharing.{ShareOf, next_share}
 use Rattle.mob_shares.proofs.Spans.{front_whole}
@@ -41,16 +44,6 @@ overlap' s r n k h i = by (starts_before s r) (ends_before s r) i
     by true b e = absurd (true≢false e)
     by false true e = k
     by false false e = grind (arith, n)
-
-not_both : (s r : SpanOf) → starts_before r s ≡ true → starts_before s r ≡ false
-not_both s r h = grind (arith, h, before-back s.lower r.lower, before-back r.lower s.lower)
-
-and_none : (b : Bool) → (b && false) ≡ false
-and_none true = refl
-and_none false = refl
-
-some_same : {A : Type 0} (x y : A) → Some x ≡ Some y → x ≡ y
-some_same x y e = cc
 
 some_none : {A R : Type 0} (x : A) → Some x ≡ None → R
 some_none x e = cc
@@ -124,7 +117,7 @@ module _ {X Y : Type 0} where
         same_s e = ap (λ q. q.span) (one_share _ _ e)
 
         same_x : the_left r z ≡ the_left s x → z ≡ x
-        same_x e = some_same z x (ap (λ q. q.left) (one_share _ _ e))
+        same_x e = same_Some z x (ap (λ q. q.left) (one_share _ _ e))
 
   -- a piece of the first list alone begins at the start of an item of it, and ends at the end of
   -- the item or at the start of the next shared piece
@@ -152,7 +145,7 @@ module _ {X Y : Type 0} where
         by true e = (h.0, inl (subst (λ z. P d.of z.upper) (sym (front_whole d.span c.span e)) h.1))
         by false e =
             let j = starts_front d.span c.span e i in
-            let l = not_both c.span d.span j in
+            let l = starts_one_way d.span c.span j in
             (h.0, inr (meet_of c.span d.span, c.of, row_pieces c ds ++ shared_cuts cs (d ∷ ds), begins c cs d ds (overlap' c.span d.span e k j l), ap (λ b. cond b d.span.lower c.span.lower) l ∙ sym (ap (λ b. cond b d.span.upper c.span.lower) e)))
 
     of_right : (r s : SpanOf) (z y : Y) (ps : List (PieceOf X Y)) → the_right r z ≡ the_right s y → RightEnds r z ps → RightEnds s y ps
@@ -162,7 +155,7 @@ module _ {X Y : Type 0} where
         same_s e = ap (λ q. q.span) (one_share _ _ e)
 
         same_y : the_right r z ≡ the_right s y → z ≡ y
-        same_y e = some_same z y (ap (λ q. q.right) (one_share _ _ e))
+        same_y e = same_Some z y (ap (λ q. q.right) (one_share _ _ e))
 
   pub right_ends : (P : Y → Ratio → Type 0) (v : List (CutOf X)) (w : List (CutOf Y)) → PiecesAreClear (λ c. c.span) v → AllByRecursion (λ d. P d.of d.span.lower × P d.of d.span.upper) w → (s : SpanOf) (y : Y) → next_share v w ≡ Some (record { span = s; left = None; right = Some y }) → P y s.lower × (P y s.upper ⊎ BeginsRight y s.upper (shared_cuts v w))
   right_ends P [] [] k h s y e = no_right s y e
@@ -198,7 +191,7 @@ module _ {X Y : Type 0} where
 
   none_row' : (c : CutOf X) (ds : List (CutOf Y)) (t : Ratio) → AllByRecursion (λ d. has d.span t ≡ false) ds → piece_at (λ q. q.span) (row_pieces c ds) t ≡ None
   none_row' c [] t h = refl
-  none_row' c (d ∷ ds) t h = part_put (meet_of c.span d.span) c.of d.of (row_pieces c ds) t (meet_has c.span d.span t ∙ ap (λ b. has c.span t && b) h.0 ∙ and_none (has c.span t)) (none_row' c ds t h.1)
+  none_row' c (d ∷ ds) t h = part_put (meet_of c.span d.span) c.of d.of (row_pieces c ds) t (meet_has c.span d.span t ∙ ap (λ b. has c.span t && b) h.0 ∙ and_right (has c.span t) false refl) (none_row' c ds t h.1)
 
   none_left_by : (v : List (CutOf X)) (w : List (CutOf Y)) (t : Ratio) → AllByRecursion (λ c. has c.span t ≡ false) v → piece_at (λ q. q.span) (shared_cuts v w) t ≡ None
   none_left_by [] w t h = refl

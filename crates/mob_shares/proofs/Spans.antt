@@ -1,6 +1,7 @@
 -- Facts on spans: a set of instants is one span, and the part after a span.
 use Rattle.std.specs.Prelude.{◌≡◌, Bool, true, false, cond, refl, ◌||◌, ◌&&◌, not, [], ◌∷◌}
 use Rattle.std.proofs.Common.{arith, ap, sym, subst, ◌∙◌, true≢false}
+use Rattle.mob_slice.proofs.Bisection.{clear_past}
 use Rattle.mob_ratio.specs.Ratio.{Ratio}
 use Rattle.mob_ratio.specs.Order.{before, up_to}
 use Rattle.mob_ratio.proofs.Order.{before-back, before-trans, before-neither, before-self}
@@ -39,10 +40,6 @@ inside_of s r h i t k = (has_exact s t).1 ((inside_exact s r h).0 i t ((has_exac
 follows_by : (u l t : Ratio) (i j : Bool) → (before u l || (up_to u l && not (i && j))) ≡ true → (before l t || (j && up_to l t)) ≡ true → (before u t || (not i && up_to u t)) ≡ true
 follows_by u l t i j h k = grind (arith, before-trans u l t, before-neither u l, before-neither l t, before-back u l, before-back l t, before-back u t)
 
--- an instant of a later span follows the span
-follows_clear : (p q : SpanOf) (t : Ratio) → is_clear p q ≡ true → has q t ≡ true → follows t p ≡ true
-follows_clear p q t h k = follows_by p.upper q.lower t p.upper_inc q.lower_inc h (grind (arith, k))
-
 pub not_precedes : (s : SpanOf) (t : Ratio) → has s t ≡ true → precedes t s ≡ false
 not_precedes s t h = by (precedes t s) (follows t s) (sym h ∙ neither_has s t)
   where
@@ -60,7 +57,7 @@ not_follows s t h = by (precedes t s) (follows t s) (sym h ∙ neither_has s t)
 
 -- the part of s after p shares with whatever comes after p the same instants as s
 pub same_behind : (s p q : SpanOf) → is_clear p q ≡ true → (t : Ratio) → (has s t && has q t) ≡ (has (back_of s p) t && has q t)
-same_behind s p q h t = by (has s t) (follows t p) (has q t) (follows_clear p q t h) ∙ ap (λ b. b && has q t) (sym (back_has s p t))
+same_behind s p q h t = by (has s t) (follows t p) (has q t) (clear_past p q t h) ∙ ap (λ b. b && has q t) (sym (back_has s p t))
   where
     by : (a f q : Bool) → (q ≡ true → f ≡ true) → (a && q) ≡ ((a && f) && q)
     by true f true k = sym (ap (λ b. b && true) (k refl))
@@ -69,7 +66,7 @@ same_behind s p q h t = by (has s t) (follows t p) (has q t) (follows_clear p q 
     by false f q k = refl
 
 pub same_behind' : (s p q : SpanOf) → is_clear p q ≡ true → (t : Ratio) → (has q t && has s t) ≡ (has q t && has (back_of s p) t)
-same_behind' s p q h t = by (has s t) (follows t p) (has q t) (follows_clear p q t h) ∙ ap (λ b. has q t && b) (sym (back_has s p t))
+same_behind' s p q h t = by (has s t) (follows t p) (has q t) (clear_past p q t h) ∙ ap (λ b. has q t && b) (sym (back_has s p t))
   where
     by : (a f q : Bool) → (q ≡ true → f ≡ true) → (q && a) ≡ (q && (a && f))
     by true f true k = sym (k refl)

@@ -1,6 +1,7 @@
 -- One step of the walk over all instants of two lists.
 use Rattle.std.specs.Prelude.{◌≡◌, ◌⊎◌, Bool, true, false, cond, refl, ◌||◌, ◌&&◌, not, List, [], ◌∷◌, ◌++◌, Option, Some, None, ◌+◌, ◌<◌, ◌≤◌, length}
 use Rattle.std.proofs.Common.{ap, sym, ◌∙◌, subst, arith, true≢false, inl, inr}
+use Rattle.std.proofs.lemmas.Bool.{and_parts}
 use Rattle.mob_ratio.specs.Ratio.{Ratio}
 use Rattle.mob_ratio.specs.Order.{before, up_to}
 use Rattle.mob_span.specs.Span.{SpanOf, has, has_instant}
@@ -17,11 +18,6 @@ use Rattle.mob_shares.specs.Sharing.{ShareOf, next_share, behind, both_of, front
 use Rattle.mob_shares.proofs.Spans.{not_precedes, not_follows, front_clear, begins_left, begins_right, share_some, back_start, none_self, none_clear, inside_by}
 use Rattle.mob_shares.proofs.Rows.{shared_left, shared_right, shared_both}
 use Rattle.mob_shares.proofs.Sides.{cut_span, side_gone, side_here, none_here, side_clear, side_behind, side_after, side_length}
-
-both_have : (a b : Bool) → (a && b) ≡ true → (a ≡ true) × (b ≡ true)
-both_have true true e = (refl, refl)
-both_have true false e = absurd (true≢false (sym e))
-both_have false b e = absurd (true≢false (sym e))
 
 -- the part of the first before the other list's first is before all of the other list
 front_all : (s : SpanOf) {Z : Type 0} (d : CutOf Z) (ds : List (CutOf Z)) → PiecesAreClear cut_span (d ∷ ds) → AreAllClear cut_span (front_of s d.span) (d ∷ ds)
@@ -74,7 +70,7 @@ module _ {X Y : Type 0} where
   both_step c cs d ds h k m n =
       let p = meet_of c.span d.span in
       let i = share_some c.span d.span h.0 k.0 m n in
-      let f : (t : Ratio) → has p t ≡ true → (has c.span t ≡ true) × (has d.span t ≡ true) = λ t z. both_have (has c.span t) (has d.span t) (sym (meet_has c.span d.span t) ∙ z) in
+      let f : (t : Ratio) → has p t ≡ true → (has c.span t ≡ true) × (has d.span t ≡ true) = λ t z. and_parts (has c.span t) (has d.span t) (sym (meet_has c.span d.span t) ∙ z) in
       record {
         some = i;
         here = λ t z. (side_here c cs t (f t z).0, side_here d ds t (f t z).1);
@@ -110,8 +106,8 @@ module _ {X Y : Type 0} where
       by : (a b : Bool) → has_instant (front_of c.span d.span) ≡ a → has_instant (front_of d.span c.span) ≡ b
           → cond a (Some (record { span = front_of c.span d.span; left = Some c.of; right = None })) (cond b (Some (record { span = front_of d.span c.span; left = None; right = Some d.of })) (Some (record { span = meet_of c.span d.span; left = Some c.of; right = Some d.of }))) ≡ Some p
           → IsStep (c ∷ cs) (d ∷ ds) p (behind p.span p.left (c ∷ cs)) (behind p.span p.right (d ∷ ds))
-      by true b i j z = same_step (c ∷ cs) (d ∷ ds) p (record { span = left; left = Some c.of; right = None }) z (left_step c cs (d ∷ ds) left h k i (λ t y. (both_have (has c.span t) (precedes t d.span) (sym (front_has c.span d.span t) ∙ y)).0) (front_all c.span d ds k) (λ t y. not_precedes c.span t y))
-      by false true i j z = same_step (c ∷ cs) (d ∷ ds) p (record { span = right; left = None; right = Some d.of }) z (right_step (c ∷ cs) d ds right h k j (λ t y. (both_have (has d.span t) (precedes t c.span) (sym (front_has d.span c.span t) ∙ y)).0) (front_all d.span c cs h) (λ t y. not_precedes d.span t y))
+      by true b i j z = same_step (c ∷ cs) (d ∷ ds) p (record { span = left; left = Some c.of; right = None }) z (left_step c cs (d ∷ ds) left h k i (λ t y. (and_parts (has c.span t) (precedes t d.span) (sym (front_has c.span d.span t) ∙ y)).0) (front_all c.span d ds k) (λ t y. not_precedes c.span t y))
+      by false true i j z = same_step (c ∷ cs) (d ∷ ds) p (record { span = right; left = None; right = Some d.of }) z (right_step (c ∷ cs) d ds right h k j (λ t y. (and_parts (has d.span t) (precedes t c.span) (sym (front_has d.span c.span t) ∙ y)).0) (front_all d.span c cs h) (λ t y. not_precedes d.span t y))
       by false false i j z = same_step (c ∷ cs) (d ∷ ds) p (record { span = meet_of c.span d.span; left = Some c.of; right = Some d.of }) z (both_step c cs d ds h k i j)
 
   -- if no piece comes next, nothing is left

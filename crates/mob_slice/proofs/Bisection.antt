@@ -20,7 +20,7 @@ past_has : (s : SpanOf) (t : Ratio) → follows t s ≡ true → has s t ≡ fal
 past_has s t h = grind (arith, h, before-back s.upper t)
 
 -- a span that is clear of one that has t ends before t
-clear_past : (s r : SpanOf) (t : Ratio) → is_clear s r ≡ true → has r t ≡ true → follows t s ≡ true
+pub clear_past : (s r : SpanOf) (t : Ratio) → is_clear s r ≡ true → has r t ≡ true → follows t s ≡ true
 clear_past s r t h k = grind (arith, h, k, before-trans s.upper r.lower t, before-neither s.upper r.lower, before-neither r.lower t, before-self t, before-self s.upper, before-back r.lower t, before-back s.upper r.lower)
 
 -- and so does a span that is clear of one that ends before t

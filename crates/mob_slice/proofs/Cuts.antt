@@ -3,7 +3,7 @@ use Rattle.std.specs.Prelude.{◌≡◌, Bool, true, false, List, [], ◌++◌, 
 use Rattle.std.proofs.Common.{arith, ap, sym, ◌∙◌, subst}
 use Rattle.mob_ratio.specs.Ratio.{Ratio}
 use Rattle.mob_ratio.specs.Order.{before, up_to, same}
-use Rattle.mob_ratio.proofs.Order.{before-back, before-trans, before-neither, same_exact}
+use Rattle.mob_ratio.proofs.Order.{before-back, before-trans, before-neither, same_exact, up_to-trans, strictly-later}
 use Rattle.mob_frac.specs.Formula.{AllFit}
 use Rattle.mob_span.specs.Span.{SpanOf, has, has_instant}
 use Rattle.mob_slice.specs.Course.{IsCourse}
@@ -28,9 +28,6 @@ upto_low s r h = grind (arith, h, before-back s.lower r.lower)
 upto_high : (s r : SpanOf) → is_inside s r ≡ true → up_to r.upper s.upper ≡ true
 upto_high s r h = grind (arith, h, before-back r.upper s.upper)
 
-up_to-trans : (a b c : Ratio) → up_to a b ≡ true → up_to b c ≡ true → up_to a c ≡ true
-up_to-trans a b c h k = grind (arith, h, k, before-trans c a b, before-neither a b)
-
 pub low_after : (s r : SpanOf) (t : Ratio) → is_inside s r ≡ true → t ≡ r.lower → up_to s.lower t ≡ true
 low_after s r t h e = rw e (upto_low s r h)
 
@@ -48,10 +45,6 @@ long_of s r h k = let a = upto_low s r h in let b = upto_high s r h in grind (ar
 
 only_at : (r : SpanOf) (t : Ratio) → before r.lower r.upper ≡ false → r.lower ≡ r.upper → has r t ≡ true → r.lower ≡ t
 only_at r t h e k = before-neither r.lower t (grind (arith, h, e, k, before-back t r.upper)) (grind (arith, h, e, k, before-back r.lower t))
-
-later : (l t : Ratio) → up_to l t ≡ true → same t l ≡ false → before l t ≡ true
-unfolding same
-later l t h k = grind (arith, h, k)
 
 module _ {C B : Type 0} {steady copies : Bool} {value : C → Ratio → Ratio → Ratio → B} {start end : C → B} {can_make : B → B → Type 0} {make : B → B → C} {continues : C → C → Ratio → Ratio → Ratio → Bool} {parts : C → Ratio → Ratio → Ratio → List Ratio} (laws : IsCourse steady copies value start end can_make make continues parts) where
   made_by : (s : Slice C) (r : SpanOf) → is_inside s.span r ≡ true → has_instant r ≡ true → (b : Bool) → before r.lower r.upper ≡ b → can_make (value s.course s.span.lower s.span.upper r.lower) (value s.course s.span.lower s.span.upper r.upper)
@@ -115,7 +108,7 @@ module _ {C B : Type 0} {steady copies : Bool} {value : C → Ratio → Ratio �
   pub at_high : (s : Slice C) (t : Ratio) (r : Result B (Fault Formula)) → up_to s.span.lower t ≡ true → same t s.span.lower ≡ false → same t s.span.upper ≡ true → MatchResult r (λ b. b ≡ end s.course) (IsLookFault copies []) → IsLooked copies (parts s.course s.span.lower s.span.upper t) (value s.course s.span.lower s.span.upper t) r
   at_high s t r a n h m =
       let e : s.span.upper ≡ t = sym ((same_exact t s.span.upper).0 h) in
-      let long : before s.span.lower s.span.upper ≡ true = rw e (later s.span.lower t a n) in
+      let long : before s.span.lower s.span.upper ≡ true = rw e (strictly-later s.span.lower t a n) in
       subst (λ z. IsLooked copies (parts s.course s.span.lower s.span.upper z) (value s.course s.span.lower s.span.upper z) r) e (rw (laws.upper_parts s.course s.span.lower s.span.upper, laws.at_upper s.course s.span.lower s.span.upper long) (looked r (end s.course) m))
     where
       looked : (r : Result B (Fault Formula)) (x : B) → MatchResult r (λ b. b ≡ x) (IsLookFault copies []) → IsLooked copies [] x r

@@ -1,12 +1,14 @@
 -- Look-ups in a list of slices at one instant.
 use Rattle.std.specs.Prelude.{◌≡◌, Bool, true, false, cond, List, [], ◌∷◌, Option, Some, None, option_map, refl}
 use Rattle.std.proofs.Common.{ap, ◌∙◌, subst, true≢false}
+use Rattle.std.proofs.lemmas.Option.{same_Some}
 use Rattle.mob_ratio.specs.Ratio.{Ratio}
 use Rattle.mob_span.specs.Span.{has}
 use Rattle.mob_span.specs.Pieces.{piece_at}
+use Rattle.mob_span.proofs.SpanLemmas.{some_instant}
 use Rattle.mob_slice.specs.Cut.{slice_value, slice_parts}
 use Rattle.mob_slice.specs.Instants.{slice_at, parts_there, parts_at}
-use Rattle.mob_slice.specs.Slices.{value_at}
+use Rattle.mob_slice.specs.Slices.{value_at, IsNormal}
 use Rattle.mob_slice.specs.declared.slice.Slice.{Slice}
 
 -- the value at t is that of the slice at t
@@ -18,14 +20,16 @@ value_by value (s ∷ v) t = ap (cond (has s.span t) (Some (slice_value value s 
     by true = refl
     by false = refl
 
+-- a normal list has a value at some instant
+pub some_value : {C B : Type 0} {start end : C → B} {continues : C → C → Ratio → Ratio → Ratio → Bool} (value : C → Ratio → Ratio → Ratio → B) (v : List (Slice C)) → IsNormal start end continues v → (t : Ratio) × (y : B) × (value_at value v t ≡ Some y)
+some_value value [] n = absurd (n.some refl)
+some_value value (s ∷ v) n = let m = some_instant s.span n.chained.0.some in (m.0, value s.course s.span.lower s.span.upper m.0, rw m.1 refl)
+
 some_is : {X : Type 0} (x : X) (o : Option X) → o ≡ Some x → o ≡ None → true ≡ false
 some_is x o e n = cc
 
-pub some_same : {X : Type 0} (x y : X) → Some x ≡ Some y → x ≡ y
-some_same x y e = cc
-
 inside_by : {C : Type 0} (t : Ratio) (r : Slice C) (rest : List (Slice C)) (s : Slice C) (b : Bool) → has r.span t ≡ b → (slice_at rest t ≡ Some s → has s.span t ≡ true) → cond b (Some r) (slice_at rest t) ≡ Some s → has s.span t ≡ true
-inside_by {C} t r rest s true h f e = subst (λ (z : Slice C). has z.span t ≡ true) (some_same r s e) h
+inside_by {C} t r rest s true h f e = subst (λ (z : Slice C). has z.span t ≡ true) (same_Some r s e) h
 inside_by t r rest s false h f e = f e
 
 -- the slice that is found has the instant

@@ -1,6 +1,7 @@
 -- The slice of an ordered list at one instant.
 use Rattle.std.specs.Prelude.{◌≡◌, ◌⊎◌, Bool, true, false, cond, List, [], ◌∷◌, Some, Contains, refl}
 use Rattle.std.proofs.Common.{ap, sym, ◌∙◌, subst, inl, inr, true≢false}
+use Rattle.std.proofs.lemmas.Option.{same_Some}
 use Rattle.mob_ratio.specs.Ratio.{Ratio}
 use Rattle.mob_list.proofs.Entries.{first_in, later_in, none_in, which_in}
 use Rattle.mob_span.specs.Span.{SpanOf, has}
@@ -9,7 +10,7 @@ use Rattle.mob_span.proofs.Shared.{AreAllClear, all_after}
 use Rattle.mob_slice.specs.Instants.{slice_at, OneSliceAt}
 use Rattle.mob_slice.specs.Slices.{IsOrdered}
 use Rattle.mob_slice.specs.declared.slice.Slice.{Slice}
-use Rattle.mob_slice.proofs.LookUps.{inside_found, some_same}
+use Rattle.mob_slice.proofs.LookUps.{inside_found}
 use Rattle.mob_slice.proofs.Orders.{ordered-clear}
 
 module _ {C B : Type 0} (start end : C → B) (t : Ratio) where
@@ -32,7 +33,7 @@ module _ {C B : Type 0} (start end : C → B) (t : Ratio) where
   held (r ∷ v) o s c k = held_by r v s (has r.span t) refl (all_after (λ (z : Slice C). z.span) r v (ordered-clear start end (r ∷ v) o)) (λ d. held v o.2 s d k) (which_in r v s c) k
 
   among_by : (r : Slice C) (v : List (Slice C)) (s : Slice C) (b : Bool) → (slice_at v t ≡ Some s → Contains v s) → cond b (Some r) (slice_at v t) ≡ Some s → Contains (r ∷ v) s
-  among_by r v s true f e = subst (λ z. Contains (r ∷ v) z) (some_same r s e) (first_in r v)
+  among_by r v s true f e = subst (λ z. Contains (r ∷ v) z) (same_Some r s e) (first_in r v)
   among_by r v s false f e = later_in r v s (f e)
 
   among : (v : List (Slice C)) (s : Slice C) → slice_at v t ≡ Some s → Contains v s

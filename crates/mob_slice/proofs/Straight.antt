@@ -4,19 +4,18 @@ use Rattle.std.proofs.Common.{ap, sym, ◌∙◌, subst}
 use Rattle.mob_ratio.specs.Ratio.{Ratio, whole, ◌-ℚ◌, ◌/ℚ◌}
 use Rattle.mob_ratio.specs.Order.{before, up_to, same}
 use Rattle.mob_ratio.specs.Line.{line_at, line_continues}
-use Rattle.mob_ratio.proofs.Order.{before-lt, before-trans, same_exact, same_truth}
+use Rattle.mob_ratio.proofs.Order.{before-lt, before-trans, same_exact, same_truth, up_to-equal}
 use Rattle.mob_ratio.proofs.Divide.{sub_ne-zero}
 use Rattle.mob_ratio.proofs.LineAt.{line_at-lower, line_at-upper, slopes-same}
 use Rattle.mob_span.specs.Span.{SpanOf, has_instant}
 use Rattle.mob_span.specs.Neighbours.{Meets}
 use Rattle.mob_span.proofs.SpanLemmas.{some_upto}
-use Rattle.mob_slice.proofs.Wholes.{one_instant}
 
 pub at_first : (x0 x1 y l m u : Ratio) → up_to l m ≡ true → before l m ≡ false → same x0 x1 ≡ same (line_at x0 y l u m) x1
-at_first x0 x1 y l m u h k = ap (λ x. same x x1) (sym (ap (λ t. line_at x0 y l u t) (sym (one_instant l m h k)) ∙ line_at-lower x0 y l u))
+at_first x0 x1 y l m u h k = ap (λ x. same x x1) (sym (ap (λ t. line_at x0 y l u t) (sym (up_to-equal l m h k)) ∙ line_at-lower x0 y l u))
 
 pub at_last : (x0 x1 y l m u : Ratio) → up_to m u ≡ true → before l m ≡ true → before m u ≡ false → same y x1 ≡ same (line_at x0 y l u m) x1
-at_last x0 x1 y l m u h j k = let e = one_instant m u h k in ap (λ x. same x x1) (sym (ap (λ t. line_at x0 y l u t) e ∙ line_at-upper x0 y l u (subst (λ t. before l t ≡ true) e j)))
+at_last x0 x1 y l m u h j k = let e = up_to-equal m u h k in ap (λ x. same x x1) (sym (ap (λ t. line_at x0 y l u t) e ∙ line_at-upper x0 y l u (subst (λ t. before l t ≡ true) e j)))
 
 pub apart : (l m d : Ratio) → d ≡ m -ℚ l → before l m ≡ true → d ≢ whole (pos 0)
 apart l m d e h = λ z. sub_ne-zero l m (before-lt l m h) (sym e ∙ z)

@@ -3,16 +3,9 @@ use Rattle.std.specs.Prelude.{◌≡◌, Bool, true, false, List, refl}
 use Rattle.std.proofs.Common.{arith, ap, sym, ◌∙◌, subst}
 use Rattle.mob_ratio.specs.Ratio.{Ratio}
 use Rattle.mob_ratio.specs.Order.{before, up_to}
-use Rattle.mob_ratio.proofs.Order.{before-self, before-back, before-trans, before-neither}
+use Rattle.mob_ratio.proofs.Order.{before-self, before-back, before-trans, before-neither, up_to-self, up_to-equal}
 use Rattle.mob_slice.specs.Course.{IsCourse, IsWhole}
 use Rattle.mob_slice.specs.Wholes.{HasBothParts, AreNeighbours, ContinuesAsOne, TwoInstantsFix}
-
-at_self : (t : Ratio) → up_to t t ≡ true
-at_self t = rw (before-self t) refl
-
--- the only instant of a span of one instant
-pub one_instant : (s t : Ratio) → up_to s t ≡ true → before s t ≡ false → s ≡ t
-one_instant s t h k = before-neither s t k (grind (arith, h))
 
 -- an instant of such a span
 only_instant : (s t x : Ratio) → up_to s x ≡ true → up_to x t ≡ true → before s t ≡ false → s ≡ x
@@ -40,7 +33,7 @@ module _ {C B : Type 0} {steady copies : Bool} {value : C → Ratio → Ratio �
     where
       by : (b : Bool) → before l u ≡ b → value c l u u ≡ end c
       by true e = laws.at_upper c l u e
-      by false e = subst (λ t. value c l u t ≡ end c) (one_instant l u h e) (laws.at_lower c l u ∙ level e)
+      by false e = subst (λ t. value c l u t ≡ end c) (up_to-equal l u h e) (laws.at_lower c l u ∙ level e)
 
   -- a course that has the limits of c at the ends of a span, even of one instant, has its values
   -- there
@@ -64,10 +57,10 @@ module _ {C B : Type 0} {steady copies : Bool} {value : C → Ratio → Ratio �
   has_whole : (w c d : C) (l m u : Ratio) → AreNeighbours start end c d l m u → HasBothParts value w c d l m u → IsWhole value start end can_make make c d l m u
   has_whole w c d l m u n b =
       let p = laws.part w l u l u n.long n.long in
-      let low : value w l u l ≡ start c = b.first l (at_self l) n.in_order.0 ∙ laws.at_lower c l m in
-      let left : value w l u m ≡ end c = b.first m n.in_order.0 (at_self m) ∙ at_end c l m n.in_order.0 n.first_level in
-      let right : value w l u m ≡ start d = b.second m (at_self m) n.in_order.1 ∙ laws.at_lower d m u in
-      let high : value w l u u ≡ end d = b.second u n.in_order.1 (at_self u) ∙ at_end d m u n.in_order.1 n.second_level in
+      let low : value w l u l ≡ start c = b.first l (up_to-self l) n.in_order.0 ∙ laws.at_lower c l m in
+      let left : value w l u m ≡ end c = b.first m n.in_order.0 (up_to-self m) ∙ at_end c l m n.in_order.0 n.first_level in
+      let right : value w l u m ≡ start d = b.second m (up_to-self m) n.in_order.1 ∙ laws.at_lower d m u in
+      let high : value w l u u ≡ end d = b.second u n.in_order.1 (up_to-self u) ∙ at_end d m u n.in_order.1 n.second_level in
       record {
         made = subst (λ y. can_make (start c) y) high (subst (λ x. can_make x (value w l u u)) low p.made);
         met = sym left ∙ right;

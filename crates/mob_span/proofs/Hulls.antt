@@ -12,7 +12,7 @@ use Rattle.mob_span.specs.Pieces.{PiecesAreClear}
 use Rattle.mob_span.specs.Sets.{in_some}
 use Rattle.mob_span.specs.Remainders.{AreRemainders, IsInBoth, IsInFirstAlone}
 use Rattle.mob_span.proofs.SpanLemmas.{some_instant}
-use Rattle.mob_span.proofs.Insides.{inside_self, inside_has}
+use Rattle.mob_span.proofs.Insides.{inside_self, inside_has, high_on}
 use Rattle.mob_span.proofs.Clearness.{clear_before}
 use Rattle.mob_span.proofs.Shared.{AreAllClear, all_after, later}
 
@@ -31,9 +31,6 @@ through_some s r c h k =
 high_by : (s r : SpanOf) (b : Bool) → before s.upper r.upper ≡ b → is_clear s r ≡ true → has_instant r ≡ true → (before s.upper r.upper || (up_to s.upper r.upper && (r.upper_inc || not s.upper_inc))) ≡ true
 high_by s r true e c k = grind (arith, e)
 high_by s r false e c k = grind (arith, e, c, k, before-trans s.upper r.lower r.upper, before-neither s.upper r.lower, before-neither r.lower r.upper, before-back r.lower r.upper, before-back s.upper r.lower)
-
-high_on : (p s r : Ratio) (i j k : Bool) → (before p s || (up_to p s && (j || not i))) ≡ true → (before s r || (up_to s r && (k || not j))) ≡ true → (before p r || (up_to p r && (k || not i))) ≡ true
-high_on p s r i j k h e = grind (arith, before-trans p s r, before-neither p s, before-neither s r, before-back p r, before-back p s, before-back s r)
 
 pub wider : (h r s : SpanOf) → is_clear h r ≡ true → has_instant r ≡ true → is_inside h s ≡ true → is_inside (joined h r) s ≡ true
 wider h r s c k i = let m = and_parts _ _ i in and_from _ _ m.0 (high_on s.upper h.upper r.upper s.upper_inc h.upper_inc r.upper_inc m.1 (high_by h r (before h.upper r.upper) refl c k))

@@ -1,9 +1,10 @@
 -- The rest of a span without spans in order.
 use Rattle.std.specs.Prelude.{◌≡◌, Bool, true, false, cond, refl, ◌||◌, ◌&&◌, not, List, [], ◌∷◌, IfSome, MatchOption, Option, Some, None}
 use Rattle.std.proofs.Common.{◌++◌, arith, ap, sym, subst, ◌∙◌, true≢false, append_assoc, append-nil}
+use Rattle.std.proofs.lemmas.Bool.{false_from_ne_true}
 use Rattle.mob_ratio.specs.Ratio.{Ratio}
 use Rattle.mob_ratio.specs.Order.{before, up_to}
-use Rattle.mob_ratio.proofs.Order.{before-back, before-trans, before-neither, false_unless}
+use Rattle.mob_ratio.proofs.Order.{before-back, before-trans, before-neither}
 use Rattle.mob_span.specs.Span.{SpanOf, has, has_instant}
 use Rattle.mob_span.specs.Neighbours.{is_clear}
 use Rattle.mob_span.specs.Chained.{OfHead}
@@ -48,7 +49,7 @@ before_has r t m h k = grind (arith, before-trans t r.lower m, before-neither t 
 none_later : (r : SpanOf) (w : List SpanOf) (t m : Ratio) → has r m ≡ true → AreAllClear (λ s. s) r w → precedes t r ≡ true → in_some w t ≡ false
 none_later r [] t m i h k = refl
 none_later r (q ∷ w) t m i h k =
-    let no : has q t ≡ false = false_unless (has q t) (λ e. true≢false (sym (clear_before r q m t h.0 i e) ∙ before-back t m (before_has r t m k i))) in
+    let no : has q t ≡ false = false_from_ne_true (has q t) (λ e. true≢false (sym (clear_before r q m t h.0 i e) ∙ before-back t m (before_has r t m k i))) in
     rw no (none_later r w t m i h.1 k)
 
 left_by : (s p f w : Bool) → (p ≡ true → w ≡ false) → ((s && p) || ((s && f) && not w)) ≡ (s && not ((not p && not f) || w))

@@ -6,7 +6,7 @@ use Rattle.std.specs.List.{AllByRecursion}
 use Rattle.std.proofs.Common.{arith, ap, sym, ◌∙◌, subst, inl, inr, ⊎_elim, true≢false}
 use Rattle.mob_ratio.specs.Ratio.{Ratio}
 use Rattle.mob_ratio.specs.Order.{before, up_to}
-use Rattle.mob_ratio.proofs.Order.{before-back, before-trans, before-neither}
+use Rattle.mob_ratio.proofs.Order.{before-back, before-trans, before-neither, up_to-trans, up_to-not-after, before-up_to, up_to-before}
 use Rattle.mob_span.specs.Span.{SpanOf, has, has_instant}
 use Rattle.mob_span.specs.Neighbours.{is_clear, is_inside}
 use Rattle.mob_span.specs.Meet.{starts_before, ends_before, meet_of}
@@ -15,18 +15,15 @@ use Rattle.mob_span.specs.Sets.{is_apart, IsSpanSet}
 use Rattle.mob_span.specs.Remainders.{front_of, back_of, remainders_of}
 use Rattle.mob_span.proofs.SpanLemmas.{some_upto, has_upto_lower, has_upto_upper, meet_some}
 use Rattle.mob_span.proofs.Ends.{first_by, last_by}
-use Rattle.mob_span.proofs.Touching.{upto_trans}
 use Rattle.mob_span.proofs.Shared.{AreAllClear, all_after}
 use Rattle.mob_span.proofs.Leaving.{set_clear, remainders_clear}
+use Rattle.mob_span.proofs.Insides.{inner_has}
 
 later_from : (a l t : Ratio) (i : Bool) → before a l ≡ true → (before l t || (i && up_to l t)) ≡ true → before a t ≡ true
 later_from a l t i h k = grind (arith, before-trans a l t, before-neither l t)
 
 sooner_to : (t u b : Ratio) (i : Bool) → before u b ≡ true → (before t u || (i && up_to t u)) ≡ true → before t b ≡ true
 sooner_to t u b i h k = grind (arith, before-trans t u b, before-neither t u)
-
-strictly_has : (s : SpanOf) (t : Ratio) → before s.lower t ≡ true → before t s.upper ≡ true → has s t ≡ true
-strictly_has s t h k = grind (arith, h, k)
 
 starts_if : (s r : SpanOf) → before s.lower r.lower ≡ true → starts_before s r ≡ true
 starts_if s r h = grind (arith, h)
@@ -39,17 +36,17 @@ ends_not s r h = grind (arith, h, before-back r.upper s.upper)
 low_meets : (s r : SpanOf) → has_instant r ≡ true → before s.lower r.lower ≡ true → before r.lower s.upper ≡ true → has_instant (meet_of s r) ≡ true
 low_meets s r i a b =
     let m = first_by r s.upper (before r.lower r.upper) (before s.upper r.upper) refl refl i b in
-    (meet_some s r).1 (m.0, and_from _ _ (strictly_has s m.0 (later_from s.lower r.lower m.0 r.lower_inc a (and_parts _ _ m.1).0) m.2) m.1)
+    (meet_some s r).1 (m.0, and_from _ _ (inner_has s m.0 (later_from s.lower r.lower m.0 r.lower_inc a (and_parts _ _ m.1).0) m.2) m.1)
 
 high_meets : (s r : SpanOf) → has_instant r ≡ true → before s.lower r.upper ≡ true → before r.upper s.upper ≡ true → has_instant (meet_of s r) ≡ true
 high_meets s r i a b =
     let m = last_by r s.lower (before r.lower r.upper) (before r.lower s.lower) refl refl i a in
-    (meet_some s r).1 (m.0, and_from _ _ (strictly_has s m.0 m.2 (sooner_to m.0 r.upper s.upper r.upper_inc b (and_parts _ _ m.1).1)) m.1)
+    (meet_some s r).1 (m.0, and_from _ _ (inner_has s m.0 m.2 (sooner_to m.0 r.upper s.upper r.upper_inc b (and_parts _ _ m.1).1)) m.1)
 
 starts_upto : (s r : SpanOf) → starts_before s r ≡ true → up_to s.lower r.lower ≡ true
 starts_upto s r h = grind (arith, before-back s.lower r.lower)
 
-ends_upto : (s r : SpanOf) → ends_before s r ≡ false → up_to r.upper s.upper ≡ true
+pub ends_upto : (s r : SpanOf) → ends_before s r ≡ false → up_to r.upper s.upper ≡ true
 ends_upto s r h = grind (arith, h)
 
 -- a span that starts before one with an instant is not after it
@@ -61,15 +58,6 @@ not_before h w k = grind (arith, k, before-back w.lower h.upper)
 
 not_after_long : (h w : SpanOf) → before h.lower w.upper ≡ true → is_clear w h ≡ false
 not_after_long h w k = grind (arith, k, before-back h.lower w.upper)
-
-before_upto : (a b c : Ratio) → before a b ≡ true → up_to b c ≡ true → before a c ≡ true
-before_upto a b c h k = grind (arith, before-trans a b c, before-neither b c)
-
-upto_before : (a b c : Ratio) → up_to a b ≡ true → before b c ≡ true → before a c ≡ true
-upto_before a b c h k = grind (arith, before-trans a b c, before-neither a b)
-
-not_upto : (a b : Ratio) → before a b ≡ true → up_to b a ≡ true → ⊥
-not_upto a b h k = true≢false (sym h ∙ grind (arith, k))
 
 -- the part before a span has an instant if the whole starts before that span
 front_some_by : (h w : SpanOf) (b : Bool) → is_clear h w ≡ b → has_instant h ≡ true → starts_before h w ≡ true → (before h.lower (cond b h.upper w.lower) || (h.lower_inc && cond b h.upper_inc (not w.lower_inc) && up_to h.lower (cond b h.upper w.lower))) ≡ true
@@ -129,7 +117,7 @@ module _ (P : Ratio → Type 0) (s : SpanOf) (low : P s.lower) (high : P s.upper
   shared_low r true e i k =
       let m = (meet_some s r).0 i in
       let h = and_parts _ _ m.1 in
-      within_by r.lower (before s.lower r.lower) (before r.lower s.upper) refl refl (starts_upto s r e) (upto_trans r.lower m.0 s.upper (has_upto_lower r m.0 h.1) (has_upto_upper s m.0 h.0)) k
+      within_by r.lower (before s.lower r.lower) (before r.lower s.upper) refl refl (starts_upto s r e) (up_to-trans r.lower m.0 s.upper (has_upto_lower r m.0 h.1) (has_upto_upper s m.0 h.0)) k
   shared_low r false e i k = low
 
   shared_high : (r : SpanOf) (b : Bool) → ends_before s r ≡ b → has_instant (meet_of s r) ≡ true → Inner r.upper → P (cond b s.upper r.upper)
@@ -137,7 +125,7 @@ module _ (P : Ratio → Type 0) (s : SpanOf) (low : P s.lower) (high : P s.upper
   shared_high r false e i k =
       let m = (meet_some s r).0 i in
       let h = and_parts _ _ m.1 in
-      within_by r.upper (before s.lower r.upper) (before r.upper s.upper) refl refl (upto_trans s.lower m.0 r.upper (has_upto_lower s m.0 h.0) (has_upto_upper r m.0 h.1)) (ends_upto s r e) k
+      within_by r.upper (before s.lower r.upper) (before r.upper s.upper) refl refl (up_to-trans s.lower m.0 r.upper (has_upto_lower s m.0 h.0) (has_upto_upper r m.0 h.1)) (ends_upto s r e) k
 
   -- P holds for the ends of the spans strictly inside s exactly if it holds for the ends of their
   -- intersections with s
@@ -193,8 +181,8 @@ module _ (P : Ratio → Type 0) (s : SpanOf) (low : P s.lower) (high : P s.upper
   past : (w : SpanOf) (ws : List SpanOf) → up_to s.upper w.upper ≡ true → AreAllClear (λ r. r) w ws → AllByRecursion (λ r. has_instant r ≡ true) ws → InnerEnds ws
   past w [] u c i = tt
   past w (v ∷ ws) u c i =
-      let start : up_to s.upper v.lower ≡ true = upto_trans s.upper w.upper v.lower u (clear_upto w v c.0) in
-      ((λ a b. absurd (not_upto v.lower s.upper b start), λ a b. absurd (not_upto v.upper s.upper b (upto_trans s.upper v.lower v.upper start (some_upto v i.0)))), past w ws u c.1 i.1)
+      let start : up_to s.upper v.lower ≡ true = up_to-trans s.upper w.upper v.lower u (clear_upto w v c.0) in
+      ((λ a b. absurd (up_to-not-after s.upper v.lower start b), λ a b. absurd (up_to-not-after s.upper v.upper (up_to-trans s.upper v.lower v.upper start (some_upto v i.0)) b)), past w ws u c.1 i.1)
     where
       clear_upto : (p q : SpanOf) → is_clear p q ≡ true → up_to p.upper q.lower ≡ true
       clear_upto p q h = grind (arith, before-back p.upper q.lower)
@@ -209,20 +197,20 @@ module _ (P : Ratio → Type 0) (s : SpanOf) (low : P s.lower) (high : P s.upper
       tails = cond (has_instant (back_of h w)) (remainders_of (back_of h w) ws) []
 
       begins : before s.lower w.lower ≡ true → starts_before h w ≡ true
-      begins a = ⊎_elim (λ k. starts_if h w (upto_before h.lower s.lower w.lower k a)) (λ k. k) l
+      begins a = ⊎_elim (λ k. starts_if h w (up_to-before h.lower s.lower w.lower k a)) (λ k. k) l
 
       starts : Inner w.lower
       starts a b =
-          let n : is_clear h w ≡ false = not_before h w (before_upto w.lower s.upper h.upper b u) in
+          let n : is_clear h w ≡ false = not_before h w (before-up_to w.lower s.upper h.upper b u) in
           subst Inner (ap (λ z. cond z h.upper w.lower) n) (front_ends (has_instant (front_of h w)) (front_of h w) tails (front_some h w i (begins a)) g).1 a b
 
       reaches : before s.lower w.upper ≡ true → is_clear w h ≡ false
-      reaches a = ⊎_elim (λ k. not_after_long h w (upto_before h.lower s.lower w.upper k a)) (λ k. not_after h w o.0 k) l
+      reaches a = ⊎_elim (λ k. not_after_long h w (up_to-before h.lower s.lower w.upper k a)) (λ k. not_after h w o.0 k) l
 
       ends : Inner w.upper
       ends a b =
           let n = reaches a in
-          let some : has_instant (back_of h w) ≡ true = back_long_by h w (is_clear w h) n (before_upto w.upper s.upper h.upper b u) in
+          let some : has_instant (back_of h w) ≡ true = back_long_by h w (is_clear w h) n (before-up_to w.upper s.upper h.upper b u) in
           let rest = kept_of (has_instant (back_of h w)) (remainders_of (back_of h w) ws) some (next_of (has_instant (front_of h w)) (front_of h w) tails g) in
           subst Inner (ap (λ z. cond z h.lower w.upper) n) (first_low (back_of h w) ws some (head_later h w ws n o) rest) a b
 
@@ -234,7 +222,7 @@ module _ (P : Ratio → Type 0) (s : SpanOf) (low : P s.lower) (high : P s.upper
       by true e r ih = ih e (lower (is_clear w h) refl) r
       by false e r ih =
           let n : up_to h.upper w.upper ≡ true = back_none_by h w (is_clear w h) refl i e in
-          past w ws (upto_trans s.upper h.upper w.upper u n) (all_after (λ r. r) w ws (set_clear (w ∷ ws) o)) (all_some ws (set_clear ws o.2))
+          past w ws (up_to-trans s.upper h.upper w.upper u n) (all_after (λ r. r) w ws (set_clear (w ∷ ws) o)) (all_some ws (set_clear ws o.2))
 
   inside_low : (h : SpanOf) → is_inside h s ≡ true → up_to h.lower s.lower ≡ true
   inside_low h k = grind (arith, k, before-back h.lower s.lower)
@@ -244,7 +232,7 @@ module _ (P : Ratio → Type 0) (s : SpanOf) (low : P s.lower) (high : P s.upper
 
   -- So s, which lies in h, is cut by the remainders of h at the instants at which the spans cut it.
   pub remainders_cut : (h : SpanOf) (ws : List SpanOf) → is_inside h s ≡ true → PiecesAreClear (λ r. r) ws → SharedEnds ws → SharedEnds (remainders_of h ws)
-  remainders_cut h ws i o k = inner_shared (remainders_of h ws) (remainders_inner h ws (λ a b. absurd (not_upto s.lower h.lower a (inside_low h i))) (λ a b. absurd (not_upto h.upper s.upper b (inside_high h i))) (shared_inner ws (all_some ws o) k))
+  remainders_cut h ws i o k = inner_shared (remainders_of h ws) (remainders_inner h ws (λ a b. absurd (up_to-not-after h.lower s.lower (inside_low h i) a)) (λ a b. absurd (up_to-not-after s.upper h.upper (inside_high h i) b)) (shared_inner ws (all_some ws o) k))
 
   pub spans_cut : (h : SpanOf) (ws : List SpanOf) → is_inside h s ≡ true → has_instant h ≡ true → IsSpanSet ws → SharedEnds (remainders_of h ws) → SharedEnds ws
   spans_cut h ws i j o k = inner_shared ws (spans_inner h ws o j (inl (inside_low h i)) (inside_high h i) (shared_inner (remainders_of h ws) (all_some (remainders_of h ws) (remainders_clear h ws j (set_clear ws o))) k))

@@ -3,6 +3,7 @@ use Rattle.std.specs.Prelude.{◌≡◌, Bool, true, false, cond, ◌&&◌, List
 use Rattle.std.specs.List.{filter}
 use Rattle.std.specs.Iterator.{MakesProgress, item_count}
 use Rattle.std.proofs.Common.{ap, sym, ◌∙◌, subst, length, arith, Some}
+use Rattle.mob_list.proofs.Tests.{neither_true}
 use Rattle.mob_span.specs.Span.{SpanOf, has, has_instant}
 use Rattle.mob_span.specs.Neighbours.{is_clear}
 use Rattle.mob_span.specs.Meet.{ends_before, meet_of}
@@ -30,10 +31,6 @@ module _ {X : Type 0} (span : X → SpanOf) where
   later q r [] f h = tt
   later q r (x ∷ xs) f h = (f (span x) h.0, later q r xs f h.1)
 
-neither : (a b : Bool) → (a ≡ true → b ≡ false) → (a && b) ≡ false
-neither true b h = h refl
-neither false b h = refl
-
 neither' : (a b : Bool) → (b ≡ true → a ≡ false) → (a && b) ≡ false
 neither' true true h = h refl
 neither' true false h = refl
@@ -41,7 +38,7 @@ neither' false b h = refl
 
 -- if one span is clear of another, they share no instant
 pub none_shared : (a b : SpanOf) → is_clear a b ≡ true → has_instant (meet_of a b) ≡ false
-none_shared a b h = (meet_none a b).1 (λ t. neither (has a t) (has b t) (λ k. clear_has a b t h k))
+none_shared a b h = (meet_none a b).1 (λ t. neither_true (has a t) (has b t) (λ k. clear_has a b t h k))
 
 pub none_shared' : (a b : SpanOf) → is_clear b a ≡ true → has_instant (meet_of a b) ≡ false
 none_shared' a b h = (meet_none a b).1 (λ t. neither' (has a t) (has b t) (λ k. clear_has b a t h k))

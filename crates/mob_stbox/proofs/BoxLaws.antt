@@ -4,17 +4,17 @@ use Rattle.std.proofs.lemmas.Bool.{and_parts, and_from}
 use Rattle.std.proofs.Common.{arith, ap, sym, ◌∙◌, true≢false, inl, inr, subst}
 use Rattle.mob_ratio.specs.Ratio.{Ratio, ◌<ℚ◌}
 use Rattle.mob_ratio.specs.Order.{before, up_to}
-use Rattle.mob_ratio.proofs.Order.{before-lt, lt-before, before-back, before-neither}
+use Rattle.mob_ratio.proofs.Order.{before-lt, lt-before, before-back, before-neither, up_to-self, up_to-both}
 use Rattle.mob_span.specs.Span.{SpanOf, InSpan}
 use Rattle.mob_span.specs.Neighbours.{is_inside}
 use Rattle.mob_span.proofs.SpanLemmas.{has_exact}
 use Rattle.mob_span.proofs.Ends.{inside_exact}
-use Rattle.mob_span.proofs.Insides.{inside_self}
+use Rattle.mob_span.proofs.Insides.{inside_self, inside-trans}
 use Rattle.mob_plane.specs.declared.point.Point.{Point}
 use Rattle.mob_stbox.specs.Areas.{InArea, is_area, areas_meet, area_over, area_cover}
 use Rattle.mob_stbox.specs.Boxes.{BoxOf, NoBox, area_stands, span_stands, is_box, is_whole, InBox, in_space, in_time, in_box, both_have, BoxesMeet, where_both, spans_meet, overlaps, BoxContains, lies_in, contains, IsCover, span_cover, of_both, cover}
 use Rattle.mob_stbox.specs.declared.area.Area.{Area}
-use Rattle.mob_stbox.proofs.Sides.{four, upto_self, in_area_exact, areas_meet_exact, spans_meet_exact, area_over_exact, in_over, in_inside, area_over_self, area_over_trans, area_over_meets, area_cover_left, area_cover_right, area_cover_least, over_is_area, inside_meets, inside_trans, span_cover_left, span_cover_right, span_cover_least, span_cover_some}
+use Rattle.mob_stbox.proofs.Sides.{four, in_area_exact, areas_meet_exact, spans_meet_exact, area_over_exact, in_over, in_inside, area_over_self, area_over_trans, area_over_meets, area_cover_left, area_cover_right, area_cover_least, over_is_area, inside_meets, span_cover_left, span_cover_right, span_cover_least, span_cover_some}
 
 -- the dimensions of a box are valid
 pub box_area : (b : BoxOf) → is_box b ≡ true → area_stands b.space ≡ true
@@ -169,7 +169,7 @@ unfolding contains
 over_trans a b c h k =
     let m = and_parts (lies_in area_over a.space b.space) (lies_in is_inside a.time b.time) h in
     let n = and_parts (lies_in area_over b.space c.space) (lies_in is_inside b.time c.time) k in
-    and_from (lies_in area_over a.space c.space) (lies_in is_inside a.time c.time) (trans_over area_over area_over_trans a.space b.space c.space m.0 n.0) (trans_over is_inside inside_trans a.time b.time c.time m.1 n.1)
+    and_from (lies_in area_over a.space c.space) (lies_in is_inside a.time c.time) (trans_over area_over area_over_trans a.space b.space c.space m.0 n.0) (trans_over is_inside inside-trans a.time b.time c.time m.1 n.1)
 
 pub over_self : (a : BoxOf) → contains a a ≡ true
 unfolding contains
@@ -285,21 +285,18 @@ made_box a time (Some b) h n v = ap Some v
 
 -- a single point is an area
 pub point_is_area : (x y : Ratio) → is_area (record { xmin = x; xmax = x; ymin = y; ymax = y }) ≡ true
-point_is_area x y = and_from (up_to x x) (up_to y y) (upto_self x) (upto_self y)
+point_is_area x y = and_from (up_to x x) (up_to y y) (up_to-self x) (up_to-self y)
 
 -- ---- two boxes that contain each other are equal
-
-upto_both : (s t : Ratio) → up_to s t ≡ true → up_to t s ≡ true → s ≡ t
-upto_both s t h k = before-neither s t (grind (arith, k)) (grind (arith, h))
 
 area_both : (a b : Area) → area_over a b ≡ true → area_over b a ≡ true → a ≡ b
 area_both a b h k =
     let i = four (up_to a.xmin b.xmin) (up_to b.xmax a.xmax) (up_to a.ymin b.ymin) (up_to b.ymax a.ymax) h in
     let j = four (up_to b.xmin a.xmin) (up_to a.xmax b.xmax) (up_to b.ymin a.ymin) (up_to a.ymax b.ymax) k in
-    let p = upto_both a.xmin b.xmin i.0 j.0 in
-    let q = upto_both a.xmax b.xmax j.1 i.1 in
-    let r = upto_both a.ymin b.ymin i.2 j.2 in
-    let s = upto_both a.ymax b.ymax j.3 i.3 in
+    let p = up_to-both a.xmin b.xmin i.0 j.0 in
+    let q = up_to-both a.xmax b.xmax j.1 i.1 in
+    let r = up_to-both a.ymin b.ymin i.2 j.2 in
+    let s = up_to-both a.ymax b.ymax j.3 i.3 in
     λ n. record { xmin = p n; xmax = q n; ymin = r n; ymax = s n }
 
 end_both : (a b : Ratio) (i j : Bool) → (before a b || (up_to a b && (i || not j))) ≡ true → (before b a || (up_to b a && (j || not i))) ≡ true → (a ≡ b) × (i ≡ j)

@@ -5,7 +5,7 @@ use Rattle.std.proofs.Common.{arith}
 use Rattle.mob_ratio.specs.Ratio.{Ratio, whole, ◌+ℚ◌, ◌-ℚ◌, ◌≤ℚ◌, neg_ℚ}
 use Rattle.mob_ratio.specs.Order.{before, up_to}
 use Rattle.mob_ratio.proofs.Clear.{clear2, clear3, clear4, cleared}
-use Rattle.mob_ratio.proofs.Field.{le_refl, le_trans, le_of_lt}
+use Rattle.mob_ratio.proofs.Field.{le_refl, le_trans, le_of_lt, le_add}
 use Rattle.mob_ratio.proofs.IntRing.{linear}
 use Rattle.mob_ratio.proofs.Order.{before-lt, up_to-le, not-up_to-le}
 use Rattle.mob_plane.specs.declared.point.Point.{Point}
@@ -23,9 +23,6 @@ more_up = clear2 _ (λ D p d q h. let h' = simp cleared at h in simp cleared (om
 
 down_both : (a b d : Ratio) → a ≤ℚ b → (a -ℚ d) ≤ℚ (b -ℚ d)
 down_both = clear3 _ (λ D a b d q h. let h' = simp cleared at h in simp cleared (omega (arith, linear)))
-
-up_both : (a b d : Ratio) → a ≤ℚ b → (a +ℚ d) ≤ℚ (b +ℚ d)
-up_both = clear3 _ (λ D a b d q h. let h' = simp cleared at h in simp cleared (omega (arith, linear)))
 
 low_in : (l d p q : Ratio) → (l -ℚ d) ≤ℚ p → (p -ℚ neg_ℚ d) ≤ℚ q → l ≤ℚ q
 low_in = clear4 _ (λ D l d p q r h k. let h' = simp cleared at h in let k' = simp cleared at k in simp cleared (omega (arith, linear)))
@@ -74,9 +71,9 @@ moved_outward a d h k p = (
       let q = m.0 in
       record {
         from_west = le_trans (a.xmin -ℚ d) (q.x -ℚ d) p.x (down_both a.xmin q.x d m.1.from_west) m.2.from_west;
-        to_east = le_trans p.x (q.x +ℚ d) (a.xmax +ℚ d) m.2.to_east (up_both q.x a.xmax d m.1.to_east);
+        to_east = le_trans p.x (q.x +ℚ d) (a.xmax +ℚ d) m.2.to_east (le_add q.x a.xmax d m.1.to_east);
         from_south = le_trans (a.ymin -ℚ d) (q.y -ℚ d) p.y (down_both a.ymin q.y d m.1.from_south) m.2.from_south;
-        to_north = le_trans p.y (q.y +ℚ d) (a.ymax +ℚ d) m.2.to_north (up_both q.y a.ymax d m.1.to_north);
+        to_north = le_trans p.y (q.y +ℚ d) (a.ymax +ℚ d) m.2.to_north (le_add q.y a.ymax d m.1.to_north);
       },
 )
 

@@ -2,25 +2,18 @@
 use Rattle.std.specs.Prelude.{◌≡◌, ◌↔◌, Bool, true, false, cond, refl, ◌||◌, ◌&&◌, not, IsTrue}
 use Rattle.std.proofs.lemmas.Bool.{and_parts, and_from}
 use Rattle.std.proofs.Common.{arith, sym, ◌∙◌, true≢false}
-use Rattle.mob_ratio.proofs.Between.{as_test}
 use Rattle.mob_ratio.specs.Ratio.{Ratio}
-use Rattle.mob_ratio.specs.Order.{before, up_to}
-use Rattle.mob_ratio.proofs.Order.{before-self, before-back, before-trans, before-neither, not-up_to-le}
+use Rattle.mob_ratio.specs.Order.{before, up_to, smaller, greater}
+use Rattle.mob_ratio.proofs.Order.{before-self, before-back, before-trans, before-neither, not-up_to-le, smaller_left, smaller_right, greater_left, greater_right, le-test, up_to-trans, up_to-self, greater_least}
 use Rattle.mob_span.specs.Span.{SpanOf, InSpan, has, has_instant}
 use Rattle.mob_span.specs.Meet.{meet_of, starts_before, ends_before}
 use Rattle.mob_span.specs.Neighbours.{is_inside}
 use Rattle.mob_span.proofs.SpanLemmas.{has_exact, some_instant, instant_some, meet_some}
-use Rattle.mob_span.proofs.Insides.{inside_has}
-use Rattle.mob_span.proofs.Touching.{upto_trans}
-use Rattle.mob_plane.specs.Corners.{smaller, greater}
+use Rattle.mob_span.proofs.Insides.{inside_has, inside-trans}
 use Rattle.mob_plane.specs.declared.point.Point.{Point}
-use Rattle.mob_plane.proofs.Widening.{smaller_left, smaller_right, greater_left, greater_right}
 use Rattle.mob_stbox.specs.Areas.{InArea, in_area, is_area, areas_meet, area_over, area_cover, area_between, IsAreaOver}
 use Rattle.mob_stbox.specs.Boxes.{span_cover}
 use Rattle.mob_stbox.specs.declared.area.Area.{Area}
-
-pub upto_self : (t : Ratio) → up_to t t ≡ true
-upto_self t = grind (arith, before-self t)
 
 pub four : (a b c d : Bool) → (a && b && (c && d)) ≡ true → (a ≡ true) × (b ≡ true) × (c ≡ true) × (d ≡ true)
 four a b c d h = let k = and_parts (a && b) (c && d) h in let l = and_parts a b k.0 in let r = and_parts c d k.1 in (l.0, l.1, r.0, r.1)
@@ -37,7 +30,7 @@ in_area_exact a p = (
     from_south = not-up_to-le a.ymin p.y k.2;
     to_north = not-up_to-le p.y a.ymax k.3;
   },
-  λ h. all_four (up_to a.xmin p.x) (up_to p.x a.xmax) (up_to a.ymin p.y) (up_to p.y a.ymax) (as_test a.xmin p.x h.from_west) (as_test p.x a.xmax h.to_east) (as_test a.ymin p.y h.from_south) (as_test p.y a.ymax h.to_north),
+  λ h. all_four (up_to a.xmin p.x) (up_to p.x a.xmax) (up_to a.ymin p.y) (up_to p.y a.ymax) (le-test a.xmin p.x h.from_west) (le-test p.x a.xmax h.to_east) (le-test a.ymin p.y h.from_south) (le-test p.y a.ymax h.to_north),
 )
 
 -- on one axis: two intervals share the greater of their lower ends, or no number
@@ -48,18 +41,18 @@ pub record IsShared (al ah bl bh x : Ratio) : Type 0 where
   pub to_b : up_to x bh ≡ true
 
 axis_shared : (al ah bl bh : Ratio) (b : Bool) → before al bl ≡ b → up_to al ah ≡ true → up_to bl bh ≡ true → up_to al bh ≡ true → up_to bl ah ≡ true → IsShared al ah bl bh (cond b bl al)
-axis_shared al ah bl bh true e h k l m = record { from_a = grind (arith, before-back al bl e); to_a = m; from_b = upto_self bl; to_b = k }
-axis_shared al ah bl bh false e h k l m = record { from_a = upto_self al; to_a = h; from_b = grind (arith, e); to_b = l }
+axis_shared al ah bl bh true e h k l m = record { from_a = grind (arith, before-back al bl e); to_a = m; from_b = up_to-self bl; to_b = k }
+axis_shared al ah bl bh false e h k l m = record { from_a = up_to-self al; to_a = h; from_b = grind (arith, e); to_b = l }
 
 -- an area has a point exactly if no smallest coordinate is above its greatest
 pub area_has_point : (a : Area) → (is_area a ≡ true) ↔ ((p : Point) × InArea a p)
 area_has_point a = (
   λ h.
       let k = and_parts (up_to a.xmin a.xmax) (up_to a.ymin a.ymax) h in
-      (record { x = a.xmin; y = a.ymin }, (in_area_exact a (record { x = a.xmin; y = a.ymin })).0 (all_four (up_to a.xmin a.xmin) (up_to a.xmin a.xmax) (up_to a.ymin a.ymin) (up_to a.ymin a.ymax) (upto_self a.xmin) k.0 (upto_self a.ymin) k.1)),
+      (record { x = a.xmin; y = a.ymin }, (in_area_exact a (record { x = a.xmin; y = a.ymin })).0 (all_four (up_to a.xmin a.xmin) (up_to a.xmin a.xmax) (up_to a.ymin a.ymin) (up_to a.ymin a.ymax) (up_to-self a.xmin) k.0 (up_to-self a.ymin) k.1)),
   λ m.
       let k = four (up_to a.xmin m.0.x) (up_to m.0.x a.xmax) (up_to a.ymin m.0.y) (up_to m.0.y a.ymax) ((in_area_exact a m.0).1 m.1) in
-      and_from (up_to a.xmin a.xmax) (up_to a.ymin a.ymax) (upto_trans a.xmin m.0.x a.xmax k.0 k.1) (upto_trans a.ymin m.0.y a.ymax k.2 k.3),
+      and_from (up_to a.xmin a.xmax) (up_to a.ymin a.ymax) (up_to-trans a.xmin m.0.x a.xmax k.0 k.1) (up_to-trans a.ymin m.0.y a.ymax k.2 k.3),
 )
 
 -- two areas share a point exactly if on each axis neither lies wholly on one side of the other
@@ -80,7 +73,7 @@ areas_meet_exact a b h k = (
       let p = m.0 in
       let i = four (up_to a.xmin p.x) (up_to p.x a.xmax) (up_to a.ymin p.y) (up_to p.y a.ymax) ((in_area_exact a p).1 m.1) in
       let j = four (up_to b.xmin p.x) (up_to p.x b.xmax) (up_to b.ymin p.y) (up_to p.y b.ymax) ((in_area_exact b p).1 m.2) in
-      all_four (up_to a.xmin b.xmax) (up_to b.xmin a.xmax) (up_to a.ymin b.ymax) (up_to b.ymin a.ymax) (upto_trans a.xmin p.x b.xmax i.0 j.1) (upto_trans b.xmin p.x a.xmax j.0 i.1) (upto_trans a.ymin p.y b.ymax i.2 j.3) (upto_trans b.ymin p.y a.ymax j.2 i.3),
+      all_four (up_to a.xmin b.xmax) (up_to b.xmin a.xmax) (up_to a.ymin b.ymax) (up_to b.ymin a.ymax) (up_to-trans a.xmin p.x b.xmax i.0 j.1) (up_to-trans b.xmin p.x a.xmax j.0 i.1) (up_to-trans a.ymin p.y b.ymax i.2 j.3) (up_to-trans b.ymin p.y a.ymax j.2 i.3),
 )
 
 -- a point in an area is in an area that contains it
@@ -88,7 +81,7 @@ pub in_over : (a b : Area) (p : Point) → area_over a b ≡ true → InArea b p
 in_over a b p h k =
     let i = four (up_to a.xmin b.xmin) (up_to b.xmax a.xmax) (up_to a.ymin b.ymin) (up_to b.ymax a.ymax) h in
     let j = four (up_to b.xmin p.x) (up_to p.x b.xmax) (up_to b.ymin p.y) (up_to p.y b.ymax) ((in_area_exact b p).1 k) in
-    (in_area_exact a p).0 (all_four (up_to a.xmin p.x) (up_to p.x a.xmax) (up_to a.ymin p.y) (up_to p.y a.ymax) (upto_trans a.xmin b.xmin p.x i.0 j.0) (upto_trans p.x b.xmax a.xmax j.1 i.1) (upto_trans a.ymin b.ymin p.y i.2 j.2) (upto_trans p.y b.ymax a.ymax j.3 i.3))
+    (in_area_exact a p).0 (all_four (up_to a.xmin p.x) (up_to p.x a.xmax) (up_to a.ymin p.y) (up_to p.y a.ymax) (up_to-trans a.xmin b.xmin p.x i.0 j.0) (up_to-trans p.x b.xmax a.xmax j.1 i.1) (up_to-trans a.ymin b.ymin p.y i.2 j.2) (up_to-trans p.y b.ymax a.ymax j.3 i.3))
 
 -- an area lies in another exactly if each of its points does
 pub area_over_exact : (a b : Area) → is_area b ≡ true → (area_over a b ≡ true) ↔ ((p : Point) → InArea b p → InArea a p)
@@ -98,38 +91,35 @@ area_over_exact a b h = (
       let s = and_parts (up_to b.xmin b.xmax) (up_to b.ymin b.ymax) h in
       let p : Point = record { x = b.xmin; y = b.ymin } in
       let q : Point = record { x = b.xmax; y = b.ymax } in
-      let i = (in_area_exact a p).1 (f p ((in_area_exact b p).0 (all_four (up_to b.xmin b.xmin) (up_to b.xmin b.xmax) (up_to b.ymin b.ymin) (up_to b.ymin b.ymax) (upto_self b.xmin) s.0 (upto_self b.ymin) s.1))) in
-      let j = (in_area_exact a q).1 (f q ((in_area_exact b q).0 (all_four (up_to b.xmin b.xmax) (up_to b.xmax b.xmax) (up_to b.ymin b.ymax) (up_to b.ymax b.ymax) s.0 (upto_self b.xmax) s.1 (upto_self b.ymax)))) in
+      let i = (in_area_exact a p).1 (f p ((in_area_exact b p).0 (all_four (up_to b.xmin b.xmin) (up_to b.xmin b.xmax) (up_to b.ymin b.ymin) (up_to b.ymin b.ymax) (up_to-self b.xmin) s.0 (up_to-self b.ymin) s.1))) in
+      let j = (in_area_exact a q).1 (f q ((in_area_exact b q).0 (all_four (up_to b.xmin b.xmax) (up_to b.xmax b.xmax) (up_to b.ymin b.ymax) (up_to b.ymax b.ymax) s.0 (up_to-self b.xmax) s.1 (up_to-self b.ymax)))) in
       let k = four (up_to a.xmin b.xmin) (up_to b.xmin a.xmax) (up_to a.ymin b.ymin) (up_to b.ymin a.ymax) i in
       let l = four (up_to a.xmin b.xmax) (up_to b.xmax a.xmax) (up_to a.ymin b.ymax) (up_to b.ymax a.ymax) j in
       all_four (up_to a.xmin b.xmin) (up_to b.xmax a.xmax) (up_to a.ymin b.ymin) (up_to b.ymax a.ymax) k.0 l.1 k.2 l.3,
 )
 
 pub area_over_self : (a : Area) → area_over a a ≡ true
-area_over_self a = all_four (up_to a.xmin a.xmin) (up_to a.xmax a.xmax) (up_to a.ymin a.ymin) (up_to a.ymax a.ymax) (upto_self a.xmin) (upto_self a.xmax) (upto_self a.ymin) (upto_self a.ymax)
+area_over_self a = all_four (up_to a.xmin a.xmin) (up_to a.xmax a.xmax) (up_to a.ymin a.ymin) (up_to a.ymax a.ymax) (up_to-self a.xmin) (up_to-self a.xmax) (up_to-self a.ymin) (up_to-self a.ymax)
 
 pub area_over_trans : (a b c : Area) → area_over a b ≡ true → area_over b c ≡ true → area_over a c ≡ true
 area_over_trans a b c h k =
     let i = four (up_to a.xmin b.xmin) (up_to b.xmax a.xmax) (up_to a.ymin b.ymin) (up_to b.ymax a.ymax) h in
     let j = four (up_to b.xmin c.xmin) (up_to c.xmax b.xmax) (up_to b.ymin c.ymin) (up_to c.ymax b.ymax) k in
-    all_four (up_to a.xmin c.xmin) (up_to c.xmax a.xmax) (up_to a.ymin c.ymin) (up_to c.ymax a.ymax) (upto_trans a.xmin b.xmin c.xmin i.0 j.0) (upto_trans c.xmax b.xmax a.xmax j.1 i.1) (upto_trans a.ymin b.ymin c.ymin i.2 j.2) (upto_trans c.ymax b.ymax a.ymax j.3 i.3)
+    all_four (up_to a.xmin c.xmin) (up_to c.xmax a.xmax) (up_to a.ymin c.ymin) (up_to c.ymax a.ymax) (up_to-trans a.xmin b.xmin c.xmin i.0 j.0) (up_to-trans c.xmax b.xmax a.xmax j.1 i.1) (up_to-trans a.ymin b.ymin c.ymin i.2 j.2) (up_to-trans c.ymax b.ymax a.ymax j.3 i.3)
 
 -- whatever meets an area meets an area that contains it
 pub area_over_meets : (a b q : Area) → area_over a b ≡ true → areas_meet b q ≡ true → areas_meet a q ≡ true
 area_over_meets a b q h k =
     let i = four (up_to a.xmin b.xmin) (up_to b.xmax a.xmax) (up_to a.ymin b.ymin) (up_to b.ymax a.ymax) h in
     let j = four (up_to b.xmin q.xmax) (up_to q.xmin b.xmax) (up_to b.ymin q.ymax) (up_to q.ymin b.ymax) k in
-    all_four (up_to a.xmin q.xmax) (up_to q.xmin a.xmax) (up_to a.ymin q.ymax) (up_to q.ymin a.ymax) (upto_trans a.xmin b.xmin q.xmax i.0 j.0) (upto_trans q.xmin b.xmax a.xmax j.1 i.1) (upto_trans a.ymin b.ymin q.ymax i.2 j.2) (upto_trans q.ymin b.ymax a.ymax j.3 i.3)
+    all_four (up_to a.xmin q.xmax) (up_to q.xmin a.xmax) (up_to a.ymin q.ymax) (up_to q.ymin a.ymax) (up_to-trans a.xmin b.xmin q.xmax i.0 j.0) (up_to-trans q.xmin b.xmax a.xmax j.1 i.1) (up_to-trans a.ymin b.ymin q.ymax i.2 j.2) (up_to-trans q.ymin b.ymax a.ymax j.3 i.3)
 
 smaller_least : (s t u : Ratio) → up_to u s ≡ true → up_to u t ≡ true → up_to u (smaller s t) ≡ true
 smaller_least s t u h k = grind arith
 
-greater_least : (s t u : Ratio) → up_to s u ≡ true → up_to t u ≡ true → up_to (greater s t) u ≡ true
-greater_least s t u h k = grind arith
-
 -- the bounding box of two points
 pub between_is_area : (p q : Point) → is_area (area_between p q) ≡ true
-between_is_area p q = and_from (up_to (smaller p.x q.x) (greater p.x q.x)) (up_to (smaller p.y q.y) (greater p.y q.y)) (upto_trans (smaller p.x q.x) p.x (greater p.x q.x) (smaller_left p.x q.x) (greater_left p.x q.x)) (upto_trans (smaller p.y q.y) p.y (greater p.y q.y) (smaller_left p.y q.y) (greater_left p.y q.y))
+between_is_area p q = and_from (up_to (smaller p.x q.x) (greater p.x q.x)) (up_to (smaller p.y q.y) (greater p.y q.y)) (up_to-trans (smaller p.x q.x) p.x (greater p.x q.x) (smaller_left p.x q.x) (greater_left p.x q.x)) (up_to-trans (smaller p.y q.y) p.y (greater p.y q.y) (smaller_left p.y q.y) (greater_left p.y q.y))
 
 -- an area that contains two points contains their bounding box
 pub between_least : (p q : Point) (b : Area) → InArea b p → InArea b q → area_over b (area_between p q) ≡ true
@@ -180,7 +170,7 @@ pub over_is_area : (a b : Area) → area_over a b ≡ true → is_area b ≡ tru
 over_is_area a b h k =
     let i = four (up_to a.xmin b.xmin) (up_to b.xmax a.xmax) (up_to a.ymin b.ymin) (up_to b.ymax a.ymax) h in
     let s = and_parts (up_to b.xmin b.xmax) (up_to b.ymin b.ymax) k in
-    and_from (up_to a.xmin a.xmax) (up_to a.ymin a.ymax) (upto_trans a.xmin b.xmin a.xmax i.0 (upto_trans b.xmin b.xmax a.xmax s.0 i.1)) (upto_trans a.ymin b.ymin a.ymax i.2 (upto_trans b.ymin b.ymax a.ymax s.1 i.3))
+    and_from (up_to a.xmin a.xmax) (up_to a.ymin a.ymax) (up_to-trans a.xmin b.xmin a.xmax i.0 (up_to-trans b.xmin b.xmax a.xmax s.0 i.1)) (up_to-trans a.ymin b.ymin a.ymax i.2 (up_to-trans b.ymin b.ymax a.ymax s.1 i.3))
 
 -- spans: an instant in a span is in a span that contains it
 pub in_inside : (s r : SpanOf) (t : Ratio) → is_inside s r ≡ true → has r t ≡ true → has s t ≡ true
@@ -203,18 +193,6 @@ inside_meets a b q h k = let m = (meet_some b q).0 k in let i = and_parts (has b
 
 pub inside_some : (s r : SpanOf) → is_inside s r ≡ true → has_instant r ≡ true → has_instant s ≡ true
 inside_some s r h k = let m = some_instant r k in instant_some s m.0 (in_inside s r m.0 h m.1)
-
-low_trans : (a b c : Ratio) (i j k : Bool) → (before a b || (up_to a b && (i || not j))) ≡ true → (before b c || (up_to b c && (j || not k))) ≡ true → (before a c || (up_to a c && (i || not k))) ≡ true
-low_trans a b c i j k h m = grind (arith, before-trans a b c, before-neither a b, before-neither b c, before-back a c, before-back a b, before-back b c)
-
-pub inside_trans : (a b c : SpanOf) → is_inside a b ≡ true → is_inside b c ≡ true → is_inside a c ≡ true
-inside_trans a b c h k =
-    let m = and_parts _ _ h in
-    let n = and_parts _ _ k in
-    and_from _ _ (low_trans a.lower b.lower c.lower a.lower_inc b.lower_inc c.lower_inc m.0 n.0) (high_trans c.upper b.upper a.upper c.upper_inc b.upper_inc a.upper_inc n.1 m.1)
-  where
-    high_trans : (c b a : Ratio) (k j i : Bool) → (before c b || (up_to c b && (j || not k))) ≡ true → (before b a || (up_to b a && (i || not j))) ≡ true → (before c a || (up_to c a && (i || not k))) ≡ true
-    high_trans c b a k j i h m = grind (arith, before-trans c b a, before-neither c b, before-neither b a, before-back c a, before-back c b, before-back b a)
 
 low_left : (l m : Ratio) (i j b : Bool) → (before m l || (up_to m l && j && not i)) ≡ b → (before (cond b m l) l || (up_to (cond b m l) l && (cond b j i || not i))) ≡ true
 low_left l m i j true h = grind (arith, h)

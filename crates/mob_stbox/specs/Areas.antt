@@ -1,9 +1,8 @@
 -- Closed rectangles of the plane.
 use Rattle.std.specs.Prelude.{Bool, ◌&&◌}
 use Rattle.mob_ratio.specs.Ratio.{◌≤ℚ◌}
-use Rattle.mob_ratio.specs.Order.{up_to, same}
+use Rattle.mob_ratio.specs.Order.{up_to, same, smaller, greater}
 use Rattle.mob_plane.specs.declared.point.Point.{Point}
-use Rattle.mob_plane.specs.Corners.{smaller, greater}
 use Rattle.mob_stbox.specs.declared.area.Area.{Area}
 
 -- The point p lies in the area a: each of its coordinates is at least the smallest and at most the

@@ -1,6 +1,7 @@
 -- The aggregate of two concatenated lists is that of the two aggregates.
 use Rattle.std.specs.Prelude.{◌≡◌, Bool, true, false, cond, ◌&&◌, ◌||◌, ◌+◌, pos, refl, List, [], ◌∷◌, ◌++◌, length, Option, Some, None, option_map}
 use Rattle.std.proofs.Common.{ap, sym, ◌∙◌, arith}
+use Rattle.mob_lifted.proofs.Options.{none_some}
 use Rattle.mob_ratio.specs.Ratio.{Ratio, whole, ◌+ℚ◌}
 use Rattle.mob_span.proofs.SpanLemmas.{some_instant}
 use Rattle.mob_slice.specs.Cut.{slice_value}
@@ -13,9 +14,6 @@ use Rattle.mob_ratio.proofs.IntRing.{linear}
 use Rattle.mob_normal.specs.OneNormal.{OneNormal}
 use Rattle.mob_tagg.specs.United.{united_by, AreUnited}
 use Rattle.mob_tagg.specs.Aggregates.{put_there, values_at, made_of, IsAggregate, JoinsBy, total, count, all_hold, some_holds}
-
-none_some : {A R : Type 0} (x : A) → None ≡ Some x → R
-none_some x e = cc
 
 append_none : {B : Type 0} (xs : List B) → xs ++ [] ≡ xs
 append_none [] = refl

@@ -2,13 +2,9 @@
 use Rattle.std.specs.List.{AllZip}
 use Rattle.std.specs.Prelude.{◌≡◌, Bool, refl, List, [], ◌∷◌, ◌++◌, Option, Some, None, Result, Ok, Err}
 use Rattle.std.proofs.Common.{ap, ap₂, sym, ◌∙◌, subst, inl, inr}
+use Rattle.std.proofs.lemmas.Option.{same_Some}
+use Rattle.mob_lifted.proofs.Options.{none_some}
 use Rattle.mob_tagg.specs.Rows.{IsAddedTo, IsItem, IsTuple, earlier, IsRowFault}
-
-none_some : {A R : Type 0} (x : A) → None ≡ Some x → R
-none_some x e = cc
-
-same_some : {A : Type 0} (x y : A) → Some x ≡ Some y → x ≡ y
-same_some x y e = cc
 
 module _ {T I V F : Type 0} (evaluates : T → I → Result V F → Type 0) (adds : I → List V → V → Option F → Type 0)
     (one_value : (t : T) (i : I) (r s : Result V F) → evaluates t i r → evaluates t i s → r ≡ s)
@@ -62,7 +58,7 @@ module _ {T I V F : Type 0} (evaluates : T → I → Result V F → Type 0) (add
 
   pub one_row_fault : (same_group : T → T → Bool) (items : List I) (before ts : List T) (o p : Option (T × F)) → IsRowFault evaluates adds same_group items before ts o → IsRowFault evaluates adds same_group items before ts p → o ≡ p
   one_row_fault same_group items before [] o p h k = h ∙ sym k
-  one_row_fault same_group items before (t ∷ ts) o p (inl h) (inl k) = h.2 ∙ ap (λ z. Some (t, z)) (same_some h.0 k.0 (one_tuple (earlier same_group before t) t items (Some h.0) (Some k.0) h.1 k.1)) ∙ sym k.2
+  one_row_fault same_group items before (t ∷ ts) o p (inl h) (inl k) = h.2 ∙ ap (λ z. Some (t, z)) (same_Some h.0 k.0 (one_tuple (earlier same_group before t) t items (Some h.0) (Some k.0) h.1 k.1)) ∙ sym k.2
   one_row_fault same_group items before (t ∷ ts) o p (inl h) (inr k) = none_some h.0 (one_tuple (earlier same_group before t) t items None (Some h.0) k.0 h.1)
   one_row_fault same_group items before (t ∷ ts) o p (inr h) (inl k) = none_some k.0 (one_tuple (earlier same_group before t) t items None (Some k.0) h.0 k.1)
   one_row_fault same_group items before (t ∷ ts) o p (inr h) (inr k) = one_row_fault same_group items (before ++ t ∷ []) ts o p h.1 k.1

@@ -5,8 +5,8 @@ use Rattle.std.proofs.Common.{arith, ap, sym, ◌∙◌, subst, inl, inr, take, 
 use Rattle.std.proofs.lemmas.List.{map-append, take_more, take-append-drop, length-take-le}
 use Rattle.std.proofs.lemmas.Option.{none-some, same_Some}
 use Rattle.csv.specs.Records.{AllText}
-use Rattle.mob_cells.proofs.Making.{list_read}
 use Rattle.mob_list.proofs.Each.{each_both}
+use Rattle.mob_list.proofs.Entries.{drop_read}
 use Rattle.mob_ratio.specs.Ratio.{Ratio}
 use Rattle.mob_list.specs.Faults.{OnCause, fault_at}
 use Rattle.mob_slice.specs.Entries.{IsFirst}
@@ -39,7 +39,7 @@ module _ {A : Type 0} (xs : List A) (i : ℕ) (x : A) (lt : i < length xs) (is :
   map_more f ys next y e h k = e ∙ ap (λ z. z ++ y ∷ []) h ∙ ap (λ z. map f (take i xs) ++ z ∷ []) k ∙ sym (ap (λ z. map f z) more ∙ map-append f (take i xs) (x ∷ []))
 
   pub parted : xs ≡ take i xs ++ x ∷ drop (i + 1) xs
-  parted = sym (take-append-drop i xs) ∙ ap (λ z. take i xs ++ z) (list_read xs i x lt is)
+  parted = sym (take-append-drop i xs) ∙ ap (λ z. take i xs ++ z) (drop_read xs i x lt is)
 
 -- the row that a look-up by its number finds
 pub row_found : {A : Type 0} (xs : List A) (i : ℕ) (x : A) → Some x ≡ slice_get xs i → (i < length xs) × (x ≡ get_or xs i x)

@@ -2,16 +2,14 @@
 use Rattle.std.proofs.Common.{◌≡◌, Bool, true, false, arith, refl, sym, subst, ◌&&◌, ◌||◌, not}
 use Rattle.std.proofs.lemmas.Bool.{and_parts}
 use Rattle.mob_ratio.specs.Ratio.{Ratio, ◌≤ℚ◌}
-use Rattle.mob_ratio.specs.Order.{before, up_to}
+use Rattle.mob_ratio.specs.Order.{before, up_to, smaller, greater}
 use Rattle.mob_ratio.specs.Line.{line_at}
-use Rattle.mob_ratio.proofs.Order.{before-back, before-self, not-up_to-le}
+use Rattle.mob_ratio.proofs.Order.{before-back, before-self, not-up_to-le, smaller_left, smaller_right}
 use Rattle.mob_ratio.proofs.LineAt.{line_at-short}
 use Rattle.mob_ratio.proofs.Between.{within}
 use Rattle.mob_span.specs.Span.{SpanOf, has_instant}
 use Rattle.mob_span.specs.Neighbours.{is_inside}
-use Rattle.mob_plane.specs.Corners.{smaller, greater}
 use Rattle.mob_plane.specs.declared.point.Point.{Point}
-use Rattle.mob_plane.proofs.Widening.{smaller_left, smaller_right}
 use Rattle.mob_stbox.specs.Areas.{InArea, area_between}
 use Rattle.mob_slice.specs.Slices.{IsSound}
 use Rattle.mob_slice.specs.Cut.{slice_value}

@@ -8,12 +8,11 @@ use Rattle.std.specs.List.Sorted.{IsPermutation, IsSortedBy}
 use Rattle.std.specs.Ordering.{is_lt}
 use Rattle.std.specs.declared.cmp.Ordering.TheVariants.{Less, Equal, Greater}
 use Rattle.mob_ratio.specs.Ratio.{Ratio, ◌-ℚ◌, ◌<ℚ◌, ◌≤ℚ◌}
-use Rattle.mob_ratio.specs.Order.{before, up_to}
+use Rattle.mob_ratio.specs.Order.{before, up_to, smaller, greater}
 use Rattle.mob_ratio.specs.Sign.{nil, opposite, root_at}
-use Rattle.mob_ratio.proofs.Order.{before-lt, before-back, before-self, not-up_to-le}
+use Rattle.mob_ratio.proofs.Order.{before-lt, before-back, before-self, not-up_to-le, smaller_left, smaller_right, le-test}
 use Rattle.mob_ratio.proofs.Field.{le_of_lt, le_trans, lt_trans, cases_lt, le_lt, lt_le}
 use Rattle.mob_ratio.proofs.Signs.{sign-diff, opposite_cases, sign_below, sign_above}
-use Rattle.mob_ratio.proofs.Between.{as_test}
 use Rattle.std.specs.Prelude.{Contains}
 use Rattle.std.proofs.lemmas.List.Sorted.{sorted_far, Contains-permutation}
 use Rattle.std.proofs.lemmas.List.MinMax.{ranks_by}
@@ -23,9 +22,7 @@ use Rattle.mob_slice.specs.Ranks.{compare_ratio}
 use Rattle.mob_slice.specs.RankLaws.{ranking_ratio}
 use Rattle.mob_cells.proofs.Zeros.{one_root}
 use Rattle.mob_span.specs.Span.{SpanOf, has_instant}
-use Rattle.mob_plane.specs.Corners.{smaller, greater}
 use Rattle.mob_plane.specs.declared.point.Point.{Point}
-use Rattle.mob_plane.proofs.Widening.{smaller_left, smaller_right}
 use Rattle.mob_slice.specs.Slices.{IsSound}
 use Rattle.mob_slice.specs.declared.slice.Slice.{Slice}
 use Rattle.mob_slice.specs.declared.line.PlaneLine.{PlaneLine}
@@ -243,8 +240,8 @@ module _ (g : GridOf) (s : Slice PlaneLine) (ok : IsGrid g) where
   time_between n h k =
       let l = band_has g.width s.span.lower ok.some_width in
       let u = band_has g.width s.span.upper ok.some_width in (
-        as_test s.span.lower (edge_of g.width n) (le_trans s.span.lower (edge_of g.width (band_of g.width s.span.lower +ℤ pos 1)) (edge_of g.width n) (le_of_lt _ _ l.until) (edges_rise g.width (band_of g.width s.span.lower +ℤ pos 1) n ok.some_width (up_one (band_of g.width s.span.lower) n h))),
-        as_test (edge_of g.width n) s.span.upper (le_trans (edge_of g.width n) (edge_of g.width (band_of g.width s.span.upper)) s.span.upper (edges_rise g.width n (band_of g.width s.span.upper) ok.some_width k) u.from),
+        le-test s.span.lower (edge_of g.width n) (le_trans s.span.lower (edge_of g.width (band_of g.width s.span.lower +ℤ pos 1)) (edge_of g.width n) (le_of_lt _ _ l.until) (edges_rise g.width (band_of g.width s.span.lower +ℤ pos 1) n ok.some_width (up_one (band_of g.width s.span.lower) n h))),
+        le-test (edge_of g.width n) s.span.upper (le_trans (edge_of g.width n) (edge_of g.width (band_of g.width s.span.upper)) s.span.upper (edges_rise g.width n (band_of g.width s.span.upper) ok.some_width k) u.from),
       )
 
   times_from : (low high : ℤ) (k : ℕ) → band_of g.width s.span.lower <ℤ low → (low +ℤ pos k) ≤ℤ (high +ℤ pos 1) → high ≡ band_of g.width s.span.upper → AllByRecursion Between (map (edge_of g.width) (count_up low k))

@@ -3,18 +3,16 @@ use Rattle.std.proofs.Common.{◌≡◌, ◌⊎◌, inl, inr, Bool, true, false,
 use Rattle.std.proofs.lemmas.Bool.{and_parts}
 use Rattle.std.specs.declared.cmp.Ordering.TheVariants.{Less, Equal, Greater}
 use Rattle.mob_ratio.specs.Ratio.{Ratio, ◌-ℚ◌, ◌<ℚ◌}
-use Rattle.mob_ratio.specs.Order.{before, up_to}
+use Rattle.mob_ratio.specs.Order.{before, up_to, smaller}
 use Rattle.mob_ratio.specs.Line.{line_at}
 use Rattle.mob_ratio.specs.Sign.{nil, opposite, root_at, sign_of}
-use Rattle.mob_ratio.proofs.Order.{before-lt, lt-before, before-back, before-trans, before-neither, up_to-le, not-up_to-le}
+use Rattle.mob_ratio.proofs.Order.{before-lt, lt-before, before-back, before-trans, before-neither, up_to-le, not-up_to-le, smaller_left, smaller_right}
 use Rattle.mob_ratio.proofs.Field.{le_of_lt, le_trans, lt_le}
 use Rattle.mob_ratio.proofs.LineAt.{line_at-level, line_at-part}
 use Rattle.mob_ratio.proofs.Signs.{line_at-diff, sign-diff, compared}
 use Rattle.mob_ratio.proofs.Between.{within, IsWithin, start_below, end_below, HasBelow}
 use Rattle.mob_span.specs.Span.{SpanOf, has}
 use Rattle.mob_span.specs.Neighbours.{is_inside}
-use Rattle.mob_plane.specs.Corners.{smaller}
-use Rattle.mob_plane.proofs.Widening.{smaller_left, smaller_right}
 use Rattle.mob_cells.specs.Cells.{NoneWithin, is_cell, is_cell_of}
 use Rattle.mob_cells.proofs.Keeps.{kept, upto_of}
 use Rattle.mob_grid.specs.Bands.{InBand, band_of}

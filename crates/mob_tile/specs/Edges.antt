@@ -2,7 +2,7 @@
 use Rattle.std.specs.Prelude.{ℕ, zero, suc, ℤ, pos, negsuc, ◌+ℤ◌, ◌-ℤ◌, List, [], ◌∷◌, ◌++◌, map}
 use Rattle.std.specs.List.{flat_map}
 use Rattle.mob_ratio.specs.Ratio.{Ratio, whole, ◌-ℚ◌, ◌*ℚ◌}
-use Rattle.mob_plane.specs.Corners.{smaller, greater}
+use Rattle.mob_ratio.specs.Order.{smaller, greater}
 use Rattle.mob_slice.specs.Cut.{slice_parts}
 use Rattle.mob_slice.specs.Entries.{Entry}
 use Rattle.mob_slice.specs.Lines.{plane_parts_of}

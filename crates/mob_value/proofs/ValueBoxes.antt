@@ -1,24 +1,23 @@
 -- The box that covers the boxes of all slices is the box of the value.
 use Rattle.std.specs.Prelude.{◌≡◌, ◌≢◌, Bool, true, false, cond, refl, List, [], ◌∷◌, Option, Some, None, IfSome, MatchOption}
-use Rattle.std.proofs.lemmas.Bool.{and_from}
+use Rattle.std.proofs.lemmas.Bool.{and_from, false_from_ne_true}
 use Rattle.std.specs.Prelude.{ℕ, ◌+◌, ◌<◌, length}
 use Rattle.std.proofs.Common.{drop, get_or}
 use Rattle.std.proofs.lemmas.List.{drop_more}
 use Rattle.std.specs.List.{AllByRecursion}
 use Rattle.std.proofs.Common.{arith, ap, sym, ◌∙◌, subst, true≢false}
 use Rattle.mob_ratio.specs.Ratio.{Ratio}
-use Rattle.mob_ratio.specs.Order.{before, up_to}
+use Rattle.mob_ratio.specs.Order.{before, up_to, smaller, greater}
 use Rattle.mob_ratio.specs.Line.{line_at}
 use Rattle.mob_ratio.proofs.Between.{within, start_below, end_below, start_above, end_above}
 use Rattle.mob_ratio.proofs.LineAt.{line_at-short}
-use Rattle.mob_ratio.proofs.Order.{before-self, before-back, false_unless}
+use Rattle.mob_ratio.proofs.Order.{before-self, before-back, smaller_left, smaller_right, greater_left, greater_right, up_to-trans, up_to-not-after}
 use Rattle.mob_span.specs.Span.{SpanOf, InSpan, has, has_instant}
 use Rattle.mob_span.specs.Neighbours.{is_inside}
 use Rattle.mob_span.proofs.Ends.{inside_exact}
 use Rattle.mob_span.proofs.Insides.{clear_has, inner_has}
 use Rattle.mob_span.proofs.Shared.{AreAllClear, all_after}
-use Rattle.mob_span.proofs.SpanLemmas.{has_exact, has_upto_lower, has_upto_upper}
-use Rattle.mob_span.proofs.Touching.{upto_trans}
+use Rattle.mob_span.proofs.SpanLemmas.{has_exact, has_upto_lower, has_upto_upper, short_has}
 use Rattle.mob_plane.specs.declared.point.Point.{Point}
 use Rattle.mob_slice.specs.CourseOf.{plane_course}
 use Rattle.mob_slice.specs.Lines.{plane_value_of}
@@ -30,8 +29,6 @@ use Rattle.mob_stbox.specs.Areas.{InArea, area_over, area_between, is_area}
 use Rattle.mob_stbox.specs.Boxes.{BoxOf, InBox, is_box, is_whole, contains, lies_in, cover}
 use Rattle.mob_stbox.specs.declared.area.Area.{Area}
 use Rattle.mob_stbox.proofs.BoxLaws.{in_contained, contains_is, over_self, over_trans, cover_over_left, cover_over_right, cover_least, cover_whole, cover_is_box, one_box}
-use Rattle.mob_plane.specs.Corners.{smaller, greater}
-use Rattle.mob_plane.proofs.Widening.{smaller_left, smaller_right, greater_left, greater_right}
 use Rattle.mob_stbox.proofs.Sides.{four, all_four, in_area_exact, between_least, between_is_area}
 use Rattle.mob_value.specs.ValueBoxes.{HasPositions, IsBoxOf, HasBox, OnBox, slice_box, covered, value_box}
 use Rattle.mob_value.specs.declared.value.Value.{Value}
@@ -55,11 +52,11 @@ coordinate_by x0 x1 l u t false d h e a b = subst (IsBetween x0 x1) (sym (line_a
 coordinate_by x0 x1 l u t true true h e a b =
     let w = (within x0 x1 l u t h a b).falling (grind (arith, before-back x1 x0 e)) in
     let x = line_at x0 x1 l u t in
-    record { from = upto_trans (smaller x0 x1) x1 x (smaller_right x0 x1) w.0; to = upto_trans x x0 (greater x0 x1) w.1 (greater_left x0 x1) }
+    record { from = up_to-trans (smaller x0 x1) x1 x (smaller_right x0 x1) w.0; to = up_to-trans x x0 (greater x0 x1) w.1 (greater_left x0 x1) }
 coordinate_by x0 x1 l u t true false h e a b =
     let w = (within x0 x1 l u t h a b).rising (grind (arith, e)) in
     let x = line_at x0 x1 l u t in
-    record { from = upto_trans (smaller x0 x1) x0 x (smaller_left x0 x1) w.0; to = upto_trans x x1 (greater x0 x1) w.1 (greater_right x0 x1) }
+    record { from = up_to-trans (smaller x0 x1) x0 x (smaller_left x0 x1) w.0; to = up_to-trans x x1 (greater x0 x1) w.1 (greater_right x0 x1) }
 
 coordinate : (x0 x1 : Ratio) (s : SpanOf) (t : Ratio) → has s t ≡ true → IsBetween x0 x1 (line_at x0 x1 s.lower s.upper t)
 coordinate x0 x1 s t h = coordinate_by x0 x1 s.lower s.upper t (before s.lower s.upper) (before x1 x0) refl refl (has_upto_lower s t h) (has_upto_upper s t h)
@@ -84,7 +81,7 @@ slice_whole s = refl
 
 -- ---- and so are all slices in the cover
 
-covered_over : (b : BoxOf) (slices : List (Slice PlaneLine)) → contains (covered b slices) b ≡ true
+pub covered_over : (b : BoxOf) (slices : List (Slice PlaneLine)) → contains (covered b slices) b ≡ true
 covered_over b [] = over_self b
 covered_over b (s ∷ rest) = over_trans (covered (cover b (slice_box s)) rest) (cover b (slice_box s)) b (covered_over (cover b (slice_box s)) rest) (cover_over_left b (slice_box s))
 
@@ -113,31 +110,25 @@ covered_is_box b (s ∷ rest) w h = covered_is_box (cover b (slice_box s)) rest 
 -- ---- a box with all positions of a slice contains the slice's box
 
 not_before : (s t : Ratio) → (before s t ≡ true → ⊥) → up_to t s ≡ true
-not_before s t f = rw (false_unless (before s t) f) refl
-
-no_two : (s t : Ratio) → up_to s t ≡ true → before t s ≡ true → ⊥
-no_two s t h k = true≢false (sym k ∙ grind (arith, h))
-
-has_lower : (s : SpanOf) → before s.lower s.upper ≡ false → has_instant s ≡ true → has s s.lower ≡ true
-has_lower s e h = grind (arith, e, h, before-self s.lower)
+not_before s t f = rw (false_from_ne_true (before s t) f) refl
 
 -- if each value of the line on the span is at least c, so are its end values
 low_limits : (c x0 x1 : Ratio) (s : SpanOf) (b : Bool) → before s.lower s.upper ≡ b → has_instant s ≡ true → (b ≡ false → x0 ≡ x1) → ((t : Ratio) → has s t ≡ true → up_to c (line_at x0 x1 s.lower s.upper t) ≡ true) → (up_to c x0 ≡ true) × (up_to c x1 ≡ true)
 low_limits c x0 x1 s true e i level f = (
-  not_before x0 c (λ k. let m = start_below x0 x1 s.lower s.upper c e k in no_two _ _ (f m.at (inner_has s m.at m.after m.until)) m.is),
-  not_before x1 c (λ k. let m = end_below x0 x1 s.lower s.upper c e k in no_two _ _ (f m.at (inner_has s m.at m.after m.until)) m.is),
+  not_before x0 c (λ k. let m = start_below x0 x1 s.lower s.upper c e k in up_to-not-after _ _ (f m.at (inner_has s m.at m.after m.until)) m.is),
+  not_before x1 c (λ k. let m = end_below x0 x1 s.lower s.upper c e k in up_to-not-after _ _ (f m.at (inner_has s m.at m.after m.until)) m.is),
 )
 low_limits c x0 x1 s false e i level f =
-    let here : up_to c x0 ≡ true = subst (λ z. up_to c z ≡ true) (line_at-short x0 x1 s.lower s.upper s.lower e) (f s.lower (has_lower s e i)) in
+    let here : up_to c x0 ≡ true = subst (λ z. up_to c z ≡ true) (line_at-short x0 x1 s.lower s.upper s.lower e) (f s.lower (short_has s i e)) in
     (here, subst (λ z. up_to c z ≡ true) (level refl) here)
 
 high_limits : (c x0 x1 : Ratio) (s : SpanOf) (b : Bool) → before s.lower s.upper ≡ b → has_instant s ≡ true → (b ≡ false → x0 ≡ x1) → ((t : Ratio) → has s t ≡ true → up_to (line_at x0 x1 s.lower s.upper t) c ≡ true) → (up_to x0 c ≡ true) × (up_to x1 c ≡ true)
 high_limits c x0 x1 s true e i level f = (
-  not_before c x0 (λ k. let m = start_above x0 x1 s.lower s.upper c e k in no_two _ _ (f m.at (inner_has s m.at m.after m.until)) m.is),
-  not_before c x1 (λ k. let m = end_above x0 x1 s.lower s.upper c e k in no_two _ _ (f m.at (inner_has s m.at m.after m.until)) m.is),
+  not_before c x0 (λ k. let m = start_above x0 x1 s.lower s.upper c e k in up_to-not-after _ _ (f m.at (inner_has s m.at m.after m.until)) m.is),
+  not_before c x1 (λ k. let m = end_above x0 x1 s.lower s.upper c e k in up_to-not-after _ _ (f m.at (inner_has s m.at m.after m.until)) m.is),
 )
 high_limits c x0 x1 s false e i level f =
-    let here : up_to x0 c ≡ true = subst (λ z. up_to z c ≡ true) (line_at-short x0 x1 s.lower s.upper s.lower e) (f s.lower (has_lower s e i)) in
+    let here : up_to x0 c ≡ true = subst (λ z. up_to z c ≡ true) (line_at-short x0 x1 s.lower s.upper s.lower e) (f s.lower (short_has s i e)) in
     (here, subst (λ z. up_to z c ≡ true) (level refl) here)
 
 -- an area with all positions of a slice contains both its end points

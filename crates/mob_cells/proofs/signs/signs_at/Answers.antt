@@ -1,8 +1,9 @@
 use Rattle.std.proofs.Common.{drop, ◌+◌, arith, refl}
 use Rattle.std.proofs.Math.ListN.{drop_of_length-le}
 use Rattle.mob_list.proofs.Each.{each_get}
+use Rattle.mob_list.proofs.Entries.{drop_read}
 use Rattle.mob_cells.specs.Cells.{IsPlaced, placed_sign}
-use Rattle.mob_cells.proofs.Making.{list_read, read_of, mapped_step, mapped_end}
+use Rattle.mob_cells.proofs.Making.{read_of, mapped_step, mapped_end}
 use Rattle.mob_cells.proofs.signs.signs_at.Goals as goal
 
 pub sign_at-requires : goal.sign_at-requires
@@ -16,7 +17,7 @@ pub loop-placed-preserved : goal.loop-placed-preserved
 loop-placed-preserved c =
     let at = c.loop-placed in
     let xs = c.args.functions.now in
-    mapped_step (placed_sign c.args.span.now c.args.cell.now) (drop at.placed-index xs) (drop (at.placed-index + 1) xs) c.placed-item.result c.sign_at.result at.out.items c.push.new.self.items _ (list_read xs at.placed-index c.placed-item.result (omega arith) c.placed-item.is) c.sign_at.ensures.sign c.in_ok-push.ensures.items at.invariant
+    mapped_step (placed_sign c.args.span.now c.args.cell.now) (drop at.placed-index xs) (drop (at.placed-index + 1) xs) c.placed-item.result c.sign_at.result at.out.items c.push.new.self.items _ (drop_read xs at.placed-index c.placed-item.result (omega arith) c.placed-item.is) c.sign_at.ensures.sign c.in_ok-push.ensures.items at.invariant
 
 pub returns : goal.returns
 returns c =

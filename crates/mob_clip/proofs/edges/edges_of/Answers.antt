@@ -1,8 +1,8 @@
 use Rattle.std.proofs.Common.{arith, ◌+◌, ◌∙◌, ap, drop, refl}
 use Rattle.std.proofs.Math.ListN.{drop_of_length-le}
 use Rattle.std.specs.Prelude.{◌++◌}
+use Rattle.mob_list.proofs.Entries.{drop_read}
 use Rattle.mob_plane.specs.Rings.{rings_of, edges, all_edges}
-use Rattle.mob_cells.proofs.Making.{list_read}
 use Rattle.mob_clip.proofs.Listing.{walk_step, walk_end}
 use Rattle.mob_clip.proofs.edges.edges_of.Goals as goal
 
@@ -11,7 +11,7 @@ loop-ring-preserved c =
     let at = c.loop-ring in
     let xs = c.args.rings.now in
     let x = c.ring-item.result in
-    walk_step (λ r. all_edges (rings_of r)) (drop at.ring-index xs) (drop (at.ring-index + 1) xs) x (edges x.items) at.out.items c.push_edges.new.out.items _ (list_read xs at.ring-index x (omega arith) c.ring-item.is) refl (c.in_ok-push_edges.ensures.pushed ∙ ap (λ z. at.out.items ++ edges z) c.as_slice.ensures.value) at.invariant
+    walk_step (λ r. all_edges (rings_of r)) (drop at.ring-index xs) (drop (at.ring-index + 1) xs) x (edges x.items) at.out.items c.push_edges.new.out.items _ (drop_read xs at.ring-index x (omega arith) c.ring-item.is) refl (c.in_ok-push_edges.ensures.pushed ∙ ap (λ z. at.out.items ++ edges z) c.as_slice.ensures.value) at.invariant
 
 pub returns : goal.returns
 returns c =

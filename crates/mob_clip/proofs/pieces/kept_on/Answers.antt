@@ -1,9 +1,9 @@
 use Rattle.std.proofs.Common.{rules, arith, ◌≡◌, ◌+◌, drop, subst, false}
 use Rattle.std.proofs.Math.ListN.{drop_of_length-le}
+use Rattle.mob_list.proofs.Entries.{drop_read}
 use Rattle.mob_slice.specs.Cut.{slice_parts}
 use Rattle.mob_slice.specs.Lines.{plane_parts_of}
 use Rattle.mob_slice.specs.PlaneLaws.{plane_laws}
-use Rattle.mob_cells.proofs.Making.{list_read}
 use Rattle.mob_cells.proofs.OwnEnds.{own_fit}
 use Rattle.mob_clip.specs.Steps.{ChangesFit}
 use Rattle.mob_clip.proofs.Passing.{rest_holds, passing_start, passing_step, passing_ends}
@@ -19,7 +19,7 @@ push_before-requires-in-loop-change-clause-holds c =
     let at = c.loop-change in
     let xs = c.as_slice-changes.result.now in
     let x = c.change-item.result in
-    let e = list_read xs at.change-index x (omega arith) c.change-item.is in
+    let e = drop_read xs at.change-index x (omega arith) c.change-item.is in
     let f = subst (ChangesFit (slice_parts plane_parts_of c.args.slice.now)) e at.invariant.fits in
     rw c.in-Ok.ensures.pushed.0 (rest_holds c.args.slice.now at.rest x.at false at.invariant.left.holds f.0)
 
@@ -30,7 +30,7 @@ loop-change-preserved c =
     let x = c.change-item.result in
     let p = c.in-Ok.ensures.pushed in
     let q = c.in-Ok-push_before.ensures.pushed in
-    passing_step c.args.slice.now c.args.want c.args.steps.now at.rest c.in-Ok.rest c.in-Ok-push_before.rest at.now (drop at.change-index xs) (drop (at.change-index + 1) xs) x c.is_kept-front.result c.is_kept-there.result at.out.items c.push_before.new.out.items c.push_before-in-loop-change.new.out.items p.1 q.1 (list_read xs at.change-index x (omega arith) c.change-item.is)
+    passing_step c.args.slice.now c.args.want c.args.steps.now at.rest c.in-Ok.rest c.in-Ok-push_before.rest at.now (drop at.change-index xs) (drop (at.change-index + 1) xs) x c.is_kept-front.result c.is_kept-there.result at.out.items c.push_before.new.out.items c.push_before-in-loop-change.new.out.items p.1 q.1 (drop_read xs at.change-index x (omega arith) c.change-item.is)
     c.is_kept-front.ensures.value p.0 p.2 p.3 c.is_kept-there.ensures.value q.0 q.2 q.3 at.invariant
 
 pub returns : goal.returns
@@ -44,11 +44,11 @@ push_before-requires-clause-fits c =
     let at = c.loop-change in
     let xs = c.as_slice-changes.result.now in
     let x = c.change-item.result in
-    (subst (ChangesFit (slice_parts plane_parts_of c.args.slice.now)) (list_read xs at.change-index x (omega arith) c.change-item.is) at.invariant.fits).0
+    (subst (ChangesFit (slice_parts plane_parts_of c.args.slice.now)) (drop_read xs at.change-index x (omega arith) c.change-item.is) at.invariant.fits).0
 
 pub push_before-requires-in-loop-change-clause-fits : goal.push_before-requires-in-loop-change-clause-fits
 push_before-requires-in-loop-change-clause-fits c =
     let at = c.loop-change in
     let xs = c.as_slice-changes.result.now in
     let x = c.change-item.result in
-    (subst (ChangesFit (slice_parts plane_parts_of c.args.slice.now)) (list_read xs at.change-index x (omega arith) c.change-item.is) at.invariant.fits).0
+    (subst (ChangesFit (slice_parts plane_parts_of c.args.slice.now)) (drop_read xs at.change-index x (omega arith) c.change-item.is) at.invariant.fits).0

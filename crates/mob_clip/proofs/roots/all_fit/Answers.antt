@@ -2,10 +2,11 @@ use Rattle.std.proofs.Common.{arith, ◌+◌, drop, refl}
 use Rattle.std.proofs.Math.ListN.{drop_of_length-le}
 use Rattle.std.specs.List.{flat_map}
 use Rattle.mob_list.proofs.Each.{each_get}
+use Rattle.mob_list.proofs.Entries.{drop_read}
 use Rattle.mob_slice.specs.Cut.{slice_parts}
 use Rattle.mob_slice.specs.Lines.{plane_parts_of}
 use Rattle.mob_slice.specs.declared.formula.Formula.TheVariants.{F1}
-use Rattle.mob_cells.proofs.Making.{list_read, read_of}
+use Rattle.mob_cells.proofs.Making.{read_of}
 use Rattle.mob_clip.specs.Roots.{IsBetweenEnds}
 use Rattle.mob_clip.proofs.Listing.{checking_step, checking_fails, checking_end, fault_of_all}
 use Rattle.mob_clip.proofs.roots.all_fit.Goals as goal
@@ -22,14 +23,14 @@ returns-in-Err c =
     let xs = c.args.roots.now in
     let r = c.r-item.result in
     let parts = slice_parts plane_parts_of c.args.slice.now in
-    record { fits = fault_of_all F1 (parts r) (flat_map parts xs) c.in-Err.fault c.in-Err.ensures.fits (λ n. checking_fails parts xs (drop at.r-index xs) (drop (at.r-index + 1) xs) r (list_read xs at.r-index r (omega arith) c.r-item.is) n at.invariant) }
+    record { fits = fault_of_all F1 (parts r) (flat_map parts xs) c.in-Err.fault c.in-Err.ensures.fits (λ n. checking_fails parts xs (drop at.r-index xs) (drop (at.r-index + 1) xs) r (drop_read xs at.r-index r (omega arith) c.r-item.is) n at.invariant) }
 
 pub loop-r-preserved : goal.loop-r-preserved
 loop-r-preserved c =
     let at = c.loop-r in
     let xs = c.args.roots.now in
     let r = c.r-item.result in
-    checking_step (slice_parts plane_parts_of c.args.slice.now) xs (drop at.r-index xs) (drop (at.r-index + 1) xs) r (list_read xs at.r-index r (omega arith) c.r-item.is) c.in-Ok.ensures.fits at.invariant
+    checking_step (slice_parts plane_parts_of c.args.slice.now) xs (drop at.r-index xs) (drop (at.r-index + 1) xs) r (drop_read xs at.r-index r (omega arith) c.r-item.is) c.in-Ok.ensures.fits at.invariant
 
 pub returns : goal.returns
 returns c =

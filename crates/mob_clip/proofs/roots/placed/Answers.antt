@@ -2,9 +2,10 @@ use Rattle.std.proofs.Common.{arith, ◌+◌, drop, refl}
 use Rattle.std.proofs.Math.ListN.{drop_of_length-le}
 use Rattle.std.specs.List.{flat_map, AllByRecursion}
 use Rattle.mob_list.proofs.Each.{each_get}
+use Rattle.mob_list.proofs.Entries.{drop_read}
 use Rattle.mob_slice.specs.declared.formula.Formula.TheVariants.{F3}
 use Rattle.mob_cells.specs.Roots.{IsLevel, roots_parts}
-use Rattle.mob_cells.proofs.Making.{list_read, read_of}
+use Rattle.mob_cells.proofs.Making.{read_of}
 use Rattle.mob_clip.specs.declared.sides.EdgeEnds.{EdgeEnds}
 use Rattle.mob_clip.specs.Roots.{listed_ends, place_edge}
 use Rattle.mob_clip.proofs.Listing.{checking_fails, fault_of_all, mapping_step, mapping_end}
@@ -17,7 +18,7 @@ returns-in-Err c =
     let x = c.edge-item.result in
     record {
       made = fault_of_all F3 (roots_parts c.args.span.now (listed_ends x)) (flat_map (λ g. roots_parts c.args.span.now (listed_ends g)) xs) c.in-Err.fault c.in-Err.ensures.pushed
-          (λ n. checking_fails (λ (g : EdgeEnds). roots_parts c.args.span.now (listed_ends g)) xs (drop at.edge-index xs) (drop (at.edge-index + 1) xs) x (list_read xs at.edge-index x (omega arith) c.edge-item.is) n at.invariant.checked);
+          (λ n. checking_fails (λ (g : EdgeEnds). roots_parts c.args.span.now (listed_ends g)) xs (drop at.edge-index xs) (drop (at.edge-index + 1) xs) x (drop_read xs at.edge-index x (omega arith) c.edge-item.is) n at.invariant.checked);
     }
 
 pub push_placed-requires : goal.push_placed-requires
@@ -33,7 +34,7 @@ loop-edge-preserved c =
     let xs = c.args.edges.now in
     let x = c.edge-item.result in
     let s = c.args.span.now in
-    mapping_step (place_edge s) (λ (g : EdgeEnds). roots_parts s (listed_ends g)) xs (drop at.edge-index xs) (drop (at.edge-index + 1) xs) at.out.items c.push_placed.new.out.items x (place_edge s x) (list_read xs at.edge-index x (omega arith) c.edge-item.is) c.in-Ok.ensures.pushed.0 refl c.in-Ok.ensures.pushed.1 at.invariant
+    mapping_step (place_edge s) (λ (g : EdgeEnds). roots_parts s (listed_ends g)) xs (drop at.edge-index xs) (drop (at.edge-index + 1) xs) at.out.items c.push_placed.new.out.items x (place_edge s x) (drop_read xs at.edge-index x (omega arith) c.edge-item.is) c.in-Ok.ensures.pushed.0 refl c.in-Ok.ensures.pushed.1 at.invariant
 
 pub returns : goal.returns
 returns c =

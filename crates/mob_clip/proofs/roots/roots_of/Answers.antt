@@ -1,7 +1,7 @@
 use Rattle.std.proofs.Common.{arith, ◌+◌, drop, refl}
 use Rattle.std.proofs.Math.ListN.{drop_of_length-le}
 use Rattle.std.specs.List.{flat_map}
-use Rattle.mob_cells.proofs.Making.{list_read}
+use Rattle.mob_list.proofs.Entries.{drop_read}
 use Rattle.mob_clip.specs.Roots.{edge_roots}
 use Rattle.mob_clip.proofs.Listing.{walk_step, walk_end}
 use Rattle.mob_clip.proofs.roots.roots_of.Goals as goal
@@ -11,7 +11,7 @@ loop-edge-preserved c =
     let at = c.loop-edge in
     let xs = c.args.edges.now in
     let x = c.edge-item.result in
-    walk_step (flat_map edge_roots) (drop at.edge-index xs) (drop (at.edge-index + 1) xs) x (edge_roots x) at.out.items c.push_roots.new.out.items _ (list_read xs at.edge-index x (omega arith) c.edge-item.is) refl c.in_ok-push_roots.ensures.pushed at.invariant
+    walk_step (flat_map edge_roots) (drop at.edge-index xs) (drop (at.edge-index + 1) xs) x (edge_roots x) at.out.items c.push_roots.new.out.items _ (drop_read xs at.edge-index x (omega arith) c.edge-item.is) refl c.in_ok-push_roots.ensures.pushed at.invariant
 
 pub returns : goal.returns
 returns c =

@@ -1,7 +1,7 @@
 use Rattle.std.proofs.Common.{arith, ap, ◌+◌, drop, refl}
 use Rattle.std.proofs.Math.ListN.{drop_of_length-le}
+use Rattle.mob_list.proofs.Entries.{drop_read}
 use Rattle.mob_slice.proofs.Cuts.{all_second}
-use Rattle.mob_cells.proofs.Making.{list_read}
 use Rattle.mob_clip.specs.declared.sides.Beside.{Beside}
 use Rattle.mob_clip.specs.Sides.{beside, beside_parts, point_parts}
 use Rattle.mob_clip.proofs.Listing.{checking_fails, mapping_step, mapping_end}
@@ -16,7 +16,7 @@ loop-edge-preserved c =
     let x = c.edge-item.result in
     let v = c.in-Ok.ensures.value in
     record {
-      listed = mapping_step (beside p q) (beside_parts p q) xs (drop at.edge-index xs) (drop (at.edge-index + 1) xs) at.out.items c.add.new.out.items x c.in-Ok.next (list_read xs at.edge-index x (omega arith) c.edge-item.is) c.in-Ok-add.ensures.added v.0 v.1 at.invariant.listed;
+      listed = mapping_step (beside p q) (beside_parts p q) xs (drop at.edge-index xs) (drop (at.edge-index + 1) xs) at.out.items c.add.new.out.items x c.in-Ok.next (drop_read xs at.edge-index x (omega arith) c.edge-item.is) c.in-Ok-add.ensures.added v.0 v.1 at.invariant.listed;
       known = (ap (λ (b : Beside). b.to_b) v.0, all_second (point_parts p q x.0) (point_parts p q x.1) v.1);
     }
 
@@ -25,7 +25,7 @@ returns-in-Err c =
     let at = c.loop-edge in
     let xs = c.args.edges.now in
     let x = c.edge-item.result in
-    record { made = (refl, checking_fails (beside_parts c.args.p.now c.args.q.now) xs (drop at.edge-index xs) (drop (at.edge-index + 1) xs) x (list_read xs at.edge-index x (omega arith) c.edge-item.is) c.in-Err.ensures.value at.invariant.listed.checked) }
+    record { made = (refl, checking_fails (beside_parts c.args.p.now c.args.q.now) xs (drop at.edge-index xs) (drop (at.edge-index + 1) xs) x (drop_read xs at.edge-index x (omega arith) c.edge-item.is) c.in-Err.ensures.value at.invariant.listed.checked) }
 
 pub returns : goal.returns
 returns c =

@@ -1,6 +1,6 @@
 use Rattle.std.proofs.Common.{arith, ◌∙◌, ◌<◌, ◌≤◌, ◌+◌, length, sym}
 use Rattle.std.proofs.Math.ListN.{drop_of_length-le}
-use Rattle.mob_cells.proofs.Making.{list_read}
+use Rattle.mob_list.proofs.Entries.{drop_read}
 use Rattle.mob_clip.proofs.Walks.{left_alone, right_alone, left_met, right_met, both_met}
 use Rattle.mob_clip.proofs.steps.meet.Goals as goal
 
@@ -13,7 +13,7 @@ returns-then-i-xs g c =
     let hy : c.args.j < length ys = omega arith in
     let e = c.take_right.ensures.met in
     record {
-      met = right_alone g.T.Mix.mix c.args.left.now c.args.right.now xs ys c.args.i c.args.j (c.args.j + 1) y c.take_right.result (drop_of_length-le xs hx) (list_read ys c.args.j y hy c.index-ys-j.is) e;
+      met = right_alone g.T.Mix.mix c.args.left.now c.args.right.now xs ys c.args.i c.args.j (c.args.j + 1) y c.take_right.result (drop_of_length-le xs hx) (drop_read ys c.args.j y hy c.index-ys-j.is) e;
       first = rw e c.requires.first;
       second = rw e (omega arith);
       on = rw e (omega arith);
@@ -28,7 +28,7 @@ returns-then-j-ys g c =
     let hy : length ys ≤ c.args.j = omega arith in
     let e = c.take_left.ensures.met in
     record {
-      met = left_alone g.T.Mix.mix c.args.left.now c.args.right.now xs ys c.args.i c.args.j (c.args.i + 1) x c.take_left.result (list_read xs c.args.i x hx c.index-xs-i.is) (drop_of_length-le ys hy) e;
+      met = left_alone g.T.Mix.mix c.args.left.now c.args.right.now xs ys c.args.i c.args.j (c.args.i + 1) x c.take_left.result (drop_read xs c.args.i x hx c.index-xs-i.is) (drop_of_length-le ys hy) e;
       first = rw e (omega arith);
       second = rw e c.requires.second;
       on = rw e (omega arith);
@@ -42,8 +42,8 @@ returns-then-is_before g c =
     let y = c.index-ys-j-2.result in
     let hx : c.args.i < length xs = omega arith in
     let hy : c.args.j < length ys = omega arith in
-    let ex = list_read xs c.args.i x hx c.index-xs-i-2.is in
-    let ey = list_read ys c.args.j y hy c.index-ys-j-2.is in
+    let ex = drop_read xs c.args.i x hx c.index-xs-i-2.is in
+    let ey = drop_read ys c.args.j y hy c.index-ys-j-2.is in
     let e = c.take_left-then-is_before.ensures.met in
     record {
       met = left_met g.T.Mix.mix c.args.left.now c.args.right.now xs ys c.args.i c.args.j (c.args.i + 1) (c.args.j + 1) x y c.take_left-then-is_before.result ex ey (sym c.is_before.ensures.value ∙ c.if-is_before.true) e;
@@ -60,8 +60,8 @@ returns-then-is_before-2 g c =
     let y = c.index-ys-j-2.result in
     let hx : c.args.i < length xs = omega arith in
     let hy : c.args.j < length ys = omega arith in
-    let ex = list_read xs c.args.i x hx c.index-xs-i-2.is in
-    let ey = list_read ys c.args.j y hy c.index-ys-j-2.is in
+    let ex = drop_read xs c.args.i x hx c.index-xs-i-2.is in
+    let ey = drop_read ys c.args.j y hy c.index-ys-j-2.is in
     let e = c.take_right-then-is_before-2.ensures.met in
     record {
       met = right_met g.T.Mix.mix c.args.left.now c.args.right.now xs ys c.args.i c.args.j (c.args.i + 1) (c.args.j + 1) x y c.take_right-then-is_before-2.result ex ey (sym c.is_before-2.ensures.value ∙ c.if-is_before-2.true) e;
@@ -78,8 +78,8 @@ returns g c =
     let y = c.index-ys-j-2.result in
     let hx : c.args.i < length xs = omega arith in
     let hy : c.args.j < length ys = omega arith in
-    let ex = list_read xs c.args.i x hx c.index-xs-i-2.is in
-    let ey = list_read ys c.args.j y hy c.index-ys-j-2.is in
+    let ex = drop_read xs c.args.i x hx c.index-xs-i-2.is in
+    let ey = drop_read ys c.args.j y hy c.index-ys-j-2.is in
     let e = c.take_both.ensures.met in
     record {
       met = both_met g.T.Mix.mix c.args.left.now c.args.right.now xs ys c.args.i c.args.j (c.args.i + 1) (c.args.j + 1) x y c.take_both.result ex ey (sym c.is_before.ensures.value ∙ c.if-is_before.false) (sym c.is_before-2.ensures.value ∙ c.if-is_before-2.false) e;

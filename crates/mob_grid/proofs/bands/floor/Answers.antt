@@ -1,5 +1,5 @@
+use Rattle.mob_frac.proofs.Machine.{nonzero}
 use Rattle.mob_ratio.proofs.RatioLemmas.{den_pos}
-use Rattle.mob_grid.proofs.Machine.{nonzero}
 use Rattle.mob_grid.proofs.bands.floor.Goals as goal
 
 pub div_euclid-requires-clause-nonzero : goal.div_euclid-requires-clause-nonzero

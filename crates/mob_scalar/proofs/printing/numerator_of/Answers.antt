@@ -1,5 +1,5 @@
+use Rattle.mob_frac.proofs.Machine.{nonzero}
 use Rattle.mob_ratio.proofs.RatioLemmas.{den_pos}
-use Rattle.mob_scalar.proofs.Instants.{nonzero}
 use Rattle.mob_scalar.proofs.printing.numerator_of.Goals as goal
 
 pub rem_euclid-requires-clause-nonzero : goal.rem_euclid-requires-clause-nonzero

@@ -1,6 +1,6 @@
 use Rattle.std.proofs.Common.{rules, drop, ◌+◌, arith, sym, ◌∙◌, subst}
 use Rattle.std.proofs.lemmas.Result.{err_from_is_err_and}
-use Rattle.mob_cells.proofs.Making.{list_read}
+use Rattle.mob_list.proofs.Entries.{drop_read}
 use Rattle.mob_simplify.proofs.Along.{IsWalking, walking_start, within_end, walking_refused, walking_stays, walking_breaks}
 use Rattle.mob_simplify.proofs.walking.walked.Goals as goal
 
@@ -14,7 +14,7 @@ next_stays-requires c =
     let r = c.next-item.result in
     record {
       square = c.requires.square;
-      between = λ g. within_end c.args.limit.now.distance c.args.slices.now at.first.now at.between.items at.last.now (drop at.next-index xs) at.legs.items at.invariant r (drop (at.next-index + 1) xs) (list_read xs at.next-index r (omega arith) c.next-item.is) g;
+      between = λ g. within_end c.args.limit.now.distance c.args.slices.now at.first.now at.between.items at.last.now (drop at.next-index xs) at.legs.items at.invariant r (drop (at.next-index + 1) xs) (drop_read xs at.next-index r (omega arith) c.next-item.is) g;
     }
 
 pub returns-in_err-stay-clause-first : goal.returns-in_err-stay-clause-first
@@ -24,7 +24,7 @@ returns-in_err-stay-clause-first c =
     let r = c.next-item.result in
     let p = err_from_is_err_and c.from_residual.result c.from_residual.ensures.1 in
     rw (p.1, p.2)
-    (walking_refused c.args.limit.now.distance c.args.slices.now at.first.now at.between.items at.last.now (drop at.next-index xs) at.legs.items at.invariant r (drop (at.next-index + 1) xs) (list_read xs at.next-index r (omega arith) c.next-item.is) c.in_err-stay.field-0.0 c.in_err-stay.ensures.first)
+    (walking_refused c.args.limit.now.distance c.args.slices.now at.first.now at.between.items at.last.now (drop at.next-index xs) at.legs.items at.invariant r (drop (at.next-index + 1) xs) (drop_read xs at.next-index r (omega arith) c.next-item.is) c.in_err-stay.field-0.0 c.in_err-stay.ensures.first)
 
 pub loop-next-preserved-then-stay : goal.loop-next-preserved-then-stay
 loop-next-preserved-then-stay c =
@@ -32,7 +32,7 @@ loop-next-preserved-then-stay c =
     let xs = c.in-Some.rest.now in
     let r = c.next-item.result in
     subst (λ z. IsWalking c.args.limit.now.distance c.args.slices.now at.first.now z r (drop (at.next-index + 1) xs) at.legs.items) (sym c.in_ok-stay.ensures.put)
-    (walking_stays c.args.limit.now.distance c.args.slices.now at.first.now at.between.items at.last.now (drop at.next-index xs) at.legs.items at.invariant r (drop (at.next-index + 1) xs) (list_read xs at.next-index r (omega arith) c.next-item.is)
+    (walking_stays c.args.limit.now.distance c.args.slices.now at.first.now at.between.items at.last.now (drop at.next-index xs) at.legs.items at.invariant r (drop (at.next-index + 1) xs) (drop_read xs at.next-index r (omega arith) c.next-item.is)
     (sym c.if-stay.true ∙ c.in_ok-stay.ensures.value) c.in_ok-stay.ensures.first)
 
 pub loop-next-preserved : goal.loop-next-preserved
@@ -41,5 +41,5 @@ loop-next-preserved c =
     let xs = c.in-Some.rest.now in
     let r = c.next-item.result in
     rw c.clear.ensures.items
-    (walking_breaks c.args.limit.now.distance c.args.slices.now at.first.now at.between.items at.last.now (drop at.next-index xs) at.legs.items at.invariant r (drop (at.next-index + 1) xs) (list_read xs at.next-index r (omega arith) c.next-item.is)
+    (walking_breaks c.args.limit.now.distance c.args.slices.now at.first.now at.between.items at.last.now (drop at.next-index xs) at.legs.items at.invariant r (drop (at.next-index + 1) xs) (drop_read xs at.next-index r (omega arith) c.next-item.is)
     c.push.new.self.items (search rules) (sym c.if-stay.false ∙ c.in_ok-stay.ensures.value) c.in_ok-stay.ensures.first c.in_ok-stay.ensures.some)
