@@ -16,58 +16,17 @@ use Rattle.mob_frac.specs.Formula.{AllFit}
 use Rattle.mob_span.specs.Span.{SpanOf, has, has_instant}
 use Rattle.mob_span.specs.Sets.{in_some}
 use Rattle.mob_span.specs.Neighbours.{is_inside}
-use Rattle.mob_cells.specs.Cells.{IsIn}
 use Rattle.mob_slice.proofs.Cuts.{all_both, all_first, all_second}
 use Rattle.mob_cells.specs.declared.linear.Ends.{Ends}
 use Rattle.mob_cells.specs.declared.signs.Placed.{Placed}
 use Rattle.mob_cells.specs.Roots.{IsLevel, root_parts, root_of, roots, roots_parts, as_list, function_at}
-use Rattle.mob_cells.specs.Cells.{AreCells, AreCutAt, IsSomeEnd, IsCut, AreSplit, IsPlaced, IsApart, AreSigned, functions_of, cut_at, split_one, split_at, start_cells, until, inner, instant_span, beyond, NoneWithin, is_cell, is_cell_of, placed_sign, signs_of}
+use Rattle.mob_cells.specs.Cells.{AreCells, AreCutAt, IsSomeEnd, IsCut, AreSplit, IsPlaced, IsApart, AreSigned, functions_of, split_one, split_at, start_cells, until, inner, instant_span, beyond, NoneWithin, is_cell, is_cell_of, placed_sign, signs_of}
 use Rattle.mob_lifted.proofs.Options.{none_some, same_some}
 use Rattle.mob_cells.proofs.Splits.{split_are, split_out, split_self, start_are}
 use Rattle.mob_cells.proofs.Keeps.{kept}
 use Rattle.mob_cells.proofs.Zeros.{root_inside}
 
--- the cells of the functions before the rest
-pub record IsMaking (s : SpanOf) (fs rest : List Ends) (cells : List SpanOf) (placed : List Placed) : Type 0 where
-  pub signed : AreSigned s placed cells
-  pub made : functions_of placed ++ rest ≡ fs
-  pub level : AllByRecursion (IsLevel s) rest
-  pub fit : AllFit (roots_parts s rest) → AllFit (roots_parts s fs)
-  pub fail : AllFit (roots_parts s fs) → AllFit (roots_parts s rest)
-
-map_more : (xs : List Placed) (x : Placed) → functions_of (xs ++ x ∷ []) ≡ functions_of xs ++ x.ends ∷ []
-map_more [] x = refl
-map_more (y ∷ xs) x = ap (λ z. y.ends ∷ z) (map_more xs x)
-
-cut_are : (s : SpanOf) (r : Option Ratio) (cells : List SpanOf) → AreSplit s cells → AreSplit s (cut_at r cells)
-cut_are s None cells h = h
-cut_are s (Some r) cells h = split_are s r cells h
-
-keep_by : (q : Option Ratio) (r : Option Ratio) (cells : List SpanOf) → MatchOption q (Unit {0}) (λ q. AllByRecursion (NoneWithin q) cells) → MatchOption q (Unit {0}) (λ q. AllByRecursion (NoneWithin q) (cut_at r cells))
-keep_by None r cells h = tt
-keep_by (Some q) None cells h = h
-keep_by (Some q) (Some r) cells h = split_out q r cells h
-
-keep_apart : (r : Option Ratio) (cells : List SpanOf) (ps : List Placed) → AllByRecursion (IsApart cells) ps → AllByRecursion (IsApart (cut_at r cells)) ps
-keep_apart r cells [] h = tt
-keep_apart r cells (p ∷ ps) h = (keep_by p.root r cells h.0, keep_apart r cells ps h.1)
-
-new_apart : (r : Option Ratio) (cells : List SpanOf) → MatchOption r (Unit {0}) (λ q. AllByRecursion (NoneWithin q) (cut_at r cells))
-new_apart None cells = tt
-new_apart (Some r) cells = split_self r cells
-
 -- ---- the instants at which the cells are cut
-pub in_front : {A : Type 0} (x : A) (xs ys : List A) → IsIn x xs → IsIn x (xs ++ ys)
-in_front x [] ys h = absurd h
-in_front x (z ∷ xs) ys h = elim h [ inl e ↦ inl e | inr k ↦ inr (in_front x xs ys k) ]
-
-pub in_back : {A : Type 0} (x : A) (xs ys : List A) → IsIn x ys → IsIn x (xs ++ ys)
-in_back x [] ys h = h
-in_back x (z ∷ xs) ys h = inr (in_back x xs ys h)
-
-cut_front : (s : SpanOf) (xs ys : List Ratio) (t : Ratio) → IsCut s xs t → IsCut s (xs ++ ys) t
-cut_front s xs ys t h = elim h [ inl e ↦ inl e | inr k ↦ inr (elim k [ inl e ↦ inl e | inr i ↦ inr (in_front t xs ys i) ]) ]
-
 abbrev pub HasEnds : (Ratio → Type 0) → SpanOf → Type 0
 HasEnds P c = P c.lower × P c.upper
 
@@ -79,69 +38,12 @@ pub split_ends : (P : Ratio → Type 0) (r : Ratio) (cells : List SpanOf) → P 
 split_ends P r [] p h = tt
 split_ends P r (c ∷ cells) p h = ends_by P r c (split_at r cells) p h.0 (split_ends P r cells p h.1) (before c.lower r && before r c.upper)
 
-cut_ends : (P : Ratio → Type 0) (r : Option Ratio) (cells : List SpanOf) → MatchOption r (Unit {0}) P → AllByRecursion (HasEnds P) cells → AllByRecursion (HasEnds P) (cut_at r cells)
-cut_ends P None cells p h = h
-cut_ends P (Some r) cells p h = split_ends P r cells p h
-
-new_cut : (s : SpanOf) (xs : List Ratio) (r : Option Ratio) → MatchOption r (Unit {0}) (IsCut s (xs ++ as_list r))
-new_cut s xs None = tt
-new_cut s xs (Some r) = inr (inr (in_back r xs (r ∷ []) (inl refl)))
-
-roots_more : (s : SpanOf) (placed : List Placed) (p : Placed) → roots s (functions_of (placed ++ p ∷ [])) ≡ roots s (functions_of placed) ++ as_list (root_of s p.ends)
-roots_more s placed p = ap (roots s) (map_more placed p) ∙ flat_map-append (λ f. as_list (root_of s f)) (functions_of placed) (p.ends ∷ []) ∙ ap (λ l. roots s (functions_of placed) ++ l) (append-nil (as_list (root_of s p.ends)))
-
-only_more : (s : SpanOf) (placed : List Placed) (p : Placed) (cells : List SpanOf) → AllByRecursion (HasEnds (IsCut s (roots s (functions_of placed)))) cells → AllByRecursion (HasEnds (IsCut s (roots s (functions_of (placed ++ p ∷ []))))) (cut_at (root_of s p.ends) cells)
-only_more s placed p cells h =
-    let r = root_of s p.ends in
-    let xs = roots s (functions_of placed) in
-    subst (λ l. AllByRecursion (HasEnds (IsCut s l)) (cut_at r cells)) (sym (roots_more s placed p))
-    (cut_ends (IsCut s (xs ++ as_list r)) r cells (new_cut s xs r) (each_on (HasEnds (IsCut s xs)) (HasEnds (IsCut s (xs ++ as_list r))) (λ c k. (cut_front s xs (as_list r) c.lower k.0, cut_front s xs (as_list r) c.upper k.1)) cells h))
-
 pub start_ends : (P : Ratio → Type 0) (s : SpanOf) → P s.lower → P s.upper → (b l u : Bool) → AllByRecursion (HasEnds P) (cond b (cond l (instant_span s.lower ∷ []) [] ++ inner s ∷ cond u (instant_span s.upper ∷ []) []) (s ∷ []))
 start_ends P s p q false l u = ((p, q), tt)
 start_ends P s p q true true true = ((p, p), ((p, q), ((q, q), tt)))
 start_ends P s p q true true false = ((p, p), ((p, q), tt))
 start_ends P s p q true false true = ((p, q), ((q, q), tt))
 start_ends P s p q true false false = ((p, q), tt)
-
--- ---- the loop
-pub making_start : (s : SpanOf) (fs : List Ends) (cells : List SpanOf) → has_instant s ≡ true → cells ≡ start_cells s → AllByRecursion (IsLevel s) fs → IsMaking s fs fs cells []
-making_start s fs cells k e h = rw e (record {
-  signed = record { are = start_are s k; good = tt; apart = tt; only = start_ends (IsCut s []) s (inl refl) (inr (inl refl)) (before s.lower s.upper) s.lower_inc s.upper_inc };
-  made = refl;
-  level = h;
-  fit = λ z. z;
-  fail = λ z. z;
-})
-
-pub making_step : (s : SpanOf) (fs rest later : List Ends) (f : Ends) (r : Option Ratio) (cells cells' : List SpanOf) (placed placed' : List Placed) → rest ≡ f ∷ later → r ≡ root_of s f → AllFit (root_parts s f) → cells' ≡ cut_at r cells → placed' ≡ placed ++ record { ends = f; root = r } ∷ [] → IsMaking s fs rest cells placed → IsMaking s fs later cells' placed'
-making_step s fs rest later f r cells cells' placed placed' e er fits ec ep m =
-    let p : Placed = record { ends = f; root = r } in
-    let level = subst (λ z. AllByRecursion (IsLevel s) z) e m.level in
-    rw (ec, ep) (record {
-      signed = record {
-        are = cut_are s r cells m.signed.are;
-        good = each_more (IsPlaced s) placed p m.signed.good (record { level = level.0; root = er });
-        apart = each_more (IsApart (cut_at r cells)) placed p (keep_apart r cells placed m.signed.apart) (new_apart r cells);
-        only = subst (λ z. AllByRecursion (HasEnds (IsCut s (roots s (functions_of (placed ++ p ∷ []))))) (cut_at z cells)) (sym er) (only_more s placed p cells m.signed.only);
-      };
-      made = ap (λ z. z ++ later) (map_more placed p) ∙ append_assoc (functions_of placed) (f ∷ []) later ∙ ap (λ z. functions_of placed ++ z) (sym e) ∙ m.made;
-      level = level.1;
-      fit = λ h. m.fit (subst (λ z. AllFit (roots_parts s z)) (sym e) (all_both (root_parts s f) (roots_parts s later) fits h));
-      fail = λ h. all_second (root_parts s f) (roots_parts s later) (subst (λ z. AllFit (roots_parts s z)) e (m.fail h));
-    })
-
-pub level_next : (s : SpanOf) (fs rest later : List Ends) (f : Ends) (cells : List SpanOf) (placed : List Placed) → rest ≡ f ∷ later → IsMaking s fs rest cells placed → IsLevel s f
-level_next s fs rest later f cells placed e m = (subst (λ z. AllByRecursion (IsLevel s) z) e m.level).0
-
-pub making_fails : (s : SpanOf) (fs rest later : List Ends) (f : Ends) (cells : List SpanOf) (placed : List Placed) → rest ≡ f ∷ later → (¬ AllFit (root_parts s f)) → IsMaking s fs rest cells placed → ¬ AllFit (roots_parts s fs)
-making_fails s fs rest later f cells placed e n m h = n (all_first (root_parts s f) (roots_parts s later) (subst (λ z. AllFit (roots_parts s z)) e (m.fail h)))
-
-pub making_all : (s : SpanOf) (fs rest : List Ends) (cells : List SpanOf) (placed : List Placed) → rest ≡ [] → IsMaking s fs rest cells placed → functions_of placed ≡ fs
-making_all s fs rest cells placed e m = sym (append-nil (functions_of placed)) ∙ (rw e at m.made)
-
-pub making_fits : (s : SpanOf) (fs rest : List Ends) (cells : List SpanOf) (placed : List Placed) → rest ≡ [] → IsMaking s fs rest cells placed → AllFit (roots_parts s fs)
-making_fits s fs rest cells placed e m = m.fit (rw e tt)
 
 -- ---- the sign of a function on a cell
 
@@ -193,11 +95,11 @@ mapped_step f rest later x y out out' all e ey n m = rw (n, append_assoc out (y 
 pub mapped_end : {A B : Type 0} (f : A → B) (rest : List A) (out all : List B) → rest ≡ [] → out ++ map f rest ≡ all → out ≡ all
 mapped_end f rest out all e m = sym (append-nil out) ∙ (rw e at m)
 
-pub split_step : (r : Ratio) (rest later : List SpanOf) (c : SpanOf) (out out' all : List SpanOf) → rest ≡ c ∷ later → out' ≡ out ++ split_one r c → out ++ split_at r rest ≡ all → out' ++ split_at r later ≡ all
-split_step r rest later c out out' all e n m = rw (n, append_assoc out (split_one r c) (split_at r later)) (rw e at m)
+pub flat_step : {A B : Type 0} (f : A → List B) (rest later : List A) (x : A) (out out' all : List B) → rest ≡ x ∷ later → out' ≡ out ++ f x → out ++ flat_map f rest ≡ all → out' ++ flat_map f later ≡ all
+flat_step f rest later x out out' all e n m = rw (n, append_assoc out (f x) (flat_map f later)) (rw e at m)
 
-pub split_end : (r : Ratio) (rest out all : List SpanOf) → rest ≡ [] → out ++ split_at r rest ≡ all → out ≡ all
-split_end r rest out all e m = sym (append-nil out) ∙ (rw e at m)
+pub flat_end : {A B : Type 0} (f : A → List B) (rest : List A) (out all : List B) → rest ≡ [] → out ++ flat_map f rest ≡ all → out ≡ all
+flat_end f rest out all e m = sym (append-nil out) ∙ (rw e at m)
 
 -- ---- definitions for callers
 inside_of : (s : SpanOf) (cells : List SpanOf) → AllByRecursion (λ c. is_cell_of s c ≡ true) cells → AllByRecursion (λ c. is_inside s c ≡ true) cells

@@ -5,6 +5,7 @@ use Rattle.std.specs.List.{AllByRecursion, flat_map}
 use Rattle.std.proofs.Common.{arith, ap, sym, ◌∙◌, subst, true≢false, inl, inr, append_assoc, append-nil}
 use Rattle.std.specs.declared.cmp.Ordering.{Ordering}
 use Rattle.mob_list.proofs.Each.{each_get}
+use Rattle.mob_list.proofs.Entries.{each_of_all}
 use Rattle.mob_ratio.specs.Ratio.{Ratio}
 use Rattle.mob_frac.specs.Formula.{AllFit}
 use Rattle.mob_span.specs.Span.{SpanOf, has}
@@ -17,7 +18,6 @@ use Rattle.mob_span.specs.Pieces.{piece_at}
 use Rattle.mob_span.specs.Flags.{same_bool}
 use Rattle.mob_span.proofs.Insides.{inside-trans}
 use Rattle.mob_slice.specs.Pieces.{AreInside}
-use Rattle.mob_cells.specs.Cells.{IsIn}
 use Rattle.mob_slice.specs.Sides.{HasValues, at_ends}
 use Rattle.mob_list.specs.Faults.{OnCause}
 use Rattle.mob_slice.specs.Entries.{IsFirst, IsPartFault}
@@ -100,12 +100,8 @@ module _ (parts : Ratio → List Ratio) where
   fit_roots [] h = tt
   fit_roots (r ∷ rs) h = all_both (parts r) (flat_map parts rs) h.0 (fit_roots rs h.1)
 
-  in_fits : (t : Ratio) (rs : List Ratio) → AllByRecursion (λ t. AllFit (parts t)) rs → IsIn t rs → AllFit (parts t)
-  in_fits t [] h i = absurd i
-  in_fits t (r ∷ rs) h i = elim i [ inl e ↦ subst (λ z. AllFit (parts z)) (sym e) h.0 | inr k ↦ in_fits t rs h.1 k ]
-
   cut_fits : (s : SpanOf) (rs : List Ratio) (t : Ratio) → AllFit (parts s.lower) → AllFit (parts s.upper) → AllByRecursion (λ t. AllFit (parts t)) rs → IsCut s rs t → AllFit (parts t)
-  cut_fits s rs t a b h i = elim i [ inl e ↦ subst (λ z. AllFit (parts z)) (sym e) a | inr k ↦ elim k [ inl e ↦ subst (λ z. AllFit (parts z)) (sym e) b | inr j ↦ in_fits t rs h j ] ]
+  cut_fits s rs t a b h i = elim i [ inl e ↦ subst (λ z. AllFit (parts z)) (sym e) a | inr k ↦ elim k [ inl e ↦ subst (λ z. AllFit (parts z)) (sym e) b | inr j ↦ each_of_all (λ t. AllFit (parts t)) rs h t j ] ]
 
   -- if the values at the ends of the piece and at the roots fit, so do those at the ends of each
   -- cell

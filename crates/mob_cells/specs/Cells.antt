@@ -1,6 +1,6 @@
 -- Cells: spans on which linear functions keep their signs.
-use Rattle.std.specs.Prelude.{◌≡◌, ◌⊎◌, ℤ, pos, negsuc, Bool, true, false, cond, not, ◌&&◌, ◌||◌, List, [], ◌∷◌, ◌++◌, map, Option, Some, None, MatchOption}
-use Rattle.std.specs.List.{AllByRecursion}
+use Rattle.std.specs.Prelude.{◌≡◌, ◌⊎◌, ℤ, pos, negsuc, Bool, true, false, cond, not, ◌&&◌, ◌||◌, List, [], ◌∷◌, ◌++◌, map, Contains, Option, Some, None, MatchOption}
+use Rattle.std.specs.List.{AllByRecursion, flat_map}
 use Rattle.std.specs.declared.cmp.Ordering.{Ordering}
 use Rattle.std.specs.declared.cmp.Ordering.TheVariants.{Less, Equal, Greater}
 use Rattle.mob_ratio.specs.Ratio.{Ratio}
@@ -12,14 +12,9 @@ use Rattle.mob_span.specs.Sets.{in_some}
 use Rattle.mob_span.specs.Pieces.{PiecesAreClear}
 use Rattle.mob_cells.specs.declared.linear.Ends.{Ends}
 use Rattle.mob_cells.specs.declared.signs.Placed.{Placed}
-use Rattle.mob_cells.specs.Roots.{function_at, IsLevel, root_of, roots}
+use Rattle.mob_cells.specs.Roots.{function_at, IsLevel, as_list, root_of, roots}
 
 -- ---- definitions for callers
-
--- x is in a list
-abbrev pub IsIn : {A : Type 0} → A → List A → Type 0
-IsIn x [] = ⊥
-IsIn x (y ∷ ys) = (x ≡ y) ⊎ IsIn x ys
 
 -- a span with functions on it, and its cells
 pub record CellsOf : Type 0 where
@@ -35,7 +30,7 @@ pub record AreCells (s : SpanOf) (cells : List SpanOf) : Type 0 where
 
 -- an end of s, or one of the instants
 abbrev pub IsCut : SpanOf → List Ratio → Ratio → Type 0
-IsCut s instants t = (t ≡ s.lower) ⊎ (t ≡ s.upper) ⊎ IsIn t instants
+IsCut s instants t = (t ≡ s.lower) ⊎ (t ≡ s.upper) ⊎ Contains instants t
 
 -- r is an end of one of the cells
 abbrev pub IsSomeEnd : Ratio → List SpanOf → Type 0
@@ -83,6 +78,23 @@ abbrev pub split_at : Ratio → List SpanOf → List SpanOf
 split_at r [] = []
 split_at r (c ∷ cells) = split_one r c ++ split_at r cells
 
+-- the cells cut at each of the instants
+abbrev pub split_all : List Ratio → List SpanOf → List SpanOf
+split_all [] cells = cells
+split_all (r ∷ cuts) cells = split_all cuts (split_at r cells)
+
+-- each instant is at least q, and at most the later ones
+abbrev pub IsRisingFrom : Ratio → List Ratio → Type 0
+IsRisingFrom q [] = Unit {0}
+IsRisingFrom q (r ∷ cuts) = (up_to q r ≡ true) × IsRisingFrom r cuts
+
+-- the effect of an instant on the rest of a span: the finished cells are appended to the old list
+pub record IsAdvance (r : Ratio) (rest : SpanOf) (old new : List SpanOf) (next : SpanOf) : Type 0 where
+  pub front : List SpanOf
+  pub is : new ≡ old ++ front
+  pub passed : AllByRecursion (λ c. up_to c.upper r ≡ true) front
+  pub made : front ++ next ∷ [] ≡ split_one r rest
+
 -- the ends of s that it includes, and the part between
 abbrev pub start_cells : SpanOf → List SpanOf
 start_cells s = cond (before s.lower s.upper) (cond s.lower_inc (instant_span s.lower ∷ []) [] ++ inner s ∷ cond s.upper_inc (instant_span s.upper ∷ []) []) (s ∷ [])
@@ -117,16 +129,16 @@ IsApart cells p = MatchOption p.root (Unit {0}) (λ r. AllByRecursion (NoneWithi
 abbrev pub functions_of : List Placed → List Ends
 functions_of placed = map (λ p. p.ends) placed
 
+-- their roots
+abbrev pub placed_roots : List Placed → List Ratio
+placed_roots placed = flat_map (λ p. as_list p.root) placed
+
 -- the facts on the cells and on the functions with their roots
 pub record AreSigned (s : SpanOf) (placed : List Placed) (cells : List SpanOf) : Type 0 where
   pub are : AreSplit s cells
   pub good : AllByRecursion (IsPlaced s) placed
   pub apart : AllByRecursion (IsApart cells) placed
   pub only : AllByRecursion (λ c. IsCut s (roots s (functions_of placed)) c.lower × IsCut s (roots s (functions_of placed)) c.upper) cells
-
-abbrev pub cut_at : Option Ratio → List SpanOf → List SpanOf
-cut_at None cells = cells
-cut_at (Some r) cells = split_at r cells
 
 abbrev pub placed_sign : SpanOf → SpanOf → Placed → Ordering
 placed_sign s c p = sign_on p.ends.at_lower p.ends.at_upper s.lower s.upper c.lower c.upper

@@ -77,6 +77,3 @@ apart_above = clear2 _ (λ D l u p h. let h' = simp cleared at h in simp cleared
 pub carried : (o : Option Ratio) (x y : Ratio) → x ≡ y → IfSome o (λ r. (r ≡ x) × Fits r) → IfSome o (λ r. (r ≡ y) × Fits y)
 carried None x y e h = tt
 carried (Some r) x y e h = (h.0 ∙ e, subst Fits (h.0 ∙ e) h.1)
-
-pub moved : (r x y : Ratio) → x ≡ y → (r ≡ x) × Fits x → (r ≡ y) × Fits y
-moved r x y e h = subst (λ z. (r ≡ z) × Fits z) e h

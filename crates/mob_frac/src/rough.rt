@@ -1,10 +1,11 @@
 //! Fractions that need not be in lowest terms: intermediate steps of a result that is reduced once.
 ghost use Rattle.std.specs.Prelude.{◌≡◌, ◌<◌, pos, ◌<ℤ◌, nat_abs, IfSome};
-ghost use Rattle.mob_ratio.specs.Ratio.{over, whole, ◌+ℚ◌, ◌*ℚ◌, ◌/ℚ◌, ◌<ℚ◌};
+ghost use Rattle.mob_ratio.specs.Ratio.{over, whole, ◌+ℚ◌, ◌-ℚ◌, ◌*ℚ◌, ◌/ℚ◌, ◌<ℚ◌};
 ghost use Rattle.mob_frac.specs.Fits.{Fits, IsExact};
 
 use crate::fraction::{Frac, LIMIT, Overflow, reduced};
 use crate::reduction::product;
+use crate::wide::Wide;
 use std::marker::Model;
 
 /// A fraction whose parts are below `2^62`, as those of a `Frac`, and need not be in lowest terms.
@@ -47,6 +48,14 @@ pub(crate) fn fitting(num: i128, den: i128) -> Option<Rough>
 }
 
 impl Rough {
+    /// The difference `a - b`.
+    #[inline(always)]
+    pub fn difference(a: &Frac, b: &Frac) -> Option<Rough>
+        ensures value { IfSome result (λ r. (r ≡ a.now -ℚ b.now) × Fits (a.now -ℚ b.now)) }
+    {
+        Wide::difference(a, b).rough()
+    }
+
     /// The quotient by a number above 0.
     pub fn over(&self, other: &Rough) -> Option<Rough>
         requires above { whole (pos 0) <ℚ other.now }
@@ -64,7 +73,7 @@ impl Rough {
 
     /// The sum `first + self`, in lowest terms. It is `Overflow` exactly if the reduced sum has a
     /// part of more than 62 bits.
-    pub fn behind(&self, first: &Frac) -> Result<Frac, Overflow>
+    pub fn added_to(&self, first: &Frac) -> Result<Frac, Overflow>
         ensures exact { IsExact (first.now +ℚ self.now) result }
     {
         reduced(

@@ -11,10 +11,7 @@ ghost use Rattle.mob_plane.specs.EdgeWise.{signs_at, signs_to, is_on, crosses, i
 ghost use Rattle.mob_plane.specs.declared.point.Point.{Point as PointOf};
 
 use crate::{EdgeSigns, Point, Polygon, RingFault, Tally};
-use std::marker::{Send, Sync};
-
-// Values of the type may be sent to another thread, and several threads may read one.
-fn crosses_threads<T: Send + Sync>() {}
+use mob_list::laws::crosses_threads;
 
 /// Points may cross threads.
 pub fn points_cross_threads() {

@@ -31,5 +31,5 @@ pub use operand::Operand;
 pub use part::{One, Pair, Part};
 pub use side::{Piece, Side};
 pub use slice::Slice;
-pub use slice::cutting::{cut, cut_from, limit};
+pub use slice::cutting::{cut, cut_by, limit};
 pub use steady::Steady;

@@ -14,13 +14,13 @@ ghost use Rattle.mob_arith.specs.Termwise.{entries_at_ends};
 ghost use Rattle.mob_tagg.specs.United.{AreUnited};
 ghost use Rattle.mob_tagg.specs.Sums.{IsSumGiven, steady_on};
 
-use crate::again::{Last, cut_again, keep, summed, summed_again};
+use crate::again::{LastPiece, keep, limit_again, summed, summed_again};
 use crate::taking::{either, merged, normal_of};
 use mob_arith::Summed;
 use mob_frac::Frac;
 use mob_lift::single;
 use mob_list::fault::Fault;
-use mob_slice::{Course, Formula, Moving, Pair, Slice, Steady, cut};
+use mob_slice::{Course, Formula, Moving, Pair, Slice, Steady, cut, cut_by};
 use std::alloc::{AllocError, Global};
 use std::cell::Cell;
 
@@ -28,7 +28,7 @@ use std::cell::Cell;
 fn sum_on<C: Summed + Drop>(
     alloc: Global,
     pair: &Pair<'_, C, C>,
-    memo: &Cell<Option<Last<C>>>,
+    memo: &Cell<Option<LastPiece<C>>>,
 ) -> Result<Slice<C>, Fault<Formula>>
 where
     C::Base: Drop,
@@ -40,7 +40,13 @@ where
         Ok(left) => left,
         Err(fault) => return Err(fault),
     };
-    let right = match cut_again(alloc, pair.right, &pair.span, &last) {
+    // The call of `lower` gives the proof the invariant of a span.
+    let right = match cut_by(
+        alloc,
+        pair.right,
+        &pair.span,
+        limit_again(alloc, pair.right, pair.span.lower(), &last),
+    ) {
         Ok(right) => right,
         Err(fault) => return Err(fault),
     };
@@ -53,8 +59,6 @@ where
         Err(fault) => return Err(fault),
     };
     keep(alloc, memo, pair.right, left, right, &to);
-    // A method call gives the proof the invariant of a span.
-    let _ = pair.span.lower();
     Ok(Slice {
         span: pair.span,
         course: C::of(from, to),

@@ -3,11 +3,8 @@
 ghost use Rattle.std.specs.Prelude.{◌≡◌, true, IfSome};
 ghost use Rattle.mob_ratio.specs.Order.{up_to};
 ghost use Rattle.mob_frac.specs.Formula.{AllFit, sum_parts};
-ghost use Rattle.mob_span.specs.Neighbours.{is_inside};
 ghost use Rattle.mob_slice.specs.Cut.{slice_value, slice_parts};
 ghost use Rattle.mob_slice.specs.Look.{IsLooked};
-ghost use Rattle.mob_slice.specs.Slices.{IsSound};
-ghost use Rattle.mob_slice.specs.SliceOn.{IsCutOn};
 ghost use Rattle.mob_sync.specs.Alike.{AreAlike};
 ghost use Rattle.mob_tagg.specs.Last.{IsLast};
 ghost use Rattle.mob_tagg.specs.Sums.{IsSumOf};
@@ -15,8 +12,7 @@ ghost use Rattle.mob_tagg.specs.Sums.{IsSumOf};
 use mob_arith::Summed;
 use mob_frac::Frac;
 use mob_list::fault::Fault;
-use mob_slice::{Course, Formula, Slice, cut_from, limit};
-use mob_span::Span;
+use mob_slice::{Course, Formula, Slice, limit};
 use mob_sync::are_alike;
 use std::alloc::Global;
 use std::cell::Cell;
@@ -25,7 +21,7 @@ use std::marker::Model;
 /// A piece of two values: the slice of the second there, the two on the piece, and a course that
 /// ends with their sum.
 #[derive(Drop)]
-pub struct Ends<C> {
+pub struct PieceEnds<C> {
     pub(crate) of: Slice<C>,
     pub(crate) left: Slice<C>,
     pub(crate) right: Slice<C>,
@@ -34,12 +30,12 @@ pub struct Ends<C> {
 
 /// The last piece.
 #[derive(Drop)]
-pub struct Last<C: Summed> {
-    ends: Ends<C>,
+pub struct LastPiece<C: Summed> {
+    ends: PieceEnds<C>,
 }
 
-impl<C: Summed> Model for Last<C> {
-    ghost use Rattle.mob_tagg.specs.declared.again.Ends.{Ends as ends_of};
+impl<C: Summed> Model for LastPiece<C> {
+    ghost use Rattle.mob_tagg.specs.declared.again.PieceEnds.{PieceEnds as ends_of};
     ghost use Rattle.mob_tagg.specs.Last.{IsLast};
 
     ghost Value = { ends_of C };
@@ -49,15 +45,15 @@ impl<C: Summed> Model for Last<C> {
     ghost invariant = { λ l. IsLast C.value_of C.end_of C.parts_of C.number C.added l.ends };
 }
 
-impl<C: Summed> Last<C> {
+impl<C: Summed> LastPiece<C> {
     /// The piece, whose second value and sum are right.
-    pub fn new(ends: Ends<C>) -> Self
+    pub fn new(ends: PieceEnds<C>) -> Self
         requires last { IsLast C.value_of C.end_of C.parts_of C.number C.added ends }
     {
-        Last { ends }
+        LastPiece { ends }
     }
 
-    fn ends(&self) -> &Ends<C>
+    fn ends(&self) -> &PieceEnds<C>
         ensures last { IsLast C.value_of C.end_of C.parts_of C.number C.added result.now }
     {
         &self.ends
@@ -65,7 +61,7 @@ impl<C: Summed> Last<C> {
 }
 
 // Whether a piece ends at an instant, on a slice of the second value.
-fn is_of<C: Course>(ends: &Ends<C>, slice: &Slice<C>, t: &Frac) -> bool
+fn is_of<C: Course>(ends: &PieceEnds<C>, slice: &Slice<C>, t: &Frac) -> bool
     ensures at { result ≡ true → t.now ≡ ends.now.right.span.upper }
     ensures alike { result ≡ true → AreAlike slice.now ends.now.of }
 {
@@ -80,7 +76,7 @@ fn limit_from<C: Summed + Drop>(
     alloc: Global,
     slice: &Slice<C>,
     t: &Frac,
-    ends: &Ends<C>,
+    ends: &PieceEnds<C>,
 ) -> Result<C::Base, Fault<Formula>>
 where
     C::Base: Drop,
@@ -95,12 +91,12 @@ where
     Ok(C::copy_base(alloc, ends.right.course.end())?)
 }
 
-// The value of a slice at an instant, as `limit` returns it, after a piece or none.
-fn limit_again<C: Summed + Drop>(
+/// The value of a slice at an instant, as `limit` returns it, after a piece or none.
+pub fn limit_again<C: Summed + Drop>(
     alloc: Global,
     slice: &Slice<C>,
     t: &Frac,
-    last: &Option<Last<C>>,
+    last: &Option<LastPiece<C>>,
 ) -> Result<C::Base, Fault<Formula>>
 where
     C::Base: Drop,
@@ -111,24 +107,6 @@ where
     match last {
         Some(last) => limit_from(alloc, slice, t, last.ends()),
         None => limit(alloc, slice, t),
-    }
-}
-
-/// The slice on a part of its span, as `cut` returns it and with the same errors.
-pub fn cut_again<C: Summed + Drop>(
-    alloc: Global,
-    slice: &Slice<C>,
-    span: &Span,
-    last: &Option<Last<C>>,
-) -> Result<Slice<C>, Fault<Formula>>
-where
-    C::Base: Drop,
-    requires holds { IsSound C.start_of C.end_of slice.now × (is_inside slice.now.span span.now ≡ true) }
-    ensures slice { IsCutOn C.Course slice.now span.now result }
-{
-    match limit_again(alloc, slice, span.lower(), last) {
-        Ok(from) => cut_from(alloc, slice, span, from),
-        Err(fault) => Err(fault),
     }
 }
 
@@ -147,7 +125,7 @@ fn summed_from<C: Summed>(
     alloc: Global,
     x: &C::Base,
     y: &C::Base,
-    ends: &Ends<C>,
+    ends: &PieceEnds<C>,
 ) -> Result<C::Base, Fault<Formula>>
 where
     requires last { IsLast C.value_of C.end_of C.parts_of C.number C.added ends.now }
@@ -168,7 +146,7 @@ pub fn summed_again<C: Summed>(
     alloc: Global,
     x: &C::Base,
     y: &C::Base,
-    last: &Option<Last<C>>,
+    last: &Option<LastPiece<C>>,
 ) -> Result<C::Base, Fault<Formula>>
     ensures sum { IsSumOf C.added C.number x.now y.now result }
 {
@@ -179,7 +157,7 @@ pub fn summed_again<C: Summed>(
 }
 
 // A course with these limits.
-fn copied<C: Course>(alloc: Global, start: &C::Base, end: &C::Base) -> Option<C>
+fn limits_copied<C: Course>(alloc: Global, start: &C::Base, end: &C::Base) -> Option<C>
 where
     C::Base: Drop,
     requires possible { C.can_make start.now end.now }
@@ -198,7 +176,7 @@ where
 /// Keeps a piece for the next one. If an allocation fails, nothing is kept.
 pub fn keep<C: Summed + Drop>(
     alloc: Global,
-    memo: &Cell<Option<Last<C>>>,
+    memo: &Cell<Option<LastPiece<C>>>,
     of: &Slice<C>,
     left: Slice<C>,
     right: Slice<C>,
@@ -211,14 +189,14 @@ where
     requires sum { to.now ≡ C.added (C.end_of left.course) (C.end_of right.course) }
     requires sum_fits { AllFit (sum_parts (C.number (C.end_of left.course)) (C.number (C.end_of right.course))) }
 {
-    let Some(course) = copied::<C>(alloc, of.course.start(), of.course.end()) else {
+    let Some(course) = limits_copied::<C>(alloc, of.course.start(), of.course.end()) else {
         return;
     };
-    let Some(sum) = copied::<C>(alloc, to, to) else {
+    let Some(sum) = limits_copied::<C>(alloc, to, to) else {
         return;
     };
     // This drops the piece kept before.
-    let _old = memo.replace(Some(Last::new(Ends {
+    let _old = memo.replace(Some(LastPiece::new(PieceEnds {
         of: Slice {
             span: of.span,
             course,

@@ -1,6 +1,7 @@
 -- The groups of sorted pieces are the pieces tile by tile, and their values are the split.
 use Rattle.std.specs.Prelude.{Option, Some, None}
 use Rattle.std.proofs.Common.{◌≡◌, ◌≢◌, inl, inr, Bool, true, false, true≢false, List, [], ◌∷◌, ◌++◌, refl, sym, ap, subst, ◌∙◌, cond, append_assoc, append-nil}
+use Rattle.std.proofs.lemmas.Bool.{false_from_ne_true}
 use Rattle.std.specs.List.{filter, AllByRecursion}
 use Rattle.std.specs.List.Sorted.{IsStableBy, ties}
 use Rattle.std.specs.Ordering.{is_lt, ordering_reverse}
@@ -23,12 +24,13 @@ use Rattle.mob_cells.specs.Restricted.{where_wanted, kept_value}
 use Rattle.mob_grid.specs.Tiles.{GridOf, IsGrid, InTile, in_tile, tile_of, compare_tiles}
 use Rattle.mob_grid.specs.declared.tile.Tile.{Tile}
 use Rattle.mob_grid.proofs.Ranges.{tile_has, tile_is, in_tile_exact}
+use Rattle.mob_grid.proofs.TileOrder.{tile_itself, tiles_total}
 use Rattle.mob_tile.specs.declared.pieces.Piece.{Piece}
 use Rattle.mob_tile.specs.Pieces.{slices_of, IsInItsTile, ArePieces}
 use Rattle.mob_tile.specs.Groups.{piece_before, same_tile, IsByTile, group_with, tile_groups, IsTileGroup, IsPartOfGroup, IsPartPushed, AreParts, IsGrouping}
 use Rattle.mob_tile.specs.Split.{IsTilePart, IsSplit, HasTile}
 use Rattle.mob_tile.proofs.TileOrder as order
-use Rattle.mob_tile.proofs.TileOrder.{same_is, same_self, less_differs, less_differs_back, then_less, less_trans, ties_same, rises_sorted, tile_itself, tiles_total}
+use Rattle.mob_tile.proofs.TileOrder.{same_is, same_self, less_differs, less_differs_back, then_less, less_trans, ties_same, rises_sorted}
 
 abbrev tile_in : Piece → Tile
 tile_in q = q.tile
@@ -202,10 +204,6 @@ none_past : (s : SpanOf) (v : Value) (t : Ratio) → AreAllClear (λ (r : Slice 
 none_past s [] t h k = refl
 none_past s (r ∷ v) t h k = rw (clear_has s r.span t h.0 k) (none_past s v t h.1 k)
 
-false_unless : (b : Bool) → (b ≡ true → ⊥) → b ≡ false
-false_unless true h = absurd (h refl)
-false_unless false h = refl
-
 abbrev at_piece : Piece → Ratio → Point
 at_piece q t = slice_value plane_value_of q.slice t
 
@@ -218,7 +216,7 @@ module _ (g : GridOf) (ok : IsGrid g) (a : Tile) where
     where
       by : (b : Bool) → same_tile a q.tile ≡ b → b ≡ in_tile g a t (at_piece q t)
       by true e = sym ((in_tile_exact g a t (at_piece q t)).1 (subst (λ z. InTile g z t (at_piece q t)) (sym (same_is a q.tile e)) (own t h)))
-      by false e = sym (false_unless (in_tile g a t (at_piece q t)) (λ k.
+      by false e = sym (false_from_ne_true (in_tile g a t (at_piece q t)) (λ k.
           let one : a ≡ q.tile = tile_is g a t (at_piece q t) ok ((in_tile_exact g a t (at_piece q t)).0 k) ∙ sym (tile_is g q.tile t (at_piece q t) ok (own t h)) in
           true≢false (sym (same_self q.tile) ∙ ap (λ z. same_tile z q.tile) (sym one) ∙ e)))
 

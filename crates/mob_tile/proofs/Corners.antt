@@ -4,11 +4,12 @@ use Rattle.std.proofs.lemmas.Bool.{and_parts}
 use Rattle.mob_ratio.specs.Ratio.{Ratio, ◌≤ℚ◌}
 use Rattle.mob_ratio.specs.Order.{before, up_to, smaller, greater}
 use Rattle.mob_ratio.specs.Line.{line_at}
-use Rattle.mob_ratio.proofs.Order.{before-back, before-self, not-up_to-le, smaller_left, smaller_right}
+use Rattle.mob_ratio.proofs.Order.{before-back, before-self, not-up_to-le, smaller_left, smaller_right, up_to-self, up_to-trans, greater_left, greater_right}
 use Rattle.mob_ratio.proofs.LineAt.{line_at-short}
 use Rattle.mob_ratio.proofs.Between.{within}
 use Rattle.mob_span.specs.Span.{SpanOf, has_instant}
 use Rattle.mob_span.specs.Neighbours.{is_inside}
+use Rattle.mob_span.proofs.SpanLemmas.{some_upto}
 use Rattle.mob_plane.specs.declared.point.Point.{Point}
 use Rattle.mob_stbox.specs.Areas.{InArea, area_between}
 use Rattle.mob_slice.specs.Slices.{IsSound}
@@ -21,11 +22,6 @@ use Rattle.mob_cells.proofs.Keeps.{upto_of}
 use Rattle.mob_grid.specs.Tiles.{GridOf, InRange, tile_of}
 use Rattle.mob_grid.specs.declared.tile.TileRange.{TileRange}
 use Rattle.mob_tile.specs.Pieces.{Reaches, least_of, greatest_of}
-use Rattle.mob_tile.proofs.Cutting.{greater_left, greater_right, ends_rise}
-use Rattle.mob_tile.proofs.Walking.{up_trans}
-
-up_self : (a : Ratio) → up_to a a ≡ true
-up_self a = grind (arith, before-self a)
 
 -- between the lesser and the greater of two
 pub record IsAmong (a b v : Ratio) : Type 0 where
@@ -57,8 +53,8 @@ value_among a b s t l u = by (before s.lower s.upper) refl (before b a) refl
   where
     by : (d : Bool) → before s.lower s.upper ≡ d → (e : Bool) → before b a ≡ e → IsAmong a b (line_at a b s.lower s.upper t)
     by false h e k = subst (IsAmong a b) (sym (line_at-short a b s.lower s.upper t h)) (among_first a b)
-    by true h true k = let w = (within a b s.lower s.upper t h l u).falling (grind (arith, k, before-back b a)) in record { from = up_trans (smaller a b) b _ (smaller_right a b) w.0; to = up_trans _ a (greater a b) w.1 (greater_left a b) }
-    by true h false k = let w = (within a b s.lower s.upper t h l u).rising (grind (arith, k)) in record { from = up_trans (smaller a b) a _ (smaller_left a b) w.0; to = up_trans _ b (greater a b) w.1 (greater_right a b) }
+    by true h true k = let w = (within a b s.lower s.upper t h l u).falling (grind (arith, k, before-back b a)) in record { from = up_to-trans (smaller a b) b _ (smaller_right a b) w.0; to = up_to-trans _ a (greater a b) w.1 (greater_left a b) }
+    by true h false k = let w = (within a b s.lower s.upper t h l u).rising (grind (arith, k)) in record { from = up_to-trans (smaller a b) a _ (smaller_left a b) w.0; to = up_to-trans _ b (greater a b) w.1 (greater_right a b) }
 
 in_between : (p q r : Point) → IsAmong p.x q.x r.x → IsAmong p.y q.y r.y → InArea (area_between p q) r
 in_between p q r x y = record {
@@ -70,28 +66,28 @@ in_between p q r x y = record {
 
 module _ (g : GridOf) (r : TileRange) (s : Slice PlaneLine) (f : Reaches g r s) (sound : IsSound (λ c. c.from) (λ c. c.to) s) where
   span_rises : s.span.lower ≤ℚ s.span.upper
-  span_rises = not-up_to-le s.span.lower s.span.upper (ends_rise s.span sound.some)
+  span_rises = not-up_to-le s.span.lower s.span.upper (some_upto s.span sound.some)
 
   pub reach_least : InRange r (tile_of g s.span.lower (least_of s.course.from s.course.to))
   reach_least =
       let p = s.course.from in
       let q = s.course.to in
-      f s.span.lower (least_of p q) (in_between p q (least_of p q) (among_smaller p.x q.x p.x q.x (among_first p.x q.x) (among_second p.x q.x)) (among_smaller p.y q.y p.y q.y (among_first p.y q.y) (among_second p.y q.y))) (not-up_to-le _ _ (up_self s.span.lower)) span_rises
+      f s.span.lower (least_of p q) (in_between p q (least_of p q) (among_smaller p.x q.x p.x q.x (among_first p.x q.x) (among_second p.x q.x)) (among_smaller p.y q.y p.y q.y (among_first p.y q.y) (among_second p.y q.y))) (not-up_to-le _ _ (up_to-self s.span.lower)) span_rises
 
   pub reach_greatest : InRange r (tile_of g s.span.upper (greatest_of s.course.from s.course.to))
   reach_greatest =
       let p = s.course.from in
       let q = s.course.to in
-      f s.span.upper (greatest_of p q) (in_between p q (greatest_of p q) (among_greater p.x q.x p.x q.x (among_first p.x q.x) (among_second p.x q.x)) (among_greater p.y q.y p.y q.y (among_first p.y q.y) (among_second p.y q.y))) span_rises (not-up_to-le _ _ (up_self s.span.upper))
+      f s.span.upper (greatest_of p q) (in_between p q (greatest_of p q) (among_greater p.x q.x p.x q.x (among_first p.x q.x) (among_second p.x q.x)) (among_greater p.y q.y p.y q.y (among_first p.y q.y) (among_second p.y q.y))) span_rises (not-up_to-le _ _ (up_to-self s.span.upper))
 
   pub reach_piece : (c : SpanOf) (part : Slice PlaneLine) → has_instant c ≡ true → is_inside s.span c ≡ true → HasValues plane_value_of (λ c. c.from) (λ c. c.to) (slice_value plane_value_of s) c part → InRange r (tile_of g c.lower (least_of part.course.from part.course.to))
   reach_piece c part i h v =
       let w = and_parts (before s.span.lower c.lower || (up_to s.span.lower c.lower && (s.span.lower_inc || not c.lower_inc))) (before c.upper s.span.upper || (up_to c.upper s.span.upper && (s.span.upper_inc || not c.upper_inc))) h in
       let l : up_to s.span.lower c.lower ≡ true = upto_of s.span.lower c.lower s.span.lower_inc (not c.lower_inc) w.0 in
       let u : up_to c.upper s.span.upper ≡ true = upto_of c.upper s.span.upper s.span.upper_inc (not c.upper_inc) w.1 in
-      let m : up_to c.lower c.upper ≡ true = ends_rise c i in
-      let lu : up_to c.lower s.span.upper ≡ true = up_trans c.lower c.upper s.span.upper m u in
-      let ul : up_to s.span.lower c.upper ≡ true = up_trans s.span.lower c.lower c.upper l m in
+      let m : up_to c.lower c.upper ≡ true = some_upto c i in
+      let lu : up_to c.lower s.span.upper ≡ true = up_to-trans c.lower c.upper s.span.upper m u in
+      let ul : up_to s.span.lower c.upper ≡ true = up_to-trans s.span.lower c.lower c.upper l m in
       let p = s.course.from in
       let q = s.course.to in
       let a = slice_value plane_value_of s c.lower in

@@ -3,43 +3,37 @@ use Rattle.std.specs.Prelude.{map}
 use Rattle.std.proofs.Common.{◌≡◌, ◌⊎◌, inl, inr, ℕ, Bool, true, false, true≢false, ℤ, pos, ◌+ℤ◌, ◌≤ℤ◌, ◌<ℤ◌, List, [], ◌∷◌, ◌++◌, arith, refl, sym, ap, subst, ◌∙◌, cond, ◌&&◌, ◌<◌, ◌+◌, suc, zero, length, get_or, append_assoc, ◌-ℤ◌, Some, None}
 use Rattle.std.proofs.lemmas.Int.{ints}
 use Rattle.std.proofs.lemmas.Bool.{and_parts}
+use Rattle.std.proofs.lemmas.List.Elements.{Contains-append_left, Contains-append_right}
 use Rattle.std.specs.List.{AllByRecursion}
-use Rattle.std.specs.List.Sorted.{IsPermutation, IsSortedBy}
-use Rattle.std.specs.Ordering.{is_lt}
 use Rattle.std.specs.declared.cmp.Ordering.TheVariants.{Less, Equal, Greater}
 use Rattle.mob_ratio.specs.Ratio.{Ratio, ◌-ℚ◌, ◌<ℚ◌, ◌≤ℚ◌}
 use Rattle.mob_ratio.specs.Order.{before, up_to, smaller, greater}
 use Rattle.mob_ratio.specs.Sign.{nil, opposite, root_at}
-use Rattle.mob_ratio.proofs.Order.{before-lt, before-back, before-self, not-up_to-le, smaller_left, smaller_right, le-test}
+use Rattle.mob_ratio.proofs.Order.{before-lt, before-back, before-self, not-up_to-le, smaller_left, smaller_right, le-test, greater_left, greater_right}
 use Rattle.mob_ratio.proofs.Field.{le_of_lt, le_trans, lt_trans, cases_lt, le_lt, lt_le}
 use Rattle.mob_ratio.proofs.Signs.{sign-diff, opposite_cases, sign_below, sign_above}
 use Rattle.std.specs.Prelude.{Contains}
-use Rattle.std.proofs.lemmas.List.Sorted.{sorted_far, Contains-permutation}
-use Rattle.std.proofs.lemmas.List.MinMax.{ranks_by}
 use Rattle.mob_list.proofs.Each.{each_both}
-use Rattle.mob_list.proofs.Entries.{first_in, later_in, none_in, which_in}
-use Rattle.mob_slice.specs.Ranks.{compare_ratio}
-use Rattle.mob_slice.specs.RankLaws.{ranking_ratio}
-use Rattle.mob_cells.proofs.Zeros.{one_root}
+use Rattle.mob_list.proofs.Entries.{all_by_each, each_of_all, first_in, map-Contains, flat-Contains}
 use Rattle.mob_span.specs.Span.{SpanOf, has_instant}
+use Rattle.mob_span.proofs.SpanLemmas.{some_upto}
 use Rattle.mob_plane.specs.declared.point.Point.{Point}
 use Rattle.mob_slice.specs.Slices.{IsSound}
 use Rattle.mob_slice.specs.declared.slice.Slice.{Slice}
 use Rattle.mob_slice.specs.declared.line.PlaneLine.{PlaneLine}
 use Rattle.mob_cells.specs.declared.linear.Ends.{Ends}
 use Rattle.mob_cells.specs.Roots.{IsLevel, root_of, roots, as_list}
-use Rattle.mob_cells.specs.Cells.{IsIn, AreSplit, IsSomeEnd, NoneWithin, is_cell_of, start_cells}
+use Rattle.mob_cells.specs.Cells.{AreSplit, IsSomeEnd, NoneWithin, is_cell_of, start_cells, split_all}
 use Rattle.mob_cells.proofs.Splits.{start_are}
-use Rattle.mob_cells.proofs.Standing.{each_in, one_in}
+use Rattle.mob_cells.proofs.Walking.{all_split, all_self, end_or_cut, only_cuts}
+use Rattle.mob_cells.proofs.Rising.{IsBetween, roots_between}
 use Rattle.mob_grid.specs.Bands.{band_of}
 use Rattle.mob_grid.specs.Tiles.{GridOf, IsGrid}
-use Rattle.mob_grid.proofs.BandNumbers.{band_has, bands_rise, edges_lt}
+use Rattle.mob_grid.proofs.BandNumbers.{band_has, bands_rise, edges_lt, next_le}
 use Rattle.mob_tile.specs.Edges.{count_up, natural, numbers_between, edge_of, edge_ends, edges_between, x_edges, y_edges, t_edges, differences, cuts_of}
-use Rattle.mob_tile.specs.Pieces.{split_all, IsRisingFrom, HasOneTile, AreTileCells}
-use Rattle.mob_cells.proofs.Making.{in_front, in_back}
-use Rattle.mob_tile.proofs.Numbers.{number_there, natural_is, in_map, in_flat}
+use Rattle.mob_tile.specs.Pieces.{HasOneTile, AreTileCells}
+use Rattle.mob_tile.proofs.Numbers.{number_there, natural_is}
 use Rattle.mob_tile.proofs.EdgeBands.{IsInOrder, in_order, one_band_on, one_time_on}
-use Rattle.mob_tile.proofs.Walking.{all_split, all_self, end_or_cut, only_cuts}
 
 -- ---- a crossed edge is among the edges of a slice
 sign_less : (x e : Ratio) → before (x -ℚ e) nil ≡ true → x <ℚ e
@@ -58,30 +52,13 @@ sign_more x e h = before-lt e x (by (before x e) (before e x) refl (sign-diff x 
     by false true q k = refl
     by false false q k = absurd cc
 
-pub greater_left : (a b : Ratio) → up_to a (greater a b) ≡ true
-greater_left a b = by (before a b) refl
-  where
-    by : (d : Bool) → before a b ≡ d → up_to a (greater a b) ≡ true
-    by true e = rw e (grind (arith, e, before-back a b))
-    by false e = rw e (grind (arith, before-self a))
-
-pub greater_right : (a b : Ratio) → up_to b (greater a b) ≡ true
-greater_right a b = by (before a b) refl
-  where
-    by : (d : Bool) → before a b ≡ d → up_to b (greater a b) ≡ true
-    by true e = rw e (grind (arith, before-self b))
-    by false e = rw e (grind (arith, e))
-
-at_most : (n m : ℤ) → n <ℤ (m +ℤ pos 1) → n ≤ℤ m
-at_most n m h = omega (arith, ints)
-
-between_there : (c l u : Ratio) (n : ℤ) → nil <ℚ c → l <ℚ edge_of c n → edge_of c n <ℚ u → IsIn n (numbers_between (band_of c l) (band_of c u))
+between_there : (c l u : Ratio) (n : ℤ) → nil <ℚ c → l <ℚ edge_of c n → edge_of c n <ℚ u → Contains (numbers_between (band_of c l) (band_of c u)) n
 between_there c l u n p h k =
     let low : band_of c l <ℤ n = edges_lt c (band_of c l) n p (le_lt (edge_of c (band_of c l)) l (edge_of c n) (band_has c l p).from h) in
-    let high : n ≤ℤ band_of c u = at_most n (band_of c u) (edges_lt c n (band_of c u +ℤ pos 1) p (lt_trans (edge_of c n) u (edge_of c (band_of c u +ℤ pos 1)) k (band_has c u p).until)) in
+    let high : n ≤ℤ band_of c u = next_le n (band_of c u) (edges_lt c n (band_of c u +ℤ pos 1) p (lt_trans (edge_of c n) u (edge_of c (band_of c u +ℤ pos 1)) k (band_has c u p).until)) in
     number_there (band_of c l) (band_of c u) n low high
 
-crossed_there : (c x y : Ratio) (n : ℤ) → nil <ℚ c → opposite (x -ℚ edge_of c n) (y -ℚ edge_of c n) ≡ true → IsIn n (edges_between c x y)
+crossed_there : (c x y : Ratio) (n : ℤ) → nil <ℚ c → opposite (x -ℚ edge_of c n) (y -ℚ edge_of c n) ≡ true → Contains (edges_between c x y) n
 crossed_there c x y n p h =
     let e = edge_of c n in
     elim (opposite_cases (x -ℚ e) (y -ℚ e) h) [
@@ -89,13 +66,13 @@ crossed_there c x y n p h =
       | inr k ↦ between_there c (smaller x y) (greater x y) n p (le_lt (smaller x y) y e (not-up_to-le (smaller x y) y (smaller_right x y)) (sign_less y e k.1)) (lt_le e x (greater x y) (sign_more x e k.0) (not-up_to-le x (greater x y) (greater_left x y)))
     ]
 
-root_listed : (s : SpanOf) (f : Ends) → opposite f.at_lower f.at_upper ≡ true → IsIn (root_at f.at_lower f.at_upper s.lower s.upper) (as_list (root_of s f))
-root_listed s f h = rw h (inl refl)
+root_listed : (s : SpanOf) (f : Ends) → opposite f.at_lower f.at_upper ≡ true → Contains (as_list (root_of s f)) (root_at f.at_lower f.at_upper s.lower s.upper)
+root_listed s f h = rw h (first_in _ [])
 
-root_there : (c x y : Ratio) (s : SpanOf) (n : ℤ) → nil <ℚ c → opposite (x -ℚ edge_of c n) (y -ℚ edge_of c n) ≡ true → IsIn (root_at (x -ℚ edge_of c n) (y -ℚ edge_of c n) s.lower s.upper) (roots s (map (edge_ends c x y) (edges_between c x y)))
+root_there : (c x y : Ratio) (s : SpanOf) (n : ℤ) → nil <ℚ c → opposite (x -ℚ edge_of c n) (y -ℚ edge_of c n) ≡ true → Contains (roots s (map (edge_ends c x y) (edges_between c x y))) (root_at (x -ℚ edge_of c n) (y -ℚ edge_of c n) s.lower s.upper)
 root_there c x y s n p h =
-    in_flat (λ f. as_list (root_of s f)) (edge_ends c x y n) (root_at (x -ℚ edge_of c n) (y -ℚ edge_of c n) s.lower s.upper) (map (edge_ends c x y) (edges_between c x y))
-    (in_map (edge_ends c x y) n (edges_between c x y) (crossed_there c x y n p h)) (root_listed s (edge_ends c x y n) h)
+    flat-Contains (λ f. as_list (root_of s f)) (map (edge_ends c x y) (edges_between c x y)) (edge_ends c x y n) (root_at (x -ℚ edge_of c n) (y -ℚ edge_of c n) s.lower s.upper)
+    (map-Contains (edge_ends c x y) (edges_between c x y) n (crossed_there c x y n p h)) (root_listed s (edge_ends c x y n) h)
 
 roots_both : (s : SpanOf) (fs gs : List Ends) → roots s (fs ++ gs) ≡ roots s fs ++ roots s gs
 roots_both s [] gs = refl
@@ -110,56 +87,6 @@ edges_rise c n m p h = elim (cases_lt (edge_of c m) (edge_of c n)) [ inl k ↦ a
 up_one : (n m : ℤ) → n <ℤ m → (n +ℤ pos 1) ≤ℤ m
 up_one n m h = omega (arith, ints)
 
-pub ends_rise : (s : SpanOf) → has_instant s ≡ true → up_to s.lower s.upper ≡ true
-ends_rise s h = grind (arith, h, before-back s.lower s.upper)
-
--- ---- sorted instants
--- no instant is before x
-abbrev Leads : Ratio → List Ratio → Type 0
-Leads x [] = Unit {0}
-Leads x (y ∷ ys) = (before y x ≡ false) × Leads x ys
-
--- none is before an earlier one
-abbrev pub Rises : List Ratio → Type 0
-Rises [] = Unit {0}
-Rises (x ∷ xs) = Leads x xs × Rises xs
-
-rising_on : (x : Ratio) (xs : List Ratio) → Leads x xs → Rises xs → IsRisingFrom x xs
-rising_on x [] h up = tt
-rising_on x (y ∷ xs) h up = (grind (arith, h.0), rising_on y xs up.0 up.1)
-
-not_before : (a b : Ratio) → is_lt (compare_ratio a b) ≡ false → before a b ≡ false
-not_before a b h = by (before a b) refl h
-  where
-    by : (d : Bool) → before a b ≡ d → is_lt (cond d Less (cond (before b a) Greater Equal)) ≡ false → d ≡ false
-    by true e k = absurd (true≢false k)
-    by false e k = refl
-
-leads_each : (x : Ratio) (ys : List Ratio) → ((k : ℕ) (d : Ratio) → k < length ys → is_lt (compare_ratio (get_or ys k d) x) ≡ false) → Leads x ys
-leads_each x [] f = tt
-leads_each x (y ∷ ys) f = (not_before y x (f 0 y (omega arith)), leads_each x ys (λ k d h. f (suc k) d (omega arith)))
-
-pub rises_sorted : (xs : List Ratio) → IsSortedBy (λ a b. is_lt (compare_ratio a b)) xs → Rises xs
-rises_sorted [] up = tt
-rises_sorted (x ∷ xs) up = (
-  leads_each x xs (λ k d h. sorted_far (λ a b. is_lt (compare_ratio a b)) (ranks_by ranking_ratio.total (λ (z : Ratio). z)) (x ∷ xs) up 0 (suc k) d (omega arith) (omega arith)),
-  rises_sorted xs (λ k d low h.
-      let next : suc k + 1 ≡ suc (k + 1) = omega arith in
-      subst (λ n. is_lt (compare_ratio (get_or (x ∷ xs) n d) (get_or (x ∷ xs) (suc k) d)) ≡ false) next (up (suc k) d (omega arith) (omega arith))),
-)
-
--- ---- a list has the same entries in any order
-pub in_contains : (r : Ratio) (xs : List Ratio) → IsIn r xs → Contains xs r
-in_contains r [] h = absurd h
-in_contains r (x ∷ xs) h = elim h [ inl e ↦ subst (Contains (x ∷ xs)) (sym e) (first_in x xs) | inr k ↦ later_in x xs r (in_contains r xs k) ]
-
-pub contains_in : (r : Ratio) (xs : List Ratio) → Contains xs r → IsIn r xs
-contains_in r [] h = absurd (none_in r h)
-contains_in r (x ∷ xs) h = elim (which_in x xs r h) [ inl e ↦ inl (sym e) | inr k ↦ inr (contains_in r xs k) ]
-
-pub in_order_too : (xs ys : List Ratio) → IsPermutation xs ys → (r : Ratio) → IsIn r xs → IsIn r ys
-in_order_too xs ys p r h = contains_in r ys (Contains-permutation xs ys r p (in_contains r xs h))
-
 module _ (g : GridOf) (s : Slice PlaneLine) (ok : IsGrid g) where
   abbrev functions_x : List Ends
   functions_x = map (edge_ends g.size s.course.from.x s.course.to.x) (x_edges g s)
@@ -167,23 +94,23 @@ module _ (g : GridOf) (s : Slice PlaneLine) (ok : IsGrid g) where
   abbrev functions_y : List Ends
   functions_y = map (edge_ends g.size s.course.from.y s.course.to.y) (y_edges g s)
 
-  x_there : (n : ℤ) → opposite (s.course.from.x -ℚ edge_of g.size n) (s.course.to.x -ℚ edge_of g.size n) ≡ true → IsIn (root_at (s.course.from.x -ℚ edge_of g.size n) (s.course.to.x -ℚ edge_of g.size n) s.span.lower s.span.upper) (cuts_of g s)
+  x_there : (n : ℤ) → opposite (s.course.from.x -ℚ edge_of g.size n) (s.course.to.x -ℚ edge_of g.size n) ≡ true → Contains (cuts_of g s) (root_at (s.course.from.x -ℚ edge_of g.size n) (s.course.to.x -ℚ edge_of g.size n) s.span.lower s.span.upper)
   x_there n h =
       let r = root_at (s.course.from.x -ℚ edge_of g.size n) (s.course.to.x -ℚ edge_of g.size n) s.span.lower s.span.upper in
       let own = root_there g.size s.course.from.x s.course.to.x s.span n ok.some_size h in
-      in_front r (roots s.span (differences g s)) (map (edge_of g.width) (t_edges g s)) (subst (IsIn r) (sym (roots_both s.span functions_x functions_y)) (in_front r (roots s.span functions_x) (roots s.span functions_y) own))
+      Contains-append_left (roots s.span (differences g s)) (map (edge_of g.width) (t_edges g s)) r (subst (λ l. Contains l r) (sym (roots_both s.span functions_x functions_y)) (Contains-append_left (roots s.span functions_x) (roots s.span functions_y) r own))
 
-  y_there : (n : ℤ) → opposite (s.course.from.y -ℚ edge_of g.size n) (s.course.to.y -ℚ edge_of g.size n) ≡ true → IsIn (root_at (s.course.from.y -ℚ edge_of g.size n) (s.course.to.y -ℚ edge_of g.size n) s.span.lower s.span.upper) (cuts_of g s)
+  y_there : (n : ℤ) → opposite (s.course.from.y -ℚ edge_of g.size n) (s.course.to.y -ℚ edge_of g.size n) ≡ true → Contains (cuts_of g s) (root_at (s.course.from.y -ℚ edge_of g.size n) (s.course.to.y -ℚ edge_of g.size n) s.span.lower s.span.upper)
   y_there n h =
       let r = root_at (s.course.from.y -ℚ edge_of g.size n) (s.course.to.y -ℚ edge_of g.size n) s.span.lower s.span.upper in
       let own = root_there g.size s.course.from.y s.course.to.y s.span n ok.some_size h in
-      in_front r (roots s.span (differences g s)) (map (edge_of g.width) (t_edges g s)) (subst (IsIn r) (sym (roots_both s.span functions_x functions_y)) (in_back r (roots s.span functions_x) (roots s.span functions_y) own))
+      Contains-append_left (roots s.span (differences g s)) (map (edge_of g.width) (t_edges g s)) r (subst (λ l. Contains l r) (sym (roots_both s.span functions_x functions_y)) (Contains-append_right (roots s.span functions_x) (roots s.span functions_y) r own))
 
-  t_there : (n : ℤ) → s.span.lower <ℚ edge_of g.width n → edge_of g.width n <ℚ s.span.upper → IsIn (edge_of g.width n) (cuts_of g s)
-  t_there n h k = in_back (edge_of g.width n) (roots s.span (differences g s)) (map (edge_of g.width) (t_edges g s)) (in_map (edge_of g.width) n (t_edges g s) (between_there g.width s.span.lower s.span.upper n ok.some_width h k))
+  t_there : (n : ℤ) → s.span.lower <ℚ edge_of g.width n → edge_of g.width n <ℚ s.span.upper → Contains (cuts_of g s) (edge_of g.width n)
+  t_there n h k = Contains-append_right (roots s.span (differences g s)) (map (edge_of g.width) (t_edges g s)) (edge_of g.width n) (map-Contains (edge_of g.width) (t_edges g s) n (between_there g.width s.span.lower s.span.upper n ok.some_width h k))
 
   -- a cell with no cut strictly inside lies in one tile
-  one_tile_on : (d : SpanOf) → IsSound (λ c. c.from) (λ c. c.to) s → is_cell_of s.span d ≡ true → ((r : Ratio) → IsIn r (cuts_of g s) → NoneWithin r d) → HasOneTile g s d
+  one_tile_on : (d : SpanOf) → IsSound (λ c. c.from) (λ c. c.to) s → is_cell_of s.span d ≡ true → ((r : Ratio) → Contains (cuts_of g s) r → NoneWithin r d) → HasOneTile g s d
   one_tile_on d sound i none t h = record {
     in_x = one_band_on g.size s.course.from.x s.course.to.x s.span d (λ z. ap (λ (p : Point). p.x) (sound.level z)) i ok.some_size (λ n k. none _ (x_there n k)) t h;
     in_y = one_band_on g.size s.course.from.y s.course.to.y s.span d (λ z. ap (λ (p : Point). p.y) (sound.level z)) i ok.some_size (λ n k. none _ (y_there n k)) t h;
@@ -204,27 +131,9 @@ module _ (g : GridOf) (s : Slice PlaneLine) (ok : IsGrid g) where
               (le_lt s.span.lower d.lower (edge_of g.width n) (not-up_to-le s.span.lower d.lower o.low) (before-lt d.lower (edge_of g.width n) w.0))
               (lt_le (edge_of g.width n) d.upper s.span.upper (before-lt (edge_of g.width n) d.upper w.1) (not-up_to-le d.upper s.span.upper o.high)))
 
-  each_cell : (cells : List SpanOf) → AllByRecursion (λ c. is_cell_of s.span c ≡ true) cells → ((r : Ratio) → IsIn r (cuts_of g s) → AllByRecursion (NoneWithin r) cells) → IsSound (λ c. c.from) (λ c. c.to) s → AllByRecursion (HasOneTile g s) cells
+  each_cell : (cells : List SpanOf) → AllByRecursion (λ c. is_cell_of s.span c ≡ true) cells → ((r : Ratio) → Contains (cuts_of g s) r → AllByRecursion (NoneWithin r) cells) → IsSound (λ c. c.from) (λ c. c.to) s → AllByRecursion (HasOneTile g s) cells
   each_cell [] a f sound = tt
   each_cell (d ∷ cells) a f sound = (one_tile_on d sound a.0 (λ r k. (f r k).0), each_cell cells a.1 (λ r k. (f r k).1) sound)
-
-  -- each cut lies between the ends
-  abbrev Between : Ratio → Type 0
-  Between r = (up_to s.span.lower r ≡ true) × (up_to r s.span.upper ≡ true)
-
-  weaken : (x y : Ratio) → before x y ≡ true → up_to x y ≡ true
-  weaken x y h = grind (arith, h, before-back x y)
-
-  root_between : (f : Ends) → IsLevel s.span f → AllByRecursion Between (as_list (root_of s.span f))
-  root_between f level = by (opposite f.at_lower f.at_upper) refl
-    where
-      by : (o : Bool) → opposite f.at_lower f.at_upper ≡ o → AllByRecursion Between (as_list (cond o (Some (root_at f.at_lower f.at_upper s.span.lower s.span.upper)) None))
-      by false e = tt
-      by true e = let m = one_root s.span f level e in ((weaken s.span.lower _ m.after, weaken _ s.span.upper m.until), tt)
-
-  roots_between : (fs : List Ends) → AllByRecursion (IsLevel s.span) fs → AllByRecursion Between (roots s.span fs)
-  roots_between [] h = tt
-  roots_between (f ∷ fs) h = each_both Between (as_list (root_of s.span f)) (roots s.span fs) (root_between f h.0) (roots_between fs h.1)
 
   level_map : (c x y : Ratio) (ns : List ℤ) → (before s.span.lower s.span.upper ≡ false → x ≡ y) → AllByRecursion (IsLevel s.span) (map (edge_ends c x y) ns)
   level_map c x y [] f = tt
@@ -236,7 +145,7 @@ module _ (g : GridOf) (s : Slice PlaneLine) (ok : IsGrid g) where
       (level_map g.size s.course.from.y s.course.to.y (y_edges g s) (λ z. ap (λ (p : Point). p.y) (sound.level z)))
 
   -- the edges of time above the band of the lower end and up to that of the upper one
-  time_between : (n : ℤ) → band_of g.width s.span.lower <ℤ n → n ≤ℤ band_of g.width s.span.upper → Between (edge_of g.width n)
+  time_between : (n : ℤ) → band_of g.width s.span.lower <ℤ n → n ≤ℤ band_of g.width s.span.upper → IsBetween s.span (edge_of g.width n)
   time_between n h k =
       let l = band_has g.width s.span.lower ok.some_width in
       let u = band_has g.width s.span.upper ok.some_width in (
@@ -244,36 +153,31 @@ module _ (g : GridOf) (s : Slice PlaneLine) (ok : IsGrid g) where
         le-test (edge_of g.width n) s.span.upper (le_trans (edge_of g.width n) (edge_of g.width (band_of g.width s.span.upper)) s.span.upper (edges_rise g.width n (band_of g.width s.span.upper) ok.some_width k) u.from),
       )
 
-  times_from : (low high : ℤ) (k : ℕ) → band_of g.width s.span.lower <ℤ low → (low +ℤ pos k) ≤ℤ (high +ℤ pos 1) → high ≡ band_of g.width s.span.upper → AllByRecursion Between (map (edge_of g.width) (count_up low k))
+  times_from : (low high : ℤ) (k : ℕ) → band_of g.width s.span.lower <ℤ low → (low +ℤ pos k) ≤ℤ (high +ℤ pos 1) → high ≡ band_of g.width s.span.upper → AllByRecursion (IsBetween s.span) (map (edge_of g.width) (count_up low k))
   times_from low high zero h l e = tt
   times_from low high (suc k) h l e = (time_between low h (subst (λ z. low ≤ℤ z) e (omega (arith, ints))), times_from (low +ℤ pos 1) high k (omega (arith, ints)) (omega (arith, ints)) e)
 
-  times_between : band_of g.width s.span.lower ≤ℤ band_of g.width s.span.upper → AllByRecursion Between (map (edge_of g.width) (t_edges g s))
+  times_between : band_of g.width s.span.lower ≤ℤ band_of g.width s.span.upper → AllByRecursion (IsBetween s.span) (map (edge_of g.width) (t_edges g s))
   times_between h = times_from (band_of g.width s.span.lower +ℤ pos 1) (band_of g.width s.span.upper) (natural (band_of g.width s.span.upper -ℤ band_of g.width s.span.lower)) (omega (arith, ints)) (fits (band_of g.width s.span.lower) (band_of g.width s.span.upper) h) refl
     where
       fits : (l u : ℤ) → l ≤ℤ u → ((l +ℤ pos 1) +ℤ pos (natural (u -ℤ l))) ≤ℤ (u +ℤ pos 1)
       fits l u h = subst (λ z. ((l +ℤ pos 1) +ℤ z) ≤ℤ (u +ℤ pos 1)) (sym (natural_is (u -ℤ l) (omega (arith, ints)))) (omega (arith, ints))
 
-  pub cuts_between : IsSound (λ c. c.from) (λ c. c.to) s → AllByRecursion Between (cuts_of g s)
-  cuts_between sound = each_both Between (roots s.span (differences g s)) (map (edge_of g.width) (t_edges g s)) (roots_between (differences g s) (level_all sound))
-      (times_between (bands_rise g.width s.span.lower s.span.upper ok.some_width (not-up_to-le s.span.lower s.span.upper (ends_rise s.span sound.some))))
+  pub cuts_between : IsSound (λ c. c.from) (λ c. c.to) s → AllByRecursion (IsBetween s.span) (cuts_of g s)
+  cuts_between sound = each_both (IsBetween s.span) (roots s.span (differences g s)) (map (edge_of g.width) (t_edges g s)) (roots_between s.span (differences g s) (level_all sound))
+      (times_between (bands_rise g.width s.span.lower s.span.upper ok.some_width (not-up_to-le s.span.lower s.span.upper (some_upto s.span sound.some))))
 
   -- the cells of a slice, cut at its cuts in any order
-  pub cells_good : (sorted : List Ratio) → IsSound (λ c. c.from) (λ c. c.to) s → ((r : Ratio) → IsIn r (cuts_of g s) → IsIn r sorted) → ((r : Ratio) → IsIn r sorted → IsIn r (cuts_of g s)) → AreTileCells g s (cuts_of g s) (split_all sorted (start_cells s.span))
+  pub cells_good : (sorted : List Ratio) → IsSound (λ c. c.from) (λ c. c.to) s → ((r : Ratio) → Contains (cuts_of g s) r → Contains sorted r) → ((r : Ratio) → Contains sorted r → Contains (cuts_of g s) r) → AreTileCells g s (cuts_of g s) (split_all sorted (start_cells s.span))
   cells_good sorted sound f b =
       let cells = split_all sorted (start_cells s.span) in
       let split : AreSplit s.span cells = all_split s.span sorted (start_cells s.span) (start_are s.span sound.some) in
-      let out : (r : Ratio) → IsIn r (cuts_of g s) → AllByRecursion (NoneWithin r) cells = λ r k. all_self r sorted (start_cells s.span) (f r k) in
+      let out : (r : Ratio) → Contains (cuts_of g s) r → AllByRecursion (NoneWithin r) cells = λ r k. all_self r sorted (start_cells s.span) (f r k) in
       record {
         split = split;
         cut = record {
-          each = each_in (λ r. (r ≡ s.span.lower) ⊎ ((r ≡ s.span.upper) ⊎ IsSomeEnd r cells)) (cuts_of g s) (λ r k. let w = one_in Between (cuts_of g s) r (cuts_between sound) k in end_or_cut s.span r cells split (out r k) w.0 w.1);
+          each = all_by_each (λ r. (r ≡ s.span.lower) ⊎ ((r ≡ s.span.upper) ⊎ IsSomeEnd r cells)) (cuts_of g s) (λ r k. let w = each_of_all (IsBetween s.span) (cuts_of g s) (cuts_between sound) r k in end_or_cut s.span r cells split (out r k) w.0 w.1);
           only = only_cuts s.span (cuts_of g s) sorted b;
         };
         tiles = each_cell cells split.are out sound;
       }
-
-  -- sorted cuts start at or after the lower end
-  pub rising_cuts : (sorted : List Ratio) → IsSound (λ c. c.from) (λ c. c.to) s → ((r : Ratio) → IsIn r sorted → IsIn r (cuts_of g s)) → Rises sorted → IsRisingFrom s.span.lower sorted
-  rising_cuts [] sound b up = tt
-  rising_cuts (r ∷ sorted) sound b up = ((one_in Between (cuts_of g s) r (cuts_between sound) (b r (inl refl))).0, rising_on r sorted up.0 up.1)

@@ -6,15 +6,16 @@ use Rattle.mob_ratio.specs.Ratio.{Ratio, ◌-ℚ◌, ◌<ℚ◌}
 use Rattle.mob_ratio.specs.Order.{before, up_to, smaller}
 use Rattle.mob_ratio.specs.Line.{line_at}
 use Rattle.mob_ratio.specs.Sign.{nil, opposite, root_at, sign_of}
-use Rattle.mob_ratio.proofs.Order.{before-lt, lt-before, before-back, before-trans, before-neither, up_to-le, not-up_to-le, smaller_left, smaller_right}
+use Rattle.mob_ratio.proofs.Order.{before-lt, lt-before, before-back, before-trans, before-neither, up_to-le, not-up_to-le, smaller_left, smaller_right, before-within}
 use Rattle.mob_ratio.proofs.Field.{le_of_lt, le_trans, lt_le}
 use Rattle.mob_ratio.proofs.LineAt.{line_at-level, line_at-part}
 use Rattle.mob_ratio.proofs.Signs.{line_at-diff, sign-diff, compared}
 use Rattle.mob_ratio.proofs.Between.{within, IsWithin, start_below, end_below, HasBelow}
 use Rattle.mob_span.specs.Span.{SpanOf, has}
 use Rattle.mob_span.specs.Neighbours.{is_inside}
+use Rattle.mob_span.proofs.Insides.{inner_has}
 use Rattle.mob_cells.specs.Cells.{NoneWithin, is_cell, is_cell_of}
-use Rattle.mob_cells.proofs.Keeps.{kept, upto_of}
+use Rattle.mob_cells.proofs.Keeps.{kept, upto_of, open_has, point_has}
 use Rattle.mob_grid.specs.Bands.{InBand, band_of}
 use Rattle.mob_grid.proofs.BandNumbers.{band_has}
 use Rattle.mob_tile.specs.Edges.{edge_of}
@@ -30,20 +31,6 @@ in_order s c i =
     let w = and_parts (is_cell c) (is_inside s c) i in
     let x = and_parts (before s.lower c.lower || (up_to s.lower c.lower && (s.lower_inc || not c.lower_inc))) (before c.upper s.upper || (up_to c.upper s.upper && (s.upper_inc || not c.upper_inc))) w.1 in
     record { low = upto_of s.lower c.lower s.lower_inc (not c.lower_inc) x.0; long_or_one = grind (arith, w.0, before-back c.lower c.upper); high = upto_of c.upper s.upper s.upper_inc (not c.upper_inc) x.1 }
-
-pub open_has : (c : SpanOf) (t : Ratio) → is_cell c ≡ true → before c.lower c.upper ≡ true → has c t ≡ true → (before c.lower t ≡ true) × (before t c.upper ≡ true)
-open_has c t i h k = (grind (arith, i, h, k), grind (arith, i, h, k))
-
-pub open_has_back : (c : SpanOf) (t : Ratio) → before c.lower t ≡ true → before t c.upper ≡ true → has c t ≡ true
-open_has_back c t h k = grind (arith, h, k)
-
-pub point_has : (c : SpanOf) (t : Ratio) → is_cell c ≡ true → before c.lower c.upper ≡ false → has c t ≡ true → (c.lower ≡ c.upper) × (t ≡ c.lower)
-point_has c t i h k =
-    let e : c.lower ≡ c.upper = before-neither c.lower c.upper h (grind (arith, i, h)) in
-    (e, before-neither t c.lower (grind (arith, i, h, k, before-back c.lower t)) (grind (arith, i, h, k, e, before-back t c.upper)))
-
-long_span : (l a b u : Ratio) → up_to l a ≡ true → before a b ≡ true → up_to b u ≡ true → before l u ≡ true
-long_span l a b u h k m = grind (arith, h, k, m, before-trans l a b, before-neither l a, before-trans l b u, before-neither b u, before-trans a b u)
 
 -- ---- the smaller of two
 smaller_is : (a b : Ratio) → (smaller a b ≡ a) ⊎ (smaller a b ≡ b)
@@ -102,7 +89,7 @@ module _ (c x0 x1 : Ratio) (s d : SpanOf) (level : before s.lower s.upper ≡ fa
 
   -- the value inside, from those at the ends of the cell
   piece_at : (t : Ratio) → before d.lower d.upper ≡ true → line_at a0 a1 d.lower d.upper t ≡ at t
-  piece_at t h = let o = in_order s d i in line_at-part x0 x1 s.lower s.upper d.lower d.upper t (long_span s.lower d.lower d.upper s.upper o.low h o.high) h
+  piece_at t h = let o = in_order s d i in line_at-part x0 x1 s.lower s.upper d.lower d.upper t (before-within s.lower d.lower d.upper s.upper o.low h o.high) h
 
   long_until : (n : ℤ) → IsClear n → (t : Ratio) → has d t ≡ true → before d.lower d.upper ≡ true → before (smaller a0 a1) (edge_of c n) ≡ true → before (at t) (edge_of c n) ≡ true
   long_until n f t h k b = elim (smaller_is a0 a1) [
@@ -111,7 +98,7 @@ module _ (c x0 x1 : Ratio) (s d : SpanOf) (level : before s.lower s.upper ≡ fa
   ]
     where
       from : HasBelow a0 a1 d.lower d.upper (edge_of c n) → before (at t) (edge_of c n) ≡ true
-      from m = one_side n f t m.at h (open_has_back d m.at m.after m.until) (subst (λ z. before z (edge_of c n) ≡ true) (piece_at m.at k) m.is)
+      from m = one_side n f t m.at h (inner_has d m.at m.after m.until) (subst (λ z. before z (edge_of c n) ≡ true) (piece_at m.at k) m.is)
 
   -- the band of the lesser end is that of each value in the cell
   pub one_band_on : nil <ℚ c → ((n : ℤ) → IsClear n) → (t : Ratio) → has d t ≡ true → InBand c (band_of c (smaller a0 a1)) (at t)

@@ -1,6 +1,7 @@
 -- The pieces of a slice on its cells, and of all slices.
 use Rattle.std.proofs.Common.{◌≡◌, ◌⊎◌, inl, inr, true, List, [], ◌∷◌, ◌++◌, refl, sym, ap, subst, ◌∙◌, Some, None}
 use Rattle.std.specs.List.{AllByRecursion, flat_map}
+use Rattle.std.specs.Prelude.{Contains}
 use Rattle.mob_ratio.specs.Ratio.{Ratio}
 use Rattle.mob_frac.specs.Formula.{AllFit}
 use Rattle.mob_span.specs.Span.{SpanOf, has}
@@ -19,7 +20,8 @@ use Rattle.mob_slice.specs.declared.line.PlaneLine.{PlaneLine}
 use Rattle.mob_list.specs.declared.fault.Fault.{Fault}
 use Rattle.mob_slice.proofs.Cuts.{all_both, all_first, all_second}
 use Rattle.mob_list.proofs.Each.{each_both}
-use Rattle.mob_cells.specs.Cells.{IsIn, IsCut, IsSomeEnd}
+use Rattle.mob_list.proofs.Entries.{none_in, which_in}
+use Rattle.mob_cells.specs.Cells.{IsCut, IsSomeEnd}
 use Rattle.mob_lifted.specs.OnPiece.{AreKeptOn}
 use Rattle.mob_lifted.proofs.OnOnePiece.{one_kept}
 use Rattle.mob_cells.proofs.Making.{are_cells}
@@ -68,9 +70,9 @@ module _ (s : Slice PlaneLine) where
   high_fits : AllFit (parts s.span.upper)
   high_fits = subst AllFit (sym (plane_laws.upper_parts s.course s.span.lower s.span.upper)) tt
 
-  in_fits : (t : Ratio) (rs : List Ratio) → AllFit (flat_map parts rs) → IsIn t rs → AllFit (parts t)
-  in_fits t [] h i = absurd i
-  in_fits t (r ∷ rs) h i = elim i [ inl e ↦ subst (λ z. AllFit (parts z)) (sym e) (all_first (parts r) (flat_map parts rs) h) | inr k ↦ in_fits t rs (all_second (parts r) (flat_map parts rs) h) k ]
+  in_fits : (t : Ratio) (rs : List Ratio) → AllFit (flat_map parts rs) → Contains rs t → AllFit (parts t)
+  in_fits t [] h i = absurd (none_in t i)
+  in_fits t (r ∷ rs) h i = elim (which_in r rs t i) [ inl e ↦ subst (λ z. AllFit (parts z)) e (all_first (parts r) (flat_map parts rs) h) | inr k ↦ in_fits t rs (all_second (parts r) (flat_map parts rs) h) k ]
 
   cut_fits : (rs : List Ratio) (t : Ratio) → AllFit (flat_map parts rs) → IsCut s.span rs t → AllFit (parts t)
   cut_fits rs t h i = elim i [ inl e ↦ subst (λ z. AllFit (parts z)) (sym e) low_fits | inr k ↦ elim k [ inl e ↦ subst (λ z. AllFit (parts z)) (sym e) high_fits | inr j ↦ in_fits t rs h j ] ]

@@ -11,4 +11,3 @@ pub mod Parts
 pub mod Roots
 pub mod SharedTiles
 pub mod TileOrder
-pub mod Walking

@@ -1,5 +1,6 @@
 -- The split of a value has one answer, apart from out of memory.
 use Rattle.std.proofs.Common.{◌≡◌, ◌≢◌, inl, inr, List, refl, sym, ap, subst, ◌∙◌, Some, None, Result, Ok, Err}
+use Rattle.std.proofs.lemmas.Option.{same_Some, none-some}
 use Rattle.std.specs.List.{flat_map}
 use Rattle.mob_ratio.specs.Ratio.{Ratio}
 use Rattle.mob_slice.specs.declared.slice.Slice.{Slice}
@@ -15,12 +16,6 @@ use Rattle.mob_tile.specs.declared.splitting.SplitCause.{SplitCause}
 use Rattle.mob_tile.specs.declared.splitting.SplitCause.TheVariants.{Passed, Limit}
 use Rattle.mob_tile.proofs.Limits.{one_area, one_time}
 use Rattle.mob_list.specs.declared.fault.Fault.TheVariants.{Because, NoMemory}
-
-none_some : (f : Formula) → None ≡ Some f → ⊥
-none_some f e = absurd (cc e)
-
-inside_some : (f h : Formula) → Some f ≡ Some h → f ≡ h
-inside_some f h e = cc e
 
 -- two facts about the range of the box of a value are facts about one range
 pub both_hold : (g : GridOf) (a : List (Slice PlaneLine)) (P Q : List Ratio → TileRange → Type 0) → OnRange g a P → OnRange g a Q → (quotients : List Ratio) × (range : TileRange) × P quotients range × Q quotients range
@@ -39,14 +34,14 @@ module _ (V : Type 0) (g : GridOf) (a : List (Slice PlaneLine)) where
 
   -- an answer excludes every refusal
   never_both : (v : V) (f : Fault SplitCause) (q : List Ratio) (r : TileRange) → f ≢ NoMemory → Answers (Ok v) q r → Answers (Err f) q r → ⊥
-  never_both v (Because (Passed f)) q r some h k = elim k [ inl x ↦ x.1 h.0 | inr x ↦ none_some f (one_first (flat_map (entries_of_slice g) a) None (Some f) h.2 x.2) ]
+  never_both v (Because (Passed f)) q r some h k = elim k [ inl x ↦ x.1 h.0 | inr x ↦ none-some f (one_first (flat_map (entries_of_slice g) a) None (Some f) h.2 x.2) ]
   never_both v (Because Limit) q r some h k = h.1 k.1
   never_both v NoMemory q r some h k = some refl
 
   one_refusal : (e f : Fault SplitCause) (q : List Ratio) (r : TileRange) → e ≢ NoMemory → f ≢ NoMemory → Answers (Err e) q r → Answers (Err f) q r → e ≡ f
   one_refusal (Because (Passed e)) (Because (Passed f)) q r some other h k = elim h [
     | inl x ↦ elim k [ inl y ↦ ap (λ f. Because (Passed f)) (x.0 ∙ sym y.0) | inr y ↦ absurd (x.1 y.0) ]
-    | inr x ↦ elim k [ inl y ↦ absurd (y.1 x.0) | inr y ↦ ap (λ f. Because (Passed f)) (inside_some e f (one_first (flat_map (entries_of_slice g) a) (Some e) (Some f) x.2 y.2)) ]
+    | inr x ↦ elim k [ inl y ↦ absurd (y.1 x.0) | inr y ↦ ap (λ f. Because (Passed f)) (same_Some e f (one_first (flat_map (entries_of_slice g) a) (Some e) (Some f) x.2 y.2)) ]
   ]
   one_refusal (Because (Passed e)) (Because Limit) q r some other h k = elim h [ inl x ↦ absurd (x.1 k.0) | inr x ↦ absurd (x.1 k.1) ]
   one_refusal (Because (Passed e)) NoMemory q r some other h k = absurd (other refl)

@@ -11,19 +11,17 @@ use Rattle.mob_slice.specs.Lines.{plane_value_of, plane_continued}
 use Rattle.mob_slice.specs.PlaneLaws.{plane_laws}
 use Rattle.mob_slice.specs.declared.slice.Slice.{Slice}
 use Rattle.mob_slice.specs.declared.line.PlaneLine.{PlaneLine}
+use Rattle.mob_slice.proofs.LookUps.{some_value}
 use Rattle.mob_normal.proofs.Unique.{unique}
 use Rattle.mob_cells.specs.Restricted.{where_wanted}
 use Rattle.mob_grid.specs.Tiles.{GridOf, IsGrid, in_tile, tile_of, compare_tiles}
 use Rattle.mob_grid.specs.declared.tile.Tile.{Tile}
+use Rattle.mob_grid.proofs.TileOrder.{never-less, tiles_total, tile_itself}
 use Rattle.mob_tile.specs.Split.{IsTilePart, IsSplit, HasTile}
-use Rattle.mob_tile.proofs.TileOrder.{tiles_total, tile_itself}
 use Rattle.mob_tile.proofs.Parts.{only}
 
 abbrev Rising : List (Tile × List (Slice PlaneLine)) → Type 0
 Rising ps = Chained (λ p. Unit {0}) (λ p q. compare_tiles p.0 q.0 ≡ Less) ps
-
-never : (x : Tile) → compare_tiles x x ≡ Less → ⊥
-never x h = let e : Less ≡ Equal = sym h ∙ tile_itself x in absurd (cc e)
 
 -- the tiles after the first are greater
 behind : (p : Tile × List (Slice PlaneLine)) (ps : List (Tile × List (Slice PlaneLine))) → Rising (p ∷ ps) → (x : Tile) → HasTile x ps → compare_tiles p.0 x ≡ Less
@@ -38,25 +36,20 @@ heads p q ps qs hp hq i j = elim i [
   | inl e ↦ sym e
   | inr k ↦ elim j [
     | inl e ↦ e
-    | inr l ↦ absurd (never p.0 (tiles_total.trans p.0 q.0 p.0 (behind p ps hp q.0 l) (behind q qs hq p.0 k)))
+    | inr l ↦ absurd (never-less p.0 (tiles_total.trans p.0 q.0 p.0 (behind p ps hp q.0 l) (behind q qs hq p.0 k)))
   ]
 ]
 
 later : (p q : Tile × List (Slice PlaneLine)) (ps qs : List (Tile × List (Slice PlaneLine))) → p.0 ≡ q.0 → Rising (p ∷ ps) → (x : Tile) → HasTile x ps → HasTile x (q ∷ qs) → HasTile x qs
 later p q ps qs e hp x i j = elim j [
-  | inl f ↦ absurd (never x (subst (λ z. compare_tiles z x ≡ Less) (e ∙ f) (behind p ps hp x i)))
+  | inl f ↦ absurd (never-less x (subst (λ z. compare_tiles z x ≡ Less) (e ∙ f) (behind p ps hp x i)))
   | inr k ↦ k
 ]
-
--- a normal list has a value at some instant
-some_value : (v : List (Slice PlaneLine)) → IsNormal (λ c. c.from) (λ c. c.to) plane_continued v → (t : Ratio) × (p : Point) × (value_at plane_value_of v t ≡ Some p)
-some_value [] n = absurd (n.some refl)
-some_value (s ∷ v) n = let m = some_instant s.span n.chained.0.some in (m.0, plane_value_of s.course s.span.lower s.span.upper m.0, rw m.1 refl)
 
 module _ (g : GridOf) (a : List (Slice PlaneLine)) (ok : IsGrid g) where
   -- the tile of a part is that of the value at some instant
   lived : (tile : Tile) (part : List (Slice PlaneLine)) → IsTilePart g a tile part → (t : Ratio) × (p : Point) × ((tile ≡ tile_of g t p) × (value_at plane_value_of a t ≡ Some p))
-  lived tile part h = let s = some_value part h.normal in (s.0, s.1, (only g a s.0 s.1 ok ((tile, part) ∷ []) (h, tt)).0 s.2)
+  lived tile part h = let s = some_value plane_value_of part h.normal in (s.0, s.1, (only g a s.0 s.1 ok ((tile, part) ∷ []) (h, tt)).0 s.2)
 
   tiles_in : (ps qs : List (Tile × List (Slice PlaneLine))) → AllByRecursion (λ p. IsTilePart g a p.0 p.1) ps → IsSplit g a qs → (x : Tile) → HasTile x ps → HasTile x qs
   tiles_in [] qs each s x i = absurd i

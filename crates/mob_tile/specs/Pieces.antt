@@ -11,23 +11,13 @@ use Rattle.mob_slice.specs.Sides.{HasValues}
 use Rattle.mob_slice.specs.Lines.{plane_value_of}
 use Rattle.mob_slice.specs.declared.slice.Slice.{Slice}
 use Rattle.mob_slice.specs.declared.line.PlaneLine.{PlaneLine}
-use Rattle.mob_cells.specs.Cells.{AreSplit, IsCut, IsSomeEnd, split_one, split_at}
+use Rattle.mob_cells.specs.Cells.{AreSplit, IsCut, IsSomeEnd}
 use Rattle.mob_lifted.specs.OnPiece.{AreKeptOn}
 use Rattle.mob_cells.specs.Restricted.{AreRestricted}
 use Rattle.mob_grid.specs.Tiles.{GridOf, InTile, InRange, tile_of}
 use Rattle.mob_grid.specs.declared.tile.Tile.{Tile}
 use Rattle.mob_grid.specs.declared.tile.TileRange.{TileRange}
 use Rattle.mob_tile.specs.declared.pieces.Piece.{Piece}
-
--- the cells cut at each of the instants
-abbrev pub split_all : List Ratio → List SpanOf → List SpanOf
-split_all [] cells = cells
-split_all (r ∷ cuts) cells = split_all cuts (split_at r cells)
-
--- each instant is at least q, and at most the later ones
-abbrev pub IsRisingFrom : Ratio → List Ratio → Type 0
-IsRisingFrom q [] = Unit {0}
-IsRisingFrom q (r ∷ cuts) = (up_to q r ≡ true) × IsRisingFrom r cuts
 
 -- the least corner of the bounding rectangle of two points, and the greatest
 abbrev pub least_of : Point → Point → Point
@@ -77,13 +67,6 @@ pub record AreTileCells (g : GridOf) (s : Slice PlaneLine) (cuts : List Ratio) (
   pub split : AreSplit s.span cells
   pub cut : AreCutsOf s.span cuts cells
   pub tiles : AllByRecursion (HasOneTile g s) cells
-
--- the effect of an instant on the rest of a span: the finished cells are appended to the old list
-pub record IsAdvance (r : Ratio) (rest : SpanOf) (old new : List SpanOf) (next : SpanOf) : Type 0 where
-  pub front : List SpanOf
-  pub is : new ≡ old ++ front
-  pub passed : AllByRecursion (λ c. up_to c.upper r ≡ true) front
-  pub made : front ++ next ∷ [] ≡ split_one r rest
 
 -- a piece with the values of the slice s on the cell c, in its tile, is appended
 pub record IsPushed (g : GridOf) (s : Slice PlaneLine) (c : SpanOf) (old new : List Piece) : Type 0 where

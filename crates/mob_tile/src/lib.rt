@@ -2,7 +2,6 @@
 //! in them.
 #![tactic(auto)]
 
-mod cells;
 mod cuts;
 mod grid;
 mod groups;

@@ -1,10 +1,7 @@
 //! Pieces of slices, each in one tile.
 ghost use Rattle.std.specs.Prelude.{◌≡◌, true, [], ◌∷◌, ◌++◌, map, OnOk, IfOk};
 ghost use Rattle.std.specs.List.{flat_map, AllByRecursion};
-ghost use Rattle.std.specs.List.Sorted.{IsPermutation, IsSortedBy};
-ghost use Rattle.std.specs.Ordering.{is_lt};
 ghost use Rattle.mob_span.specs.Neighbours.{is_inside};
-ghost use Rattle.mob_slice.specs.Ranks.{compare_ratio};
 ghost use Rattle.mob_slice.specs.Slices.{IsSound, IsOrdered};
 ghost use Rattle.mob_slice.specs.Cut.{slice_value, slice_parts};
 ghost use Rattle.mob_slice.specs.Sides.{at_ends, HasValues};
@@ -15,18 +12,16 @@ ghost use Rattle.mob_cells.specs.Roots.{IsLevel, roots, roots_parts};
 ghost use Rattle.mob_tile.specs.Edges.{t_edges, differences, cuts_of, edge_of, edges_parts, entry_of_values, entries_of_slice};
 ghost use Rattle.mob_tile.specs.Pieces.{least_of, greatest_of, HasOneTile, Reaches, IsInItsTile, ArePiecesOf, ArePieces, AreTileCells, IsPushed};
 
-use crate::cells::cells_at;
 use crate::cuts::{differences, roots_of, times};
 use crate::grid::Grid;
-use mob_cells::{Ends, append};
+use mob_cells::{Ends, append, cells_at, sort_instants};
 use mob_frac::Frac;
 use mob_grid::{Tile, TileRange};
 use mob_list::fault::Fault;
 use mob_plane::{Point, greater, smaller};
-use mob_slice::{Formula, PlaneLine, Ranked, Slice, cut};
+use mob_slice::{Formula, PlaneLine, Slice, cut};
 use mob_span::Span;
 use std::alloc::{AllocError, Global};
-use std::cmp::Ordering;
 
 /// A piece of a moving point, with its tile.
 #[derive(Drop)]
@@ -111,19 +106,6 @@ fn cuts_on(alloc: Global, span: &Span, edges: Edges) -> Result<Vec<Frac>, Fault<
     }
 }
 
-// Sorts instants.
-fn sort_cuts(cuts: &mut Vec<Frac>) -> Result<(), AllocError>
-    ensures sorted { OnOk result (IsPermutation cuts.old.items cuts.new.items × IsSortedBy (λ a b. is_lt (compare_ratio a b)) cuts.new.items) }
-{
-    let compare = |a: &Frac, b: &Frac| -> Ordering
-        ensures order { result ≡ compare_ratio a.now b.now }
-    { Ranked::compare(a, b) };
-    match cuts.sort_by(compare) {
-        Ok(()) => Ok(()),
-        Err(error) => Err(error),
-    }
-}
-
 // The cells of a slice, each of which is in one tile.
 fn cells_of(
     alloc: Global,
@@ -139,7 +121,7 @@ fn cells_of(
     let _size = grid.size();
     let _width = grid.width();
     let mut cuts = cuts;
-    sort_cuts(&mut cuts)?;
+    sort_instants(&mut cuts)?;
     match cells_at(alloc, &slice.span, cuts.as_slice()) {
         Ok(cells) => Ok(cells),
         Err(error) => Err(error),

@@ -5,7 +5,7 @@ use Rattle.mob_ratio.specs.Ratio.{◌+ℚ◌}
 use Rattle.mob_frac.specs.Fits.{IsExact}
 use Rattle.mob_frac.proofs.Sharing.{den_positive}
 use Rattle.mob_frac.proofs.Roughs.{times_positive, sum_parts}
-use Rattle.mob_frac.proofs.rough.Rough.behind.Goals as goal
+use Rattle.mob_frac.proofs.rough.Rough.added_to.Goals as goal
 
 pub reduced-requires : goal.reduced-requires
 reduced-requires c =
