@@ -36,10 +36,10 @@ first_up_to s r l m k h e f = rw (e, f, ← k.at_one) (some_upto s h)
 pub second_up_to : (r : SpanOf) (m u : Ratio) → has_instant r ≡ true → m ≡ r.lower → u ≡ r.upper → up_to m u ≡ true
 second_up_to r m u h e f = rw (e, f) (some_upto r h)
 
-pub goes_on : (x0 x1 y0 y1 l m u m' : Ratio) → same x1 y0 ≡ true → m ≡ m' → same (line_at x0 y1 l u m') x1 ≡ line_continues x0 x1 y0 y1 l m u
+pub one_line : (x0 x1 y0 y1 l m u m' : Ratio) → same x1 y0 ≡ true → m ≡ m' → same (line_at x0 y1 l u m') x1 ≡ line_continues x0 x1 y0 y1 l m u
 unfolding line_continues
-goes_on x0 x1 y0 y1 l m u m' h e = rw (h, e) refl
+one_line x0 x1 y0 y1 l m u m' h e = rw (h, e) refl
 
-pub goes_not : (x0 x1 y0 y1 l m u : Ratio) → same x1 y0 ≡ false → false ≡ line_continues x0 x1 y0 y1 l m u
+pub two_lines : (x0 x1 y0 y1 l m u : Ratio) → same x1 y0 ≡ false → false ≡ line_continues x0 x1 y0 y1 l m u
 unfolding line_continues
-goes_not x0 x1 y0 y1 l m u h = rw h refl
+two_lines x0 x1 y0 y1 l m u h = rw h refl

@@ -114,7 +114,7 @@ minus_by v false w f = rw (f refl) refl
 
 -- a set inside h meets the rest of h without another set exactly in its instants outside that set
 pub minus_same : (v w g set : List SpanOf) (h : SpanOf) → AllByRecursion (λ s. is_inside h s ≡ true) v → AreRemainders h w g → IsInBoth v g set → IsInFirstAlone v w set
-minus_same v w g set h a k and_parts t = and_parts t ∙ ap (λ b. in_some v t && b) (k t) ∙ minus_by (in_some v t) (has h t) (in_some w t) (λ n. outside h v t a n)
+minus_same v w g set h a k m t = m t ∙ ap (λ b. in_some v t && b) (k t) ∙ minus_by (in_some v t) (has h t) (in_some w t) (λ n. outside h v t a n)
 
 pub minus_nothing : (v w set : List SpanOf) → v ≡ [] → ((t : Ratio) → in_some set t ≡ false) → IsInFirstAlone v w set
 minus_nothing v w set e n t = n t ∙ ap (λ z. in_some z t && not (in_some w t)) (sym e)

@@ -45,7 +45,7 @@ fn is_straight(x0: &Frac, x1: &Frac, y: &Frac, l: &Frac, m: &Frac, u: &Frac) -> 
 
 // Whether the line from `x0` to `x1` on a span and the one from `y0` to `y1` on the next are one
 // line.
-fn goes_on(x0: &Frac, x1: &Frac, y0: &Frac, y1: &Frac, span: &Span, next: &Span) -> bool
+fn is_one_line(x0: &Frac, x1: &Frac, y0: &Frac, y1: &Frac, span: &Span, next: &Span) -> bool
     requires meets { Meets span.now next.now }
     ensures value { result ≡ line_continues x0.now x1.now y0.now y1.now span.now.lower span.now.upper next.now.upper }
 {
@@ -108,7 +108,7 @@ impl Course for Line {
     }
 
     fn continues(&self, span: &Span, next: &Self, next_span: &Span) -> bool {
-        goes_on(&self.from, &self.to, &next.from, &next.to, span, next_span)
+        is_one_line(&self.from, &self.to, &next.from, &next.to, span, next_span)
     }
 
     #[tactic(auto, using(mob_ratio::proofs::Order::same_exact))]
@@ -175,14 +175,14 @@ impl Course for PlaneLine {
     }
 
     fn continues(&self, span: &Span, next: &Self, next_span: &Span) -> bool {
-        goes_on(
+        is_one_line(
             &self.from.x,
             &self.to.x,
             &next.from.x,
             &next.to.x,
             span,
             next_span,
-        ) && goes_on(
+        ) && is_one_line(
             &self.from.y,
             &self.to.y,
             &next.from.y,
