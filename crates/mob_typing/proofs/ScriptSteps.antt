@@ -1,7 +1,6 @@
 -- The statements typed so far, and those that follow.
 use Rattle.std.proofs.Common.{◌≡◌, ◌∙◌, ◌<◌, ◌+◌, refl, sym, ap, inl, inr, ℕ, List, [], ◌∷◌, ◌++◌, length, map, drop, get_or, Result, Ok, Err}
 use Rattle.std.proofs.lemmas.List.{drop_more}
-use Rattle.mob_ast.specs.declared.refusal.Kind.{Kind}
 use Rattle.mob_ast.specs.declared.refusal.Refusal.{Refusal}
 use Rattle.mob_ast.specs.declared.statement.Statement.{Statement}
 use Rattle.mob_ast.specs.Trees.{StatementParts, statement_of}
