@@ -1,28 +1,23 @@
 -- Cells, one function at a time.
-use Rattle.std.specs.Prelude.{◌≡◌, ◌⊎◌, Bool, true, false, cond, ◌&&◌, ◌||◌, ℕ, zero, suc, List, [], ◌∷◌, ◌++◌, map, slice_get, length, get_or, ◌<◌, Option, Some, None, MatchOption, refl}
+use Rattle.std.specs.Prelude.{◌≡◌, ◌⊎◌, Bool, true, false, cond, ◌&&◌, ◌||◌, ℕ, zero, suc, List, [], ◌∷◌, ◌++◌, map, slice_get, length, get_or, ◌<◌, Some, None, MatchOption, refl}
 use Rattle.std.proofs.lemmas.Bool.{and_parts}
-use Rattle.std.specs.List.{AllByRecursion}
-use Rattle.std.proofs.Common.{arith, ap, sym, ◌∙◌, subst, true≢false, inl, inr, append_assoc, append-nil, drop, ◌+◌, add-one, drop-cons}
+use Rattle.std.specs.List.{AllByRecursion, flat_map}
+use Rattle.std.proofs.Common.{arith, ap, sym, ◌∙◌, subst, true≢false, inl, inr, append_assoc, append-nil, ◌+◌}
 use Rattle.std.proofs.lemmas.Option.{slice_get_read}
-use Rattle.std.proofs.lemmas.List.Concat.{flat_map-append}
 use Rattle.std.specs.declared.cmp.Ordering.{Ordering}
-use Rattle.mob_list.proofs.Each.{each_both, each_get, each_more, each_on}
-use Rattle.mob_list.proofs.Entries.{drop_read}
+use Rattle.mob_list.proofs.Each.{each_both, each_get, each_on}
 use Rattle.mob_ratio.specs.Ratio.{Ratio}
 use Rattle.mob_ratio.specs.Order.{before}
 use Rattle.mob_ratio.specs.Sign.{opposite, root_at, sign_of}
 use Rattle.mob_ratio.proofs.Order.{before-back, before-neither}
-use Rattle.mob_frac.specs.Formula.{AllFit}
-use Rattle.mob_span.specs.Span.{SpanOf, has, has_instant}
+use Rattle.mob_span.specs.Span.{SpanOf, has}
 use Rattle.mob_span.specs.Sets.{in_some}
 use Rattle.mob_span.specs.Neighbours.{is_inside}
-use Rattle.mob_slice.proofs.Cuts.{all_both, all_first, all_second}
 use Rattle.mob_cells.specs.declared.linear.Ends.{Ends}
 use Rattle.mob_cells.specs.declared.signs.Placed.{Placed}
-use Rattle.mob_cells.specs.Roots.{IsLevel, root_parts, root_of, roots, roots_parts, as_list, function_at}
-use Rattle.mob_cells.specs.Cells.{AreCells, AreCutAt, IsSomeEnd, IsCut, AreSplit, IsPlaced, IsApart, AreSigned, functions_of, split_one, split_at, start_cells, until, inner, instant_span, beyond, NoneWithin, is_cell, is_cell_of, placed_sign, signs_of}
+use Rattle.mob_cells.specs.Roots.{IsLevel, root_of, roots, as_list, function_at}
+use Rattle.mob_cells.specs.Cells.{AreCells, AreCutAt, IsSomeEnd, AreSplit, IsPlaced, IsApart, AreSigned, functions_of, split_at, until, inner, instant_span, beyond, NoneWithin, is_cell, is_cell_of, placed_sign, signs_of}
 use Rattle.mob_lifted.proofs.Options.{none_some, same_some}
-use Rattle.mob_cells.proofs.Splits.{split_are, split_out, split_self, start_are}
 use Rattle.mob_cells.proofs.Keeps.{kept}
 use Rattle.mob_cells.proofs.Zeros.{root_inside}
 

@@ -12,7 +12,7 @@ use Rattle.mob_slice.proofs.Cuts.{all_both, all_first, all_second}
 use Rattle.mob_cells.specs.declared.linear.Ends.{Ends}
 use Rattle.mob_cells.specs.declared.signs.Placed.{Placed}
 use Rattle.mob_cells.specs.Roots.{IsLevel, root_parts, root_of, roots, roots_parts, as_list}
-use Rattle.mob_cells.specs.Cells.{AreSplit, AreSigned, IsPlaced, IsApart, NoneWithin, functions_of, placed_roots, split_all, start_cells}
+use Rattle.mob_cells.specs.Cells.{AreSigned, IsPlaced, IsApart, NoneWithin, functions_of, placed_roots, split_all, start_cells}
 use Rattle.mob_cells.proofs.Splits.{start_are}
 use Rattle.mob_cells.proofs.Walking.{all_split, all_self, only_cuts}
 

@@ -1,8 +1,7 @@
 -- The parts kept on each cell, and on all of them.
-use Rattle.std.specs.Prelude.{◌≡◌, Bool, true, false, cond, not, ◌&&◌, ◌||◌, ℕ, List, [], ◌∷◌, ◌++◌, slice_get, Option, Some, None, MatchOption, Result, Ok, Err, MatchResult, refl}
-use Rattle.std.proofs.lemmas.Bool.{and_parts, and_from}
+use Rattle.std.specs.Prelude.{◌≡◌, Bool, true, false, cond, ◌||◌, ℕ, List, [], ◌∷◌, ◌++◌, slice_get, Option, Some, None, MatchOption, Result, Ok, Err, MatchResult, refl}
 use Rattle.std.specs.List.{AllByRecursion, flat_map}
-use Rattle.std.proofs.Common.{arith, ap, sym, ◌∙◌, subst, true≢false, inl, inr, append_assoc, append-nil}
+use Rattle.std.proofs.Common.{ap, sym, ◌∙◌, subst, true≢false, inl, inr, append_assoc, append-nil}
 use Rattle.std.specs.declared.cmp.Ordering.{Ordering}
 use Rattle.mob_list.proofs.Each.{each_get}
 use Rattle.mob_list.proofs.Entries.{each_of_all}
@@ -11,8 +10,6 @@ use Rattle.mob_frac.specs.Formula.{AllFit}
 use Rattle.mob_span.specs.Span.{SpanOf, has}
 use Rattle.mob_span.specs.Neighbours.{is_inside}
 use Rattle.mob_span.specs.Sets.{in_some}
-use Rattle.mob_ratio.specs.Order.{before, up_to}
-use Rattle.mob_ratio.proofs.Order.{before-trans, before-neither}
 use Rattle.mob_slice.specs.Slices.{value_at}
 use Rattle.mob_span.specs.Pieces.{piece_at}
 use Rattle.mob_span.specs.Flags.{same_bool}

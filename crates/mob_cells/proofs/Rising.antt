@@ -1,5 +1,5 @@
 -- Sorted instants of a span.
-use Rattle.std.proofs.Common.{◌≡◌, ℕ, Bool, true, false, true≢false, List, [], ◌∷◌, arith, subst, cond, ◌<◌, ◌+◌, suc, zero, length, get_or, Some, None}
+use Rattle.std.proofs.Common.{◌≡◌, ℕ, Bool, true, false, true≢false, List, [], ◌∷◌, arith, subst, cond, ◌<◌, ◌+◌, suc, length, get_or, Some, None, refl}
 use Rattle.std.specs.Prelude.{Contains}
 use Rattle.std.specs.List.{AllByRecursion}
 use Rattle.std.specs.List.Sorted.{IsSortedBy}

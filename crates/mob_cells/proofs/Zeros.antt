@@ -1,12 +1,12 @@
 -- Lemmas on roots.
 use Rattle.std.specs.Prelude.{◌≡◌, Bool, true, false, refl}
-use Rattle.std.proofs.Common.{arith, ap, sym, ◌∙◌, true≢false, inl, inr}
+use Rattle.std.proofs.Common.{ap, sym, ◌∙◌, true≢false, inl, inr}
 use Rattle.std.specs.declared.cmp.Ordering.TheVariants.{Less, Equal, Greater}
 use Rattle.mob_ratio.specs.Ratio.{Ratio}
 use Rattle.mob_ratio.specs.Order.{before}
 use Rattle.mob_ratio.specs.Line.{line_at}
 use Rattle.mob_ratio.specs.Sign.{nil, opposite, root_at, sign_of, IsRoot}
-use Rattle.mob_ratio.proofs.Order.{before-back, before-neither}
+use Rattle.mob_ratio.proofs.Order.{before-neither}
 use Rattle.mob_ratio.proofs.Signs.{root_holds, opposite_cases, sign_below, sign_above, sign_nil, opposite-self}
 use Rattle.mob_span.specs.Span.{SpanOf, has}
 use Rattle.mob_cells.specs.declared.linear.Ends.{Ends}

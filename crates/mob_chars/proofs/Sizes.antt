@@ -1,5 +1,5 @@
 -- Each gap and each token lies within the text, and each token has at least one byte.
-use Rattle.std.specs.Prelude.{◌==◌, ◌||◌, IfSome, option_map, take_while, not}
+use Rattle.std.specs.Prelude.{◌==◌, IfSome, option_map, take_while, not}
 use Rattle.std.proofs.Common.{◌≡◌, ◌<◌, ◌≤◌, ◌+◌, ◌∙◌, inl, inr, ℕ, zero, suc, List, [], ◌∷◌, length, drop, length-drop, Bool, true, false, cond, Option, Some, None, refl, sym, ap, subst, arith}
 use Rattle.std.specs.List.{prefix_len}
 use Rattle.std.proofs.lemmas.List.{length-take}

@@ -1,11 +1,11 @@
 -- Boxes of polygons, and the one box by which a value is searched for.
-use Rattle.std.proofs.Common.{◌≡◌, true, false, List, Option, Some, None, arith, refl, sym, ap, ◌∙◌, subst}
+use Rattle.std.proofs.Common.{◌≡◌, true, false, List, Option, Some, None, refl, sym, ap, ◌∙◌, subst}
 use Rattle.std.specs.Prelude.{All, IfSome, is_some, ◌&&◌, ◌||◌}
 use Rattle.std.proofs.lemmas.List.Elements.{All-contains}
 use Rattle.mob_ratio.specs.Ratio.{Ratio}
 use Rattle.mob_ratio.specs.Order.{up_to}
 use Rattle.mob_ratio.proofs.Field.{le_trans}
-use Rattle.mob_ratio.proofs.Order.{before-neither, not-up_to-le, smaller_left, greater_right, up_to-both}
+use Rattle.mob_ratio.proofs.Order.{not-up_to-le, smaller_left, greater_right, up_to-both}
 use Rattle.mob_span.specs.Span.{SpanOf, InSpan}
 use Rattle.mob_plane.specs.Corners.{all_points, AreCorners, IsLeastAmong, IsGreatestAmong}
 use Rattle.mob_plane.specs.Membership.{inside}

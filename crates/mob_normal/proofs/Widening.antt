@@ -13,7 +13,7 @@ use Rattle.mob_slice.specs.Slices.{OfHead, IsNormalPair, AreNormal, IsNormal, va
 use Rattle.mob_slice.specs.declared.line.Line.{Line}
 use Rattle.mob_slice.specs.declared.slice.Slice.{Slice}
 use Rattle.mob_slice.specs.declared.steady.Steady.{Steady}
-use Rattle.mob_slice.proofs.Straight.{goes_not}
+use Rattle.mob_slice.proofs.Straight.{two_lines}
 use Rattle.mob_normal.specs.Widened.{level_line}
 
 -- two steps continue as one if their values are equal
@@ -34,7 +34,7 @@ differ s r h = λ e. true≢false (sym ((same_exact s.course.value r.course.valu
 level_pair : (s r : Slice (Steady Ratio)) → IsNormalPair steady_limit steady_limit steps_continue s r → IsNormalPair line_start line_end line_continued (level_line s) (level_line r)
 level_pair s r h = record {
   in_order = h.in_order;
-  apart = λ m. sym (goes_not s.course.value s.course.value r.course.value r.course.value s.span.lower s.span.upper r.span.upper (h.apart m));
+  apart = λ m. sym (two_lines s.course.value s.course.value r.course.value r.course.value s.span.lower s.span.upper r.span.upper (h.apart m));
   given_late = λ m i l. differ s r (h.apart m);
   own_value = λ m b. differ s r (h.apart m);
 }

@@ -4,13 +4,13 @@ use Rattle.std.specs.List.{list_any, filter}
 use Rattle.std.proofs.Common.{arith, sym, ap, ◌∙◌}
 use Rattle.std.proofs.Math.Nat.{suc-mod}
 use Rattle.std.specs.declared.cmp.Ordering.{Ordering}
-use Rattle.std.specs.declared.cmp.Ordering.TheVariants.{Less, Equal, Greater}
-use Rattle.std.specs.Ordering.{is_eq, is_lt, is_gt}
+use Rattle.std.specs.declared.cmp.Ordering.TheVariants.{Less, Greater}
+use Rattle.std.specs.Ordering.{is_lt, is_gt}
 use Rattle.mob_ratio.specs.Ratio.{Ratio, ◌-ℚ◌}
-use Rattle.mob_ratio.specs.Order.{before, same}
+use Rattle.mob_ratio.specs.Order.{before}
 use Rattle.mob_ratio.specs.Sign.{sign_of, nil}
-use Rattle.mob_ratio.proofs.Order.{before-back, before-trans, before-neither, before-from}
-use Rattle.mob_ratio.proofs.Signs.{sign-diff, lt_sign, gt_sign, eq_sign, lt_diff, gt_diff}
+use Rattle.mob_ratio.proofs.Order.{before-back, before-from}
+use Rattle.mob_ratio.proofs.Signs.{lt_sign, gt_sign, eq_sign, lt_diff, gt_diff}
 use Rattle.mob_plane.specs.Turns.{turn}
 use Rattle.mob_plane.specs.Rings.{all_edges}
 use Rattle.mob_plane.specs.Membership.{lies_between, lies_on, is_one_alone, passes_height, crossing_at, passes_right, is_odd, inside}

@@ -1,8 +1,8 @@
 -- The smallest and the greatest coordinates of points.
-use Rattle.std.specs.Prelude.{◌≡◌, true, cond, List, Any, All}
+use Rattle.std.specs.Prelude.{◌≡◌, true, List, Any, All}
 use Rattle.std.specs.List.{flat_map}
 use Rattle.mob_ratio.specs.Ratio.{Ratio}
-use Rattle.mob_ratio.specs.Order.{before, up_to, smaller, greater}
+use Rattle.mob_ratio.specs.Order.{up_to, smaller, greater}
 use Rattle.mob_plane.specs.declared.point.Point.{Point}
 use Rattle.mob_plane.specs.declared.rectangle.Corners.{Corners}
 

@@ -1,5 +1,5 @@
 -- Two spans with a common end: their intersection, and the parts before and after.
-use Rattle.std.specs.Prelude.{◌≡◌, Bool, true, false, cond, refl, not, ◌||◌, ◌&&◌}
+use Rattle.std.specs.Prelude.{◌≡◌, Bool, true, false, cond, not, ◌||◌, ◌&&◌}
 use Rattle.std.proofs.Common.{arith, ap, sym, ◌∙◌}
 use Rattle.mob_list.proofs.Tests.{neither_true}
 use Rattle.mob_ratio.specs.Ratio.{Ratio}

@@ -13,7 +13,6 @@ use Rattle.mob_span.specs.Meets.{PieceOf}
 use Rattle.mob_span.specs.Neighbours.{is_clear}
 use Rattle.mob_span.specs.Pieces.{PiecesAreClear, piece_at}
 use Rattle.mob_span.specs.Remainders.{front_of}
-use Rattle.mob_ratio.proofs.Order.{before-back}
 use Rattle.mob_span.proofs.SpanLemmas.{meet_has}
 use Rattle.mob_span.proofs.Sets.{starts_one_way}
 use Rattle.mob_shares.specs.Cuts.{CutOf, entry_at, row_pieces, shared_cuts}

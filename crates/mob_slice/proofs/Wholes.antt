@@ -3,7 +3,7 @@ use Rattle.std.specs.Prelude.{◌≡◌, Bool, true, false, List, refl}
 use Rattle.std.proofs.Common.{arith, ap, sym, ◌∙◌, subst}
 use Rattle.mob_ratio.specs.Ratio.{Ratio}
 use Rattle.mob_ratio.specs.Order.{before, up_to}
-use Rattle.mob_ratio.proofs.Order.{before-self, before-back, before-trans, before-neither, up_to-self, up_to-equal}
+use Rattle.mob_ratio.proofs.Order.{before-back, before-trans, before-neither, up_to-self, up_to-equal}
 use Rattle.mob_slice.specs.Course.{IsCourse, IsWhole}
 use Rattle.mob_slice.specs.Wholes.{HasBothParts, AreNeighbours, ContinuesAsOne, TwoInstantsFix}
 

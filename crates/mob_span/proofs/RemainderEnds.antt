@@ -7,7 +7,7 @@ use Rattle.std.proofs.Common.{arith, ap, sym, ◌∙◌, subst, inl, inr, ⊎_el
 use Rattle.mob_ratio.specs.Ratio.{Ratio}
 use Rattle.mob_ratio.specs.Order.{before, up_to}
 use Rattle.mob_ratio.proofs.Order.{before-back, before-trans, before-neither, up_to-trans, up_to-not-after, before-up_to, up_to-before}
-use Rattle.mob_span.specs.Span.{SpanOf, has, has_instant}
+use Rattle.mob_span.specs.Span.{SpanOf, has_instant}
 use Rattle.mob_span.specs.Neighbours.{is_clear, is_inside}
 use Rattle.mob_span.specs.Meet.{starts_before, ends_before, meet_of}
 use Rattle.mob_span.specs.Pieces.{PiecesAreClear}

@@ -4,12 +4,12 @@ use Rattle.std.proofs.lemmas.Bool.{and_parts, and_from}
 use Rattle.std.proofs.Common.{arith, sym, ◌∙◌, true≢false}
 use Rattle.mob_ratio.specs.Ratio.{Ratio}
 use Rattle.mob_ratio.specs.Order.{before, up_to, smaller, greater}
-use Rattle.mob_ratio.proofs.Order.{before-self, before-back, before-trans, before-neither, not-up_to-le, smaller_left, smaller_right, greater_left, greater_right, le-test, up_to-trans, up_to-self, greater_least}
+use Rattle.mob_ratio.proofs.Order.{before-self, before-back, before-neither, not-up_to-le, smaller_left, smaller_right, greater_left, greater_right, le-test, up_to-trans, up_to-self, greater_least}
 use Rattle.mob_span.specs.Span.{SpanOf, InSpan, has, has_instant}
 use Rattle.mob_span.specs.Meet.{meet_of, starts_before, ends_before}
 use Rattle.mob_span.specs.Neighbours.{is_inside}
 use Rattle.mob_span.proofs.SpanLemmas.{has_exact, some_instant, instant_some, meet_some}
-use Rattle.mob_span.proofs.Insides.{inside_has, inside-trans}
+use Rattle.mob_span.proofs.Insides.{inside_has}
 use Rattle.mob_plane.specs.declared.point.Point.{Point}
 use Rattle.mob_stbox.specs.Areas.{InArea, in_area, is_area, areas_meet, area_over, area_cover, area_between, IsAreaOver}
 use Rattle.mob_stbox.specs.Boxes.{span_cover}

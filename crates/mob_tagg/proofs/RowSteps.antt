@@ -1,5 +1,5 @@
 -- Kept tuples one by one: those so far have no fault.
-use Rattle.std.specs.Prelude.{◌≡◌, Bool, refl, List, [], ◌∷◌, ◌++◌, Option, Some, None, Result}
+use Rattle.std.specs.Prelude.{Bool, refl, List, [], ◌∷◌, ◌++◌, Option, Some, None, Result}
 use Rattle.std.proofs.Common.{sym, subst, inl, inr, append_assoc, append-nil}
 use Rattle.mob_lifted.proofs.Options.{none_some}
 use Rattle.mob_tagg.specs.Rows.{IsTuple, earlier, IsRowFault}

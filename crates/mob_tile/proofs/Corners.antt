@@ -4,7 +4,7 @@ use Rattle.std.proofs.lemmas.Bool.{and_parts}
 use Rattle.mob_ratio.specs.Ratio.{Ratio, ◌≤ℚ◌}
 use Rattle.mob_ratio.specs.Order.{before, up_to, smaller, greater}
 use Rattle.mob_ratio.specs.Line.{line_at}
-use Rattle.mob_ratio.proofs.Order.{before-back, before-self, not-up_to-le, smaller_left, smaller_right, up_to-self, up_to-trans, greater_left, greater_right}
+use Rattle.mob_ratio.proofs.Order.{before-back, not-up_to-le, smaller_left, smaller_right, up_to-self, up_to-trans, greater_left, greater_right}
 use Rattle.mob_ratio.proofs.LineAt.{line_at-short}
 use Rattle.mob_ratio.proofs.Between.{within}
 use Rattle.mob_span.specs.Span.{SpanOf, has_instant}

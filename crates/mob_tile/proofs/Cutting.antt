@@ -1,21 +1,21 @@
 -- The cells of a slice that is cut at all its edges: each is in one tile.
 use Rattle.std.specs.Prelude.{map}
-use Rattle.std.proofs.Common.{◌≡◌, ◌⊎◌, inl, inr, ℕ, Bool, true, false, true≢false, ℤ, pos, ◌+ℤ◌, ◌≤ℤ◌, ◌<ℤ◌, List, [], ◌∷◌, ◌++◌, arith, refl, sym, ap, subst, ◌∙◌, cond, ◌&&◌, ◌<◌, ◌+◌, suc, zero, length, get_or, append_assoc, ◌-ℤ◌, Some, None}
+use Rattle.std.proofs.Common.{◌≡◌, ◌⊎◌, inl, inr, ℕ, Bool, true, false, ℤ, pos, ◌+ℤ◌, ◌≤ℤ◌, ◌<ℤ◌, List, [], ◌∷◌, ◌++◌, arith, refl, sym, ap, subst, ◌∙◌, cond, ◌&&◌, ◌<◌, ◌+◌, suc, zero, append_assoc, ◌-ℤ◌}
 use Rattle.std.proofs.lemmas.Int.{ints}
 use Rattle.std.proofs.lemmas.Bool.{and_parts}
 use Rattle.std.proofs.lemmas.List.Elements.{Contains-append_left, Contains-append_right}
 use Rattle.std.specs.List.{AllByRecursion}
 use Rattle.std.specs.declared.cmp.Ordering.TheVariants.{Less, Equal, Greater}
 use Rattle.mob_ratio.specs.Ratio.{Ratio, ◌-ℚ◌, ◌<ℚ◌, ◌≤ℚ◌}
-use Rattle.mob_ratio.specs.Order.{before, up_to, smaller, greater}
+use Rattle.mob_ratio.specs.Order.{before, smaller, greater}
 use Rattle.mob_ratio.specs.Sign.{nil, opposite, root_at}
-use Rattle.mob_ratio.proofs.Order.{before-lt, before-back, before-self, not-up_to-le, smaller_left, smaller_right, le-test, greater_left, greater_right}
+use Rattle.mob_ratio.proofs.Order.{before-lt, not-up_to-le, smaller_left, smaller_right, le-test, greater_left, greater_right}
 use Rattle.mob_ratio.proofs.Field.{le_of_lt, le_trans, lt_trans, cases_lt, le_lt, lt_le}
 use Rattle.mob_ratio.proofs.Signs.{sign-diff, opposite_cases, sign_below, sign_above}
 use Rattle.std.specs.Prelude.{Contains}
 use Rattle.mob_list.proofs.Each.{each_both}
 use Rattle.mob_list.proofs.Entries.{all_by_each, each_of_all, first_in, map-Contains, flat-Contains}
-use Rattle.mob_span.specs.Span.{SpanOf, has_instant}
+use Rattle.mob_span.specs.Span.{SpanOf}
 use Rattle.mob_span.proofs.SpanLemmas.{some_upto}
 use Rattle.mob_plane.specs.declared.point.Point.{Point}
 use Rattle.mob_slice.specs.Slices.{IsSound}

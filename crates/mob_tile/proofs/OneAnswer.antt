@@ -5,7 +5,6 @@ use Rattle.std.specs.List.{flat_map}
 use Rattle.mob_ratio.specs.Ratio.{Ratio}
 use Rattle.mob_slice.specs.declared.slice.Slice.{Slice}
 use Rattle.mob_slice.specs.declared.line.PlaneLine.{PlaneLine}
-use Rattle.mob_slice.specs.declared.formula.Formula.{Formula}
 use Rattle.mob_slice.proofs.Firsts.{one_first}
 use Rattle.mob_tile.specs.Edges.{entries_of_slice}
 use Rattle.mob_tile.specs.Split.{OnRange, SplitAnswer}

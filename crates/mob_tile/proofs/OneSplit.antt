@@ -1,13 +1,12 @@
 -- A value has one split.
 use Rattle.std.proofs.Common.{◌≡◌, inl, inr, true, List, [], ◌∷◌, refl, sym, ap, subst, ◌∙◌, Some}
 use Rattle.std.specs.List.{AllByRecursion}
-use Rattle.std.specs.declared.cmp.Ordering.TheVariants.{Less, Equal}
+use Rattle.std.specs.declared.cmp.Ordering.TheVariants.{Less}
 use Rattle.mob_ratio.specs.Ratio.{Ratio}
 use Rattle.mob_span.specs.Chained.{Chained}
-use Rattle.mob_span.proofs.SpanLemmas.{some_instant}
 use Rattle.mob_plane.specs.declared.point.Point.{Point}
-use Rattle.mob_slice.specs.Slices.{value_at, IsNormal}
-use Rattle.mob_slice.specs.Lines.{plane_value_of, plane_continued}
+use Rattle.mob_slice.specs.Slices.{value_at}
+use Rattle.mob_slice.specs.Lines.{plane_value_of}
 use Rattle.mob_slice.specs.PlaneLaws.{plane_laws}
 use Rattle.mob_slice.specs.declared.slice.Slice.{Slice}
 use Rattle.mob_slice.specs.declared.line.PlaneLine.{PlaneLine}
@@ -16,7 +15,7 @@ use Rattle.mob_normal.proofs.Unique.{unique}
 use Rattle.mob_cells.specs.Restricted.{where_wanted}
 use Rattle.mob_grid.specs.Tiles.{GridOf, IsGrid, in_tile, tile_of, compare_tiles}
 use Rattle.mob_grid.specs.declared.tile.Tile.{Tile}
-use Rattle.mob_grid.proofs.TileOrder.{never-less, tiles_total, tile_itself}
+use Rattle.mob_grid.proofs.TileOrder.{never-less, tiles_total}
 use Rattle.mob_tile.specs.Split.{IsTilePart, IsSplit, HasTile}
 use Rattle.mob_tile.proofs.Parts.{only}
 

@@ -2,7 +2,7 @@
 use Rattle.std.specs.Prelude.{◌≡◌, ◌⊎◌, true, List, [], ◌∷◌, ◌++◌, map, Some}
 use Rattle.std.specs.List.{AllByRecursion}
 use Rattle.mob_ratio.specs.Ratio.{Ratio, ◌≤ℚ◌}
-use Rattle.mob_ratio.specs.Order.{up_to, smaller, greater}
+use Rattle.mob_ratio.specs.Order.{smaller, greater}
 use Rattle.mob_span.specs.Span.{SpanOf, has}
 use Rattle.mob_plane.specs.declared.point.Point.{Point}
 use Rattle.mob_stbox.specs.Areas.{InArea, area_between}

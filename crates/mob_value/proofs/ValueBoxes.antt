@@ -5,13 +5,13 @@ use Rattle.std.specs.Prelude.{ℕ, ◌+◌, ◌<◌, length}
 use Rattle.std.proofs.Common.{drop, get_or}
 use Rattle.std.proofs.lemmas.List.{drop_more}
 use Rattle.std.specs.List.{AllByRecursion}
-use Rattle.std.proofs.Common.{arith, ap, sym, ◌∙◌, subst, true≢false}
+use Rattle.std.proofs.Common.{arith, ap, sym, ◌∙◌, subst}
 use Rattle.mob_ratio.specs.Ratio.{Ratio}
 use Rattle.mob_ratio.specs.Order.{before, up_to, smaller, greater}
 use Rattle.mob_ratio.specs.Line.{line_at}
 use Rattle.mob_ratio.proofs.Between.{within, start_below, end_below, start_above, end_above}
 use Rattle.mob_ratio.proofs.LineAt.{line_at-short}
-use Rattle.mob_ratio.proofs.Order.{before-self, before-back, smaller_left, smaller_right, greater_left, greater_right, up_to-trans, up_to-not-after}
+use Rattle.mob_ratio.proofs.Order.{before-back, smaller_left, smaller_right, greater_left, greater_right, up_to-trans, up_to-not-after}
 use Rattle.mob_span.specs.Span.{SpanOf, InSpan, has, has_instant}
 use Rattle.mob_span.specs.Neighbours.{is_inside}
 use Rattle.mob_span.proofs.Ends.{inside_exact}

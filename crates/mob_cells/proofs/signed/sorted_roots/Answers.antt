@@ -2,7 +2,6 @@ use Rattle.std.proofs.Common.{drop, ◌+◌, arith, subst}
 use Rattle.std.proofs.Math.ListN.{drop_of_length-le}
 use Rattle.std.specs.List.Sorted.{IsPermutation}
 use Rattle.mob_list.proofs.Entries.{drop_read}
-use Rattle.mob_ratio.specs.Ratio.{Ratio}
 use Rattle.mob_cells.specs.Roots.{as_list}
 use Rattle.mob_cells.specs.declared.signs.Placed.{Placed}
 use Rattle.mob_cells.proofs.Making.{flat_step, flat_end}
