@@ -6,7 +6,7 @@ use Rattle.std.specs.Str.{bytes_eq}
 use Rattle.std.proofs.lemmas.Slice.Eq.{bytes_eq-Decides}
 use Rattle.mob_ast.specs.Trees.{Tree, Trees}
 use Rattle.mob_grammar.specs.declared.mark.Mark.TheVariants.{Times, Open, Close}
-use Rattle.mob_grammar.specs.Kinds.{expression_heads}
+use Rattle.mob_grammar.specs.TokenKinds.{expression_heads}
 use Rattle.mob_grammar.specs.Symbols.{Symbol, fixed, name, number, quoted, PlacedSymbol, sign, identifier, is_sign, is_count, is_count_symbol, counts_all, rest, begins, starts, binding}
 use Rattle.mob_grammar.specs.Expressions.{Rank, disjunction, conjunction, negation, nullness, comparison, other as other_rank, complement, sum, product, signed, cast, primary, chains, prefixes, Phrase, plain, inner, up, chain, prefixed, is_null, is_not_null, compared, cast_to, a_number, a_string, is_true, is_false, a_null, a_literal, a_call, a_column, a_table_column, in_brackets, Arguments, nothing, something}
 use Rattle.mob_grammar.specs.Forms.{Production, Builds, ◌⇒◌, ◌▸◌, ◌∣◌, Expression, ACount, CountOrExpression}

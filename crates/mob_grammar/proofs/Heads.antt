@@ -6,13 +6,13 @@ use Rattle.mob_ast.specs.declared.types.TypeWord.{TypeWord}
 use Rattle.mob_grammar.specs.declared.mark.Mark.{Mark}
 use Rattle.mob_grammar.specs.declared.mark.Mark.TheVariants.{Not, Tilde, Plus, Minus}
 use Rattle.mob_grammar.specs.Marks.{is, strength}
-use Rattle.mob_grammar.specs.Kinds.{Kinds, of_mark, names, only, only_mark, expression_heads, expression_continues}
+use Rattle.mob_grammar.specs.TokenKinds.{TokenKinds, of_mark, names, only_kind, only_mark, expression_heads, expression_continues}
 use Rattle.mob_grammar.specs.Symbols.{Symbol, fixed, name, number, quoted, PlacedSymbol, sign, kind, among, begins, starts, symbol_strength}
 use Rattle.mob_grammar.specs.Expressions.{Rank, disjunction, conjunction, negation, nullness, comparison, other, complement, sum, product, signed, cast, primary, prefixes, Phrase, TypeName, plain, inner, up, chain, prefixed, is_null, is_not_null, compared, cast_to, a_number, a_string, is_true, is_false, a_null, a_literal, a_call, a_column, a_table_column, in_brackets}
 use Rattle.mob_grammar.proofs.Steps.{told, token_is}
 
 -- a mark outside the set is not the first token, if that is in the set
-pub not_this : (m : Mark) (k : Kinds) → k (of_mark m) ≡ false → (l : List PlacedSymbol) → begins (among k) l ≡ true → starts m l ≡ false
+pub not_this : (m : Mark) (k : TokenKinds) → k (of_mark m) ≡ false → (l : List PlacedSymbol) → begins (among k) l ≡ true → starts m l ≡ false
 not_this m k h [] b = refl
 not_this m k h (t ∷ l) b = elim (told (starts m (t ∷ l))) [
   | inl one ↦ absurd (cc (sym b ∙ ap (among k) (token_is m t one) ∙ h))
@@ -25,7 +25,7 @@ itself m p u = search rules
 pub begins_mark : (m : Mark) {l u : List PlacedSymbol} {p : ℕ} → l ≡ sign m p ∷ u → begins (among (only_mark m)) l ≡ true
 begins_mark m {u = u} {p = p} e = ap (starts m) e ∙ itself m p u
 
-pub type_begins : {l r : List PlacedSymbol} {t : TypeWord} → TypeName l t r → begins (among (only names)) l ≡ true
+pub type_begins : {l r : List PlacedSymbol} {t : TypeWord} → TypeName l t r → begins (among (only_kind names)) l ≡ true
 type_begins plain = refl
 type_begins inner = refl
 

@@ -1,31 +1,31 @@
 -- What a form builds has no more nodes, and no other places, than what it is built of.
 use Rattle.std.specs.Prelude.{◌≤◌, ℕ, List, []}
 use Rattle.std.specs.List.{AllByRecursion}
-use Rattle.mob_grammar.specs.Forms.{Sort, Value, Form, built, mark, a_name, a_number, a_string, a_type, an_expression, a_count_or_expression, made, both, behind, ended, choice, either, several}
-use Rattle.mob_grammar.specs.Sizes.{size}
-use Rattle.mob_grammar.specs.Places.{IsWithin, places}
-use Rattle.mob_grammar.specs.Held.{held}
+use Rattle.mob_grammar.specs.Forms.{Sort, Meaning, Form, built, mark, a_name, a_number, a_string, a_type, an_expression, a_count_or_expression, made, both, behind, ended, choice, either, several}
+use Rattle.mob_grammar.specs.Sizes.{sort_size}
+use Rattle.mob_grammar.specs.Places.{IsWithin, sort_places}
+use Rattle.mob_grammar.specs.Held.{sort_held}
 
 -- a property of the places in one list holds for those in the other
 abbrev pub Covers : List ℕ → List ℕ → Type 1
 Covers us vs = (P : ℕ → Type 0) → AllByRecursion P us → AllByRecursion P vs
 
-abbrev pub IsPart : (a b : Sort) → Value a → Value b → Type 1
-IsPart a b x y = (size b y ≤ size a x) × IsWithin (places b y) (places a x) × Covers (held a x) (held b y)
+abbrev pub IsBuiltOf : (a b : Sort) → Meaning a → Meaning b → Type 1
+IsBuiltOf a b x y = (sort_size b y ≤ sort_size a x) × IsWithin (sort_places b y) (sort_places a x) × Covers (sort_held a x) (sort_held b y)
 
-abbrev pub Keeps : {a : Sort} → Form a → Type 1
-Keeps (built a v) = (size a v ≤ 0) × IsWithin (places a v) [] × Covers [] (held a v)
-Keeps (mark m) = Unit {1}
-Keeps a_name = Unit {1}
-Keeps a_number = Unit {1}
-Keeps a_string = Unit {1}
-Keeps a_type = Unit {1}
-Keeps an_expression = Unit {1}
-Keeps a_count_or_expression = Unit {1}
-Keeps (made {a} {b} h f) = ((x : Value a) → IsPart a b x (h x)) × Keeps f
-Keeps (both f g) = Keeps f × Keeps g
-Keeps (behind m f) = Keeps f
-Keeps (ended f m) = Keeps f
-Keeps (choice m f g) = Keeps f × Keeps g
-Keeps (either f g) = Keeps f × Keeps g
-Keeps (several m f) = Keeps f
+abbrev pub KeepsParts : {a : Sort} → Form a → Type 1
+KeepsParts (built a v) = (sort_size a v ≤ 0) × IsWithin (sort_places a v) [] × Covers [] (sort_held a v)
+KeepsParts (mark m) = Unit {1}
+KeepsParts a_name = Unit {1}
+KeepsParts a_number = Unit {1}
+KeepsParts a_string = Unit {1}
+KeepsParts a_type = Unit {1}
+KeepsParts an_expression = Unit {1}
+KeepsParts a_count_or_expression = Unit {1}
+KeepsParts (made {a} {b} h f) = ((x : Meaning a) → IsBuiltOf a b x (h x)) × KeepsParts f
+KeepsParts (both f g) = KeepsParts f × KeepsParts g
+KeepsParts (behind m f) = KeepsParts f
+KeepsParts (ended f m) = KeepsParts f
+KeepsParts (choice m f g) = KeepsParts f × KeepsParts g
+KeepsParts (either f g) = KeepsParts f × KeepsParts g
+KeepsParts (several m f) = KeepsParts f

@@ -3,7 +3,7 @@ use Rattle.std.proofs.Common.{◌≡◌, ◌≤◌, ◌+◌, ◌∙◌, ◌⊎�
 use Rattle.mob_grammar.specs.declared.mark.Mark.{Mark}
 use Rattle.mob_grammar.specs.Symbols.{PlacedSymbol, is_sign}
 use Rattle.mob_grammar.specs.Expressions.{disjunction, Phrase}
-use Rattle.mob_grammar.specs.Forms.{Production, Sort, Form, Says}
+use Rattle.mob_grammar.specs.Forms.{Production, Sort, Form, Derives}
 use Rattle.mob_grammar.specs.Reading.{TokenReader, if_mark, expression_at, read}
 use Rattle.mob_grammar.proofs.Forms.{fits, form_read}
 use Rattle.mob_grammar.proofs.Steps.{told, if_there, if_not}
@@ -30,4 +30,4 @@ expression_shrinks = lawful_shrinks (Phrase disjunction) expression_at lawful_ex
 
 -- a form that fits
 pub form_shrinks : {a : Sort} (f : Form a) → fits f ≡ true → Shrinks (read f)
-form_shrinks f h = lawful_shrinks (Says f) (read f) (form_read f h).lawful
+form_shrinks f h = lawful_shrinks (Derives f) (read f) (form_read f h).lawful

@@ -1,6 +1,6 @@
 //! Reads lists: phrases of one kind with a mark between them.
 ghost use Rattle.std.specs.Prelude.{◌≡◌, map, true};
-ghost use Rattle.mob_grammar.specs.Forms.{Sort, Value, Form};
+ghost use Rattle.mob_grammar.specs.Forms.{Sort, Meaning, Form};
 ghost use Rattle.mob_grammar.specs.Reading.{listed, read};
 ghost use Rattle.mob_grammar.proofs.Forms.{fits};
 ghost use Rattle.mob_parse.specs.Behind.{put_behind};
@@ -20,7 +20,7 @@ pub trait Entry {
     ghost sort: { Sort };
 
     /// The entry as contracts see it.
-    ghost parts_of: { Self.Made → Value sort };
+    ghost parts_of: { Self.Made → Meaning sort };
 
     /// The production of an entry.
     ghost form: { Form sort };
