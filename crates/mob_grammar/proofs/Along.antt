@@ -16,14 +16,7 @@ use Rattle.mob_grammar.proofs.Within.{within_trans}
 
 -- no mark of the form is `;`
 abbrev pub whole : {a : Sort} → Form a → Bool
-whole (built a v) = true
 whole (mark m) = cond (is m Semicolon) false true
-whole a_name = true
-whole a_number = true
-whole a_string = true
-whole a_type = true
-whole an_expression = true
-whole a_count_or_expression = true
 whole (made h f) = whole f
 whole (both f g) = cond (whole f) (whole g) false
 whole (behind m f) = cond (is m Semicolon) false (whole f)
@@ -31,6 +24,7 @@ whole (ended f m) = cond (is m Semicolon) false (whole f)
 whole (choice m f g) = cond (is m Semicolon) false (cond (whole f) (whole g) false)
 whole (either f g) = cond (whole f) (whole g) false
 whole (several m f) = cond (is m Semicolon) false (whole f)
+whole _ = true
 
 -- a text passes the places of its value
 abbrev pub Along : {a : Sort} → Form a → Type 0

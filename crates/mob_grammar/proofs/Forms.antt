@@ -16,32 +16,19 @@ use Rattle.mob_grammar.proofs.Sets.{both_true, not_true, one_right, begins_left,
 
 -- what can continue a text of the form
 abbrev pub continues : {a : Sort} → Form a → TokenKinds
-continues (built a v) = no_kind
-continues (mark m) = no_kind
-continues a_name = no_kind
-continues a_number = no_kind
-continues a_string = no_kind
 continues a_type = only_mark Open
 continues an_expression = expression_continues
 continues a_count_or_expression = expression_continues
 continues (made h f) = continues f
 continues (both f g) = continues g ∪ where_so (nullable g) (continues f)
 continues (behind m f) = continues f
-continues (ended f m) = no_kind
 continues (choice m f g) = continues f ∪ continues g ∪ where_so (nullable g) (only_mark m)
 continues (either f g) = continues f ∪ continues g ∪ where_so (nullable g) (heads f)
 continues (several m f) = continues f ∪ only_mark m
+continues _ = no_kind
 
 -- one token tells each form from what else could follow there
 abbrev pub fits : {a : Sort} → Form a → Bool
-fits (built a v) = true
-fits (mark m) = true
-fits a_name = true
-fits a_number = true
-fits a_string = true
-fits a_type = true
-fits an_expression = true
-fits a_count_or_expression = true
 fits (made h f) = fits f
 fits (both f g) = cond (fits f) (cond (fits g) (apart (continues f) (heads g)) false) false
 fits (behind m f) = fits f
@@ -49,6 +36,7 @@ fits (ended f m) = cond (fits f) (cond (continues f (of_mark m)) false true) fal
 fits (choice m f g) = cond (fits f) (cond (fits g) (cond (heads g (of_mark m)) false true) false) false
 fits (either f g) = cond (fits f) (cond (fits g) (cond (nullable f) false (apart (heads f) (heads g))) false) false
 fits (several m f) = cond (fits f) (cond (continues f (of_mark m)) false true) false
+fits _ = true
 
 -- what may follow a text
 abbrev pub Stop : {a : Sort} → Form a → List PlacedSymbol → Type 0

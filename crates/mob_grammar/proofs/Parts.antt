@@ -1,7 +1,7 @@
 -- What a form builds has no more nodes, and no other places, than what it is built of.
 use Rattle.std.specs.Prelude.{◌≤◌, ℕ, List, []}
 use Rattle.std.specs.List.{AllByRecursion}
-use Rattle.mob_grammar.specs.Forms.{Sort, Meaning, Form, built, mark, a_name, a_number, a_string, a_type, an_expression, a_count_or_expression, made, both, behind, ended, choice, either, several}
+use Rattle.mob_grammar.specs.Forms.{Sort, Meaning, Form, built, made, both, behind, ended, choice, either, several}
 use Rattle.mob_grammar.specs.Sizes.{sort_size}
 use Rattle.mob_grammar.specs.Places.{IsWithin, sort_places}
 use Rattle.mob_grammar.specs.Held.{sort_held}
@@ -15,13 +15,6 @@ IsBuiltOf a b x y = (sort_size b y ≤ sort_size a x) × IsWithin (sort_places b
 
 abbrev pub KeepsParts : {a : Sort} → Form a → Type 1
 KeepsParts (built a v) = (sort_size a v ≤ 0) × IsWithin (sort_places a v) [] × Covers [] (sort_held a v)
-KeepsParts (mark m) = Unit {1}
-KeepsParts a_name = Unit {1}
-KeepsParts a_number = Unit {1}
-KeepsParts a_string = Unit {1}
-KeepsParts a_type = Unit {1}
-KeepsParts an_expression = Unit {1}
-KeepsParts a_count_or_expression = Unit {1}
 KeepsParts (made {a} {b} h f) = ((x : Meaning a) → IsBuiltOf a b x (h x)) × KeepsParts f
 KeepsParts (both f g) = KeepsParts f × KeepsParts g
 KeepsParts (behind m f) = KeepsParts f
@@ -29,3 +22,4 @@ KeepsParts (ended f m) = KeepsParts f
 KeepsParts (choice m f g) = KeepsParts f × KeepsParts g
 KeepsParts (either f g) = KeepsParts f × KeepsParts g
 KeepsParts (several m f) = KeepsParts f
+KeepsParts _ = Unit {1}

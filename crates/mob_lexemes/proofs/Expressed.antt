@@ -43,21 +43,9 @@ stop_kinds strings = false
 
 -- a name, as after a point
 abbrev is_dotted : {a : Sort} → Form a → Bool
-is_dotted (built a v) = false
-is_dotted (mark m) = false
 is_dotted a_name = true
-is_dotted a_number = false
-is_dotted a_string = false
-is_dotted a_type = false
-is_dotted an_expression = false
-is_dotted a_count_or_expression = false
 is_dotted (made h f) = is_dotted f
-is_dotted (both f g) = false
-is_dotted (behind m f) = false
-is_dotted (ended f m) = false
-is_dotted (choice m f g) = false
-is_dotted (either f g) = false
-is_dotted (several m f) = false
+is_dotted _ = false
 
 -- In a SELECT nothing is counted outside the expressions of the form, if one of the kinds k follows
 -- it.
