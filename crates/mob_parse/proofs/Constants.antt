@@ -1,5 +1,5 @@
 -- If the grammar reads a constant of one token, it is the first token.
-use Rattle.std.proofs.Common.{◌≡◌, ◌∙◌, ℕ, List, [], ◌∷◌, true, false, Ok, Err, refl, sym, ap, subst}
+use Rattle.std.proofs.Common.{◌≡◌, ◌∙◌, ℕ, List, [], ◌∷◌, true, false, Ok, refl, sym, ap, subst}
 use Rattle.mob_ast.specs.declared.types.Quoted.{Quoted}
 use Rattle.mob_ast.specs.declared.types.TypeWord.{TypeWord}
 use Rattle.mob_ast.specs.declared.expression.Node.TheVariants as node
@@ -12,6 +12,7 @@ use Rattle.mob_grammar.specs.Reading.{Answer, TokenReader, ◌>>=◌, primary, m
 use Rattle.mob_grammar.specs.Scripts.{string_form, signed_form, number_form, typed_form, const_form}
 use Rattle.mob_grammar.proofs.Steps.{token_is}
 use Rattle.mob_parse.specs.Constants.{constant_leaf_at}
+use Rattle.mob_parse.proofs.Mapped.{mapped, after, mapped_after}
 
 -- in an expression, if neither a name nor a bracket comes next
 primary_mark : (inner : TokenReader Tree) (g : Mark) (p : ℕ) (l : List PlacedSymbol) → starts Open (record { symbol = fixed g; place = p } ∷ l) ≡ false → primary inner (record { symbol = fixed g; place = p } ∷ l) ≡ constant_leaf_at (record { symbol = fixed g; place = p } ∷ l)
@@ -63,13 +64,11 @@ pub const_typed : (l : List PlacedSymbol) → begins is_name l ≡ true → read
 const_typed [] named = absurd (cc named)
 const_typed (t ∷ l) named = const_name t.symbol t.place l named
 
-by_string : (a : Answer Quoted) (ty : TypeWord) → ((a >>= λ y. Ok ((ty, y.0), y.1)) >>= λ z. Ok (leaf (node.Literal z.0.0 z.0.1.text) z.0.1.place, z.1)) ≡ (a >>= λ s. Ok (leaf (node.Literal ty s.0.text) s.0.place, s.1))
-by_string (Ok s) ty = refl
-by_string (Err r) ty = refl
-
 pub typed_read : (l m : List PlacedSymbol) (ty : TypeWord) → type_at l ≡ Ok (ty, m) → read typed_form l ≡ literal_at ty m
 unfolding read typed_form literal_at
-typed_read l m ty h = ap (λ a. (a >>= λ x. string_at x.1 >>= λ y. Ok ((x.0, y.0), y.1)) >>= λ z. Ok (leaf (node.Literal z.0.0 z.0.1.text) z.0.1.place, z.1)) h ∙ by_string (string_at m) ty
+typed_read l m ty h =
+    let made : TypeWord × Quoted → Tree = λ z. leaf (node.Literal z.0 z.1.text) z.1.place in
+    ap (λ (a : Answer TypeWord). mapped made (a >>= λ x. after x.0 (string_at x.1))) h ∙ mapped_after made ty (string_at m)
 
 -- in an INSERT, if a sign comes next
 pub const_plus : (l : List PlacedSymbol) → starts Plus l ≡ true → read const_form l ≡ read (signed_form Plus) l

@@ -1,5 +1,5 @@
 -- Readers never add to the remaining tokens.
-use Rattle.std.proofs.Common.{◌≡◌, ◌≤◌, ◌+◌, ◌∙◌, ◌⊎◌, inl, inr, ℕ, List, [], ◌∷◌, length, true, false, Ok, sym, arith}
+use Rattle.std.proofs.Common.{◌≡◌, ◌≤◌, ◌+◌, ◌∙◌, ◌⊎◌, inl, inr, ℕ, List, [], ◌∷◌, length, true, false, Ok, refl, sym, arith}
 use Rattle.mob_grammar.specs.declared.mark.Mark.{Mark}
 use Rattle.mob_grammar.specs.Symbols.{PlacedSymbol, is_sign}
 use Rattle.mob_grammar.specs.Expressions.{disjunction, Phrase}

@@ -37,7 +37,7 @@ impl<'a> Cursor<'a> {
     }
 
     // Reads the second name of a table of FROM, with or without AS, if there is one.
-    #[tactic(auto, unfolding(mob_grammar::specs::Reading::read, mob_grammar::specs::Scripts::second_name_form, mob_grammar::specs::Reading::if_mark))]
+    #[tactic(auto, unfolding(mob_grammar::specs::Reading::read, mob_grammar::specs::Scripts::second_name_form, mob_grammar::specs::Scripts::some_name_form, mob_grammar::specs::Reading::if_mark))]
     fn second_name(&mut self) -> Result<Option<Word>, Fault<Syntax>>
         ensures reads { FollowsReading (λ w. w) result (left self.new) (read second_name_form (left self.old)) }
     {
@@ -332,7 +332,7 @@ impl Entry for GroupColumn {
 
     ghost form = { group_column_form };
 
-    #[tactic(auto, unfolding(mob_grammar::specs::Reading::read, mob_grammar::specs::Scripts::group_column_form, mob_grammar::specs::Reading::if_mark))]
+    #[tactic(auto, using(crate::proofs::Items::group_table), unfolding(mob_grammar::specs::Reading::read, mob_grammar::specs::Scripts::group_column_form, mob_grammar::specs::Reading::if_mark))]
     fn read(cursor: &mut Cursor<'_>) -> Result<Expr, Fault<Syntax>> {
         let name = cursor.name()?;
         if cursor.skip(Mark::Dot) {

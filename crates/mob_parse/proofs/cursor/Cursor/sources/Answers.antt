@@ -15,28 +15,28 @@ use Rattle.mob_parse.proofs.cursor.Cursor.sources.Goals as goal
 
 pub more-init : goal.more-init
 more-init c =
-    let (zs, read, same) = behind_gives (map from_of c.new.result) _ (read source_form) _ _ c.in_ok-found.ensures.reads in
-    let short = form_shrinks source_form source_fits _ _ _ read in
-    record { shorter = short; reads = (zs ∷ [], first_read Comma (read source_form) _ _ zs _ read short refl, same ∙ ap (λ v. map from_of v ++ zs) c.new.ensures.empty ∙ sym (append-nil zs)) }
+    let (zs, gives, same) = behind_gives (map from_of c.new.result) _ (read source_form) _ _ c.in_ok-found.ensures.reads in
+    let short = form_shrinks source_form source_fits _ _ _ gives in
+    record { shorter = short; reads = (zs ∷ [], first_read Comma (read source_form) _ _ zs _ gives short refl, same ∙ ap (λ v. map from_of v ++ zs) c.new.ensures.empty ∙ sym (append-nil zs)) }
 
 pub more-preserved : goal.more-preserved
 more-preserved c =
     let there : starts Comma (left c.more.self) ≡ true = sym c.skip.ensures.found ∙ c.more-test.true in
     let now : left c.skip.new.self ≡ rest (left c.more.self) = c.skip.ensures.passed ∙ chosen _ _ _ there in
     let (xs, so_far, before) = c.more.invariant.reads in
-    let (zs, read, same) = behind_gives (map from_of c.more.found) _ (read source_form) _ _ c.in_ok-found-2.ensures.reads in
-    let short : length (left c.source-in-more.new.self) ≤ length (left c.skip.new.self) = form_shrinks source_form source_fits _ _ _ read in
+    let (zs, gives, same) = behind_gives (map from_of c.more.found) _ (read source_form) _ _ c.in_ok-found-2.ensures.reads in
+    let short : length (left c.source-in-more.new.self) ≤ length (left c.skip.new.self) = form_shrinks source_form source_fits _ _ _ gives in
     let gone = skipped Comma (left c.more.self) there in
     let long = ap length now in
     let near = c.more.invariant.shorter in
-    record { shorter = omega arith; reads = (xs ++ zs ∷ [], next_read Comma (read source_form) _ _ _ _ xs _ zs so_far there now read short refl, same ∙ ap (λ v. v ++ zs) before ∙ sym (tables_push xs zs)) }
+    record { shorter = omega arith; reads = (xs ++ zs ∷ [], next_read Comma (read source_form) _ _ _ _ xs _ zs so_far there now gives short refl, same ∙ ap (λ v. v ++ zs) before ∙ sym (tables_push xs zs)) }
 
 pub more-smaller : goal.more-smaller
 more-smaller c =
     let there : starts Comma (left c.more.self) ≡ true = sym c.skip.ensures.found ∙ c.more-test.true in
     let now : left c.skip.new.self ≡ rest (left c.more.self) = c.skip.ensures.passed ∙ chosen _ _ _ there in
-    let (zs, read, same) = behind_gives (map from_of c.more.found) _ (read source_form) _ _ c.in_ok-found-2.ensures.reads in
-    let short : length (left c.source-in-more.new.self) ≤ length (left c.skip.new.self) = form_shrinks source_form source_fits _ _ _ read in
+    let (zs, gives, same) = behind_gives (map from_of c.more.found) _ (read source_form) _ _ c.in_ok-found-2.ensures.reads in
+    let short : length (left c.source-in-more.new.self) ≤ length (left c.skip.new.self) = form_shrinks source_form source_fits _ _ _ gives in
     let gone = skipped Comma (left c.more.self) there in
     let long = ap length now in
     omega arith
