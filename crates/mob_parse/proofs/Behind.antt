@@ -4,15 +4,15 @@ use Rattle.mob_ast.specs.Trees.{FromParts}
 use Rattle.mob_grammar.specs.declared.mark.Mark.{Mark}
 use Rattle.mob_grammar.specs.declared.mark.Mark.TheVariants.{Comma}
 use Rattle.mob_grammar.specs.Symbols.{PlacedSymbol, starts}
-use Rattle.mob_grammar.specs.Scripts.{tables_of}
-use Rattle.mob_grammar.specs.Reading.{Answer, TokenReader, ◌>>=◌, listed, listed_from, source_at, sources_at}
+use Rattle.mob_grammar.specs.Scripts.{tables_of, source_form, sources_form}
+use Rattle.mob_grammar.specs.Reading.{Answer, TokenReader, ◌>>=◌, listed, listed_from, read}
 use Rattle.mob_grammar.proofs.Tells.{through}
 use Rattle.mob_grammar.proofs.Steps.{listed_stops}
 use Rattle.mob_list.specs.declared.fault.Fault.{Fault}
 use Rattle.mob_parse.specs.declared.cursor.Syntax.{Syntax}
 use Rattle.mob_list.specs.declared.fault.Fault.TheVariants.{Because, NoMemory}
 use Rattle.mob_parse.specs.Cursors.{StopsReading}
-use Rattle.mob_parse.specs.Orderings.{put_behind}
+use Rattle.mob_parse.specs.Behind.{put_behind}
 use Rattle.mob_parse.proofs.Steps.{ReadSoFar, stops_through}
 
 given_back : {A : Type 0} (a : Answer (List A)) → (a >>= λ ys. Ok ([] ++ ys.0, ys.1)) ≡ a
@@ -73,10 +73,10 @@ pub first_refused : {A : Type 0} (m : Mark) (inner : TokenReader A) (l r : List 
 unfolding listed
 first_refused m inner l r e h = stops_through e r (inner l) (λ x. listed_from m inner (length l) (x.0 ∷ []) x.1) (listed m inner l) refl h
 
-pub sources_stop : (l r : List PlacedSymbol) (e : Fault Syntax) → StopsReading e r (listed Comma source_at l) → StopsReading e r (sources_at l)
-unfolding sources_at
-sources_stop l r e h = stops_through e r (listed Comma source_at l) (λ ss. Ok (tables_of ss.0, ss.1)) (sources_at l) refl h
+pub sources_stop : (l r : List PlacedSymbol) (e : Fault Syntax) → StopsReading e r (listed Comma (read source_form) l) → StopsReading e r (read sources_form l)
+unfolding read sources_form
+sources_stop l r e h = stops_through e r (listed Comma (read source_form) l) (λ ss. Ok (tables_of ss.0, ss.1)) (read sources_form l) refl h
 
-pub sources_read : (l r : List PlacedSymbol) (ss : List (List FromParts)) (fs : List FromParts) → listed Comma source_at l ≡ Ok (ss, r) → fs ≡ tables_of ss → sources_at l ≡ Ok (fs, r)
-unfolding sources_at
-sources_read l r ss fs h e = through (listed Comma source_at l) ss r _ h ∙ ap (λ v. Ok (v, r)) (sym e)
+pub sources_read : (l r : List PlacedSymbol) (ss : List (List FromParts)) (fs : List FromParts) → listed Comma (read source_form) l ≡ Ok (ss, r) → fs ≡ tables_of ss → read sources_form l ≡ Ok (fs, r)
+unfolding read sources_form
+sources_read l r ss fs h e = through (listed Comma (read source_form) l) ss r _ h ∙ ap (λ v. Ok (v, r)) (sym e)

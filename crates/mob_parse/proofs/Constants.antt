@@ -1,12 +1,18 @@
 -- If the grammar reads a constant of one token, it is the first token.
-use Rattle.std.proofs.Common.{◌≡◌, ℕ, List, [], ◌∷◌, true, false, refl}
+use Rattle.std.proofs.Common.{◌≡◌, ◌∙◌, ℕ, List, [], ◌∷◌, true, false, Ok, refl, sym, ap, subst}
+use Rattle.mob_ast.specs.declared.types.Quoted.{Quoted}
+use Rattle.mob_ast.specs.declared.types.TypeWord.{TypeWord}
+use Rattle.mob_ast.specs.declared.expression.Node.TheVariants as node
 use Rattle.mob_ast.specs.Trees.{Tree}
 use Rattle.mob_grammar.specs.declared.mark.Mark.{Mark}
 use Rattle.mob_grammar.specs.declared.mark.Mark.TheVariants.{Open, Plus, Minus}
-use Rattle.mob_grammar.specs.Symbols.{Symbol, fixed, name, number, quoted, PlacedSymbol, is_name, begins, starts}
-use Rattle.mob_grammar.specs.Reading.{TokenReader, primary, mark_primary, const_at, string_leaf_at, number_leaf_at, word_leaf_at, mark_leaf_at, mark_at, typed_string_at, type_at, name_at, string_at, number_at, is_plus_or_minus, signed_number_at}
-use Rattle.mob_grammar.proofs.Steps.{chosen}
+use Rattle.mob_grammar.specs.Marks.{is}
+use Rattle.mob_grammar.specs.Symbols.{Symbol, fixed, name, number, quoted, PlacedSymbol, sign, is_mark, is_name, is_name_symbol, begins, starts, leaf}
+use Rattle.mob_grammar.specs.Reading.{Answer, TokenReader, ◌>>=◌, primary, mark_primary, mark_at, type_at, name_at, string_at, number_at, literal_at, read}
+use Rattle.mob_grammar.specs.Scripts.{string_form, signed_form, number_form, typed_form, const_form}
+use Rattle.mob_grammar.proofs.Steps.{token_is}
 use Rattle.mob_parse.specs.Constants.{constant_leaf_at}
+use Rattle.mob_parse.proofs.Mapped.{mapped, after, mapped_after}
 
 -- in an expression, if neither a name nor a bracket comes next
 primary_mark : (inner : TokenReader Tree) (g : Mark) (p : ℕ) (l : List PlacedSymbol) → starts Open (record { symbol = fixed g; place = p } ∷ l) ≡ false → primary inner (record { symbol = fixed g; place = p } ∷ l) ≡ constant_leaf_at (record { symbol = fixed g; place = p } ∷ l)
@@ -28,45 +34,49 @@ primary_constant inner [] no_name no_bracket = refl
 primary_constant inner (t ∷ l) no_name no_bracket = primary_symbol inner t.symbol t.place l no_name no_bracket
 
 -- in an INSERT, if neither a sign nor a name comes next
-const_mark : (g : Mark) (p : ℕ) (l : List PlacedSymbol) → begins is_plus_or_minus (record { symbol = fixed g; place = p } ∷ l) ≡ false → const_at (record { symbol = fixed g; place = p } ∷ l) ≡ constant_leaf_at (record { symbol = fixed g; place = p } ∷ l)
-unfolding const_at word_leaf_at mark_leaf_at mark_at typed_string_at type_at name_at constant_leaf_at
-const_mark Plus p l no_sign = absurd (cc no_sign)
-const_mark Minus p l no_sign = absurd (cc no_sign)
-const_mark _ p l no_sign = refl
+const_mark : (g : Mark) (p : ℕ) (l : List PlacedSymbol) → is g Plus ≡ false → is g Minus ≡ false → read const_form (sign g p ∷ l) ≡ constant_leaf_at (sign g p ∷ l)
+unfolding read const_form string_form signed_form number_form typed_form mark_at type_at name_at constant_leaf_at
+const_mark Plus p l no_plus no_minus = absurd (cc no_plus)
+const_mark Minus p l no_plus no_minus = absurd (cc no_minus)
+const_mark _ p l no_plus no_minus = refl
 
-const_symbol : (s : Symbol) (p : ℕ) (l : List PlacedSymbol) → begins is_plus_or_minus (record { symbol = s; place = p } ∷ l) ≡ false → begins is_name (record { symbol = s; place = p } ∷ l) ≡ false
-    → const_at (record { symbol = s; place = p } ∷ l) ≡ constant_leaf_at (record { symbol = s; place = p } ∷ l)
-unfolding const_at string_leaf_at string_at number_leaf_at number_at constant_leaf_at
-const_symbol (fixed g) p l no_sign no_name = const_mark g p l no_sign
-const_symbol (name n) p l no_sign no_name = absurd (cc no_name)
-const_symbol (number n) p l no_sign no_name = refl
-const_symbol (quoted s) p l no_sign no_name = refl
+const_symbol : (s : Symbol) (p : ℕ) (l : List PlacedSymbol) → is_mark Plus s ≡ false → is_mark Minus s ≡ false → is_name_symbol s ≡ false → read const_form (record { symbol = s; place = p } ∷ l) ≡ constant_leaf_at (record { symbol = s; place = p } ∷ l)
+unfolding read const_form string_form signed_form number_form typed_form string_at number_at constant_leaf_at
+const_symbol (fixed g) p l no_plus no_minus no_name = const_mark g p l no_plus no_minus
+const_symbol (name n) p l no_plus no_minus no_name = absurd (cc no_name)
+const_symbol (number n) p l no_plus no_minus no_name = refl
+const_symbol (quoted s) p l no_plus no_minus no_name = refl
 
-pub const_constant : (l : List PlacedSymbol) → begins is_plus_or_minus l ≡ false → begins is_name l ≡ false → const_at l ≡ constant_leaf_at l
-unfolding const_at word_leaf_at typed_string_at type_at name_at constant_leaf_at
-const_constant [] no_sign no_name = refl
-const_constant (t ∷ l) no_sign no_name = const_symbol t.symbol t.place l no_sign no_name
+pub const_constant : (l : List PlacedSymbol) → starts Plus l ≡ false → starts Minus l ≡ false → begins is_name l ≡ false → read const_form l ≡ constant_leaf_at l
+unfolding read const_form string_form signed_form number_form typed_form type_at name_at constant_leaf_at
+const_constant [] no_plus no_minus no_name = refl
+const_constant (t ∷ l) no_plus no_minus no_name = const_symbol t.symbol t.place l no_plus no_minus no_name
 
 -- in an INSERT, if a name comes next
-const_name : (s : Symbol) (p : ℕ) (l : List PlacedSymbol) → begins is_name (record { symbol = s; place = p } ∷ l) ≡ true → const_at (record { symbol = s; place = p } ∷ l) ≡ typed_string_at (record { symbol = s; place = p } ∷ l)
-unfolding const_at word_leaf_at
+const_name : (s : Symbol) (p : ℕ) (l : List PlacedSymbol) → is_name_symbol s ≡ true → read const_form (record { symbol = s; place = p } ∷ l) ≡ read typed_form (record { symbol = s; place = p } ∷ l)
+unfolding read const_form string_form signed_form number_form
 const_name (fixed g) p l named = absurd (cc named)
 const_name (name n) p l named = refl
 const_name (number n) p l named = absurd (cc named)
 const_name (quoted s) p l named = absurd (cc named)
 
-pub const_typed : (l : List PlacedSymbol) → begins is_name l ≡ true → const_at l ≡ typed_string_at l
+pub const_typed : (l : List PlacedSymbol) → begins is_name l ≡ true → read const_form l ≡ read typed_form l
 const_typed [] named = absurd (cc named)
 const_typed (t ∷ l) named = const_name t.symbol t.place l named
 
--- in an INSERT, if a sign comes next
-const_sign : (s : Symbol) (p : ℕ) (l : List PlacedSymbol) → begins is_plus_or_minus (record { symbol = s; place = p } ∷ l) ≡ true → const_at (record { symbol = s; place = p } ∷ l) ≡ signed_number_at (record { symbol = s; place = p } ∷ l)
-unfolding const_at
-const_sign (fixed g) p l signed = chosen _ _ _ signed
-const_sign (name n) p l signed = absurd (cc signed)
-const_sign (number n) p l signed = absurd (cc signed)
-const_sign (quoted s) p l signed = absurd (cc signed)
+pub typed_read : (l m : List PlacedSymbol) (ty : TypeWord) → type_at l ≡ Ok (ty, m) → read typed_form l ≡ literal_at ty m
+unfolding read typed_form literal_at
+typed_read l m ty h =
+    let made : TypeWord × Quoted → Tree = λ z. leaf (node.Literal z.0 z.1.text) z.1.place in
+    ap (λ (a : Answer TypeWord). mapped made (a >>= λ x. after x.0 (string_at x.1))) h ∙ mapped_after made ty (string_at m)
 
-pub const_signed : (l : List PlacedSymbol) → begins is_plus_or_minus l ≡ true → const_at l ≡ signed_number_at l
-const_signed [] signed = absurd (cc signed)
-const_signed (t ∷ l) signed = const_sign t.symbol t.place l signed
+-- in an INSERT, if a sign comes next
+pub const_plus : (l : List PlacedSymbol) → starts Plus l ≡ true → read const_form l ≡ read (signed_form Plus) l
+unfolding read const_form string_form signed_form number_form
+const_plus [] signed = absurd (cc signed)
+const_plus (t ∷ l) signed = subst (λ v. read const_form (v ∷ l) ≡ read (signed_form Plus) (v ∷ l)) (sym (token_is Plus t signed)) refl
+
+pub const_minus : (l : List PlacedSymbol) → starts Minus l ≡ true → read const_form l ≡ read (signed_form Minus) l
+unfolding read const_form string_form signed_form number_form
+const_minus [] signed = absurd (cc signed)
+const_minus (t ∷ l) signed = subst (λ v. read const_form (v ∷ l) ≡ read (signed_form Minus) (v ∷ l)) (sym (token_is Minus t signed)) refl

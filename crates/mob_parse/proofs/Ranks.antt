@@ -14,7 +14,7 @@ use Rattle.mob_grammar.proofs.Ranks.{lawful_type, lawful_primary, lawful_signed,
 use Rattle.mob_parse.specs.declared.expression.Level.{Level}
 use Rattle.mob_parse.specs.declared.expression.Level.TheVariants.{Disjunction, Conjunction, Other, Sum, Product}
 use Rattle.mob_parse.specs.Levels.{level_operand}
-use Rattle.mob_parse.specs.Shrinks.{Shrinks, if_shrinks, lawful_shrinks}
+use Rattle.mob_parse.proofs.Shrinks.{Shrinks, if_shrinks, lawful_shrinks}
 
 rank_shrinks : (k : Rank) (s : TokenReader Tree) → ((n : ℕ) → Lawful (Phrase k) (suc n) s) → Shrinks s
 rank_shrinks k s law l r x h = shrinks (Phrase k) (suc (length l)) s (law (length l)) l (omega arith) x r h

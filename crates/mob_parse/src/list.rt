@@ -1,9 +1,10 @@
 //! Reads lists: phrases of one kind with a mark between them.
-ghost use Rattle.std.specs.Prelude.{map};
-ghost use Rattle.mob_grammar.specs.Reading.{TokenReader, listed};
+ghost use Rattle.std.specs.Prelude.{◌≡◌, map, true};
+ghost use Rattle.mob_grammar.specs.Forms.{Sort, Meaning, Form};
+ghost use Rattle.mob_grammar.specs.Reading.{listed, read};
+ghost use Rattle.mob_grammar.proofs.Forms.{fits};
+ghost use Rattle.mob_parse.specs.Behind.{put_behind};
 ghost use Rattle.mob_parse.specs.Cursors.{left, FollowsReading};
-ghost use Rattle.mob_parse.specs.Orderings.{put_behind};
-ghost use Rattle.mob_parse.specs.Shrinks.{Shrinks};
 
 use crate::cursor::{Cursor, Syntax};
 use mob_grammar::mark::Mark;
@@ -15,20 +16,21 @@ pub trait Entry {
     /// The entry in the tree.
     type Made: Drop;
 
+    /// What the entry is in the grammar.
+    ghost sort: { Sort };
+
     /// The entry as contracts see it.
-    ghost Parts: { Type 0 };
+    ghost parts_of: { Self.Made → Meaning sort };
 
-    ghost parts_of: { Self.Made → Parts };
-
-    /// The grammar's reader of an entry.
-    ghost reader: { TokenReader Parts };
+    /// The production of an entry.
+    ghost form: { Form sort };
 
     /// Reads one entry at the front of the remaining tokens.
     fn read(cursor: &mut Cursor<'_>) -> Result<Self::Made, Fault<Syntax>>
-        ensures reads { FollowsReading parts_of result (left cursor.new) (reader (left cursor.old)) };
+        ensures reads { FollowsReading parts_of result (left cursor.new) (read form (left cursor.old)) };
 
-    /// Reading an entry never adds to the remaining tokens.
-    ghost shrinks: { Shrinks reader };
+    /// One token tells at each place of an entry which way to go on.
+    ghost fit: { fits form ≡ true };
 }
 
 impl<'a> Cursor<'a> {
@@ -37,7 +39,7 @@ impl<'a> Cursor<'a> {
     /// `Syntax` at the first token that does not fit; `NoMemory` if an allocation fails.
     #[tactic(auto, using(crate::proofs::Behind::behind_nothing))]
     pub fn list<T: Entry>(&mut self, mark: Mark) -> Result<Items<T::Made>, Fault<Syntax>>
-        ensures reads { FollowsReading (map T.parts_of) result (left self.new) (listed mark T.reader (left self.old)) }
+        ensures reads { FollowsReading (map T.parts_of) result (left self.new) (listed mark (read T.form) (left self.old)) }
     {
         self.list_onto::<T>(mark, Items::new(self.alloc))
     }
@@ -51,7 +53,7 @@ impl<'a> Cursor<'a> {
         mark: Mark,
         before: Items<T::Made>,
     ) -> Result<Items<T::Made>, Fault<Syntax>>
-        ensures reads { FollowsReading (map T.parts_of) result (left self.new) (put_behind (map T.parts_of before) (listed mark T.reader) (left self.old)) }
+        ensures reads { FollowsReading (map T.parts_of) result (left self.new) (put_behind (map T.parts_of before) (listed mark (read T.form)) (left self.old)) }
     {
         let mut found = before;
         let first = T::read(self)?;

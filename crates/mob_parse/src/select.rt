@@ -1,11 +1,14 @@
 //! Reads SELECT, DELETE and EXPLAIN, part by part, and whole scripts.
 ghost use Rattle.std.specs.Prelude.{◌≡◌, Ok, true, false, map, IfOk, MatchOption, option_map};
-ghost use Rattle.mob_ast.specs.Trees.{tree_of, Tree, FromParts, from_of, ItemParts, item_of, KeyParts, key_of, select_of, StatementParts, statement_of};
+ghost use Rattle.mob_ast.specs.Trees.{tree_of, from_of, item_of, key_of, select_of, statement_of};
+ghost use Rattle.mob_grammar.specs.Forms.{expression, from, item, key, statement};
 ghost use Rattle.mob_grammar.specs.Symbols.{begins, is_name, counts_all, first, rest};
-ghost use Rattle.mob_grammar.specs.Reading.{some_name_at, second_name_at, from_entry_at, on_at, joined_entry_at, joins_at, source_at, sources_at, group_column_at, delete_at, alias_at, count_tail_at, one_item_at, item_at, direction_at, key_at, distinct_at, from_at, condition_at, limit_at, select_at, explain_at, statement_at, script_at};
+ghost use Rattle.mob_grammar.specs.Reading.{read};
+ghost use Rattle.mob_grammar.specs.Scripts.{some_name_form, second_name_form, entry_form, joined_form, joins_form, source_form, sources_form, from_form, alias_form, item_form, direction_form, key_form, distinct_form, where_form, group_column_form, by_form, limit_form, ordering_form, select_form, explain_form, delete_form, statement_form, script_form};
+ghost use Rattle.mob_grammar.proofs.Statements.{joined_fits, item_fits, group_column_fits, key_fits, statement_fits};
+ghost use Rattle.mob_parse.specs.Behind.{put_behind};
 ghost use Rattle.mob_parse.specs.Cursors.{left, FollowsReading};
-ghost use Rattle.mob_parse.specs.Orderings.{by_at, ordering_at, put_behind};
-ghost use Rattle.mob_parse.specs.Shrinks.{from_entry_shrinks, joined_entry_shrinks, group_column_shrinks, item_shrinks, key_shrinks, statement_shrinks};
+ghost use Rattle.mob_parse.specs.Items.{count_form, one_form};
 
 use crate::cursor::{Cursor, Syntax};
 use crate::list::Entry;
@@ -26,17 +29,17 @@ impl<'a> Cursor<'a> {
         }
     }
 
-    #[tactic(auto, unfolding(mob_grammar::specs::Reading::some_name_at))]
+    #[tactic(auto, unfolding(mob_grammar::specs::Reading::read, mob_grammar::specs::Scripts::some_name_form))]
     fn some_name(&mut self) -> Result<Option<Word>, Fault<Syntax>>
-        ensures reads { FollowsReading (λ w. w) result (left self.new) (some_name_at (left self.old)) }
+        ensures reads { FollowsReading (λ w. w) result (left self.new) (read some_name_form (left self.old)) }
     {
         Ok(Some(self.name()?))
     }
 
     // Reads the second name of a table of FROM, with or without AS, if there is one.
-    #[tactic(auto, unfolding(mob_grammar::specs::Reading::second_name_at, mob_grammar::specs::Reading::name_or_none_at, mob_grammar::specs::Reading::if_mark))]
+    #[tactic(auto, unfolding(mob_grammar::specs::Reading::read, mob_grammar::specs::Scripts::second_name_form, mob_grammar::specs::Scripts::some_name_form, mob_grammar::specs::Reading::if_mark))]
     fn second_name(&mut self) -> Result<Option<Word>, Fault<Syntax>>
-        ensures reads { FollowsReading (λ w. w) result (left self.new) (second_name_at (left self.old)) }
+        ensures reads { FollowsReading (λ w. w) result (left self.new) (read second_name_form (left self.old)) }
     {
         if self.skip(Mark::As) {
             self.some_name()
@@ -48,9 +51,9 @@ impl<'a> Cursor<'a> {
     }
 
     // Reads AS and a name, if AS comes next.
-    #[tactic(auto, unfolding(mob_grammar::specs::Reading::alias_at, mob_grammar::specs::Reading::if_mark))]
+    #[tactic(auto, unfolding(mob_grammar::specs::Reading::read, mob_grammar::specs::Scripts::alias_form, mob_grammar::specs::Reading::if_mark))]
     fn alias(&mut self) -> Result<Option<Word>, Fault<Syntax>>
-        ensures reads { FollowsReading (λ w. w) result (left self.new) (alias_at (left self.old)) }
+        ensures reads { FollowsReading (λ w. w) result (left self.new) (read alias_form (left self.old)) }
     {
         if self.skip(Mark::As) {
             self.some_name()
@@ -61,7 +64,7 @@ impl<'a> Cursor<'a> {
 
     // Reads AS and a name after a value, if AS comes next.
     fn aliased<T: Drop>(&mut self, value: T) -> Result<(T, Option<Word>), Fault<Syntax>>
-        ensures reads { FollowsReading (λ r. r.1) result (left self.new) (alias_at (left self.old)) }
+        ensures reads { FollowsReading (λ r. r.1) result (left self.new) (read alias_form (left self.old)) }
         ensures same { IfOk result (λ r. r.0 ≡ value) }
     {
         let alias = self.alias()?;
@@ -69,9 +72,9 @@ impl<'a> Cursor<'a> {
     }
 
     // Reads ASC or DESC, if one comes next. Returns whether it is DESC.
-    #[tactic(auto, unfolding(mob_grammar::specs::Reading::direction_at, mob_grammar::specs::Reading::if_mark))]
+    #[tactic(auto, unfolding(mob_grammar::specs::Reading::read, mob_grammar::specs::Scripts::direction_form, mob_grammar::specs::Reading::if_mark))]
     fn direction(&mut self) -> bool
-        ensures reads { direction_at (left self.old) ≡ Ok (result, left self.new) }
+        ensures reads { read direction_form (left self.old) ≡ Ok (result, left self.new) }
     {
         if self.skip(Mark::Asc) {
             false
@@ -81,9 +84,9 @@ impl<'a> Cursor<'a> {
     }
 
     // Reads DISTINCT, if it comes next. Returns whether it does.
-    #[tactic(auto, unfolding(mob_grammar::specs::Reading::distinct_at, mob_grammar::specs::Reading::if_mark))]
+    #[tactic(auto, unfolding(mob_grammar::specs::Reading::read, mob_grammar::specs::Scripts::distinct_form, mob_grammar::specs::Reading::if_mark))]
     fn distinct(&mut self) -> bool
-        ensures reads { distinct_at (left self.old) ≡ Ok (result, left self.new) }
+        ensures reads { read distinct_form (left self.old) ≡ Ok (result, left self.new) }
     {
         self.skip(Mark::Distinct)
     }
@@ -105,9 +108,9 @@ impl<'a> Cursor<'a> {
     }
 
     // Reads the rest of `count(*)`, after its first three tokens.
-    #[tactic(auto, unfolding(mob_grammar::specs::Reading::count_tail_at, mob_grammar::specs::Reading::count_alias_at, mob_grammar::specs::Reading::behind_mark))]
+    #[tactic(auto, unfolding(mob_grammar::specs::Reading::read, crate::specs::Items::count_form, mob_grammar::specs::Reading::behind_mark))]
     fn count_tail(&mut self, place: u32) -> Result<Item, Fault<Syntax>>
-        ensures reads { FollowsReading item_of result (left self.new) (count_tail_at place (left self.old)) }
+        ensures reads { FollowsReading item_of result (left self.new) (read (count_form place) (left self.old)) }
     {
         self.expect(Mark::Close)?;
         let alias = self.alias()?;
@@ -115,33 +118,19 @@ impl<'a> Cursor<'a> {
     }
 
     // Reads an expression, and its name after AS, if there is one.
-    #[tactic(auto, unfolding(mob_grammar::specs::Reading::one_item_at))]
+    #[tactic(auto, unfolding(mob_grammar::specs::Reading::read, crate::specs::Items::one_form))]
     fn one_item(&mut self) -> Result<Item, Fault<Syntax>>
-        ensures reads { FollowsReading item_of result (left self.new) (one_item_at (left self.old)) }
+        ensures reads { FollowsReading item_of result (left self.new) (read one_form (left self.old)) }
     {
         let value = self.expression()?;
         let (value, alias) = self.aliased(value)?;
         Ok(Item::One { value, alias })
     }
 
-    // Reads ON and its condition.
-    #[tactic(auto, unfolding(mob_grammar::specs::Reading::on_at, mob_grammar::specs::Reading::behind_mark))]
-    fn on_part(&mut self, table: Word, alias: Option<Word>) -> Result<FromTable, Fault<Syntax>>
-        ensures reads { FollowsReading from_of result (left self.new) (on_at table alias (left self.old)) }
-    {
-        self.expect(Mark::On)?;
-        let cond = self.expression()?;
-        Ok(FromTable {
-            table,
-            alias,
-            on: Some(cond),
-        })
-    }
-
     // Reads the left-joined tables, if there are any, and appends them.
-    #[tactic(auto, unfolding(mob_grammar::specs::Reading::joins_at, mob_grammar::specs::Reading::if_mark, crate::specs::Orderings::put_behind))]
+    #[tactic(auto, unfolding(mob_grammar::specs::Reading::read, mob_grammar::specs::Scripts::joins_form, mob_grammar::specs::Reading::if_mark, crate::specs::Behind::put_behind))]
     fn joins(&mut self, found: Items<FromTable>) -> Result<Items<FromTable>, Fault<Syntax>>
-        ensures reads { FollowsReading (map from_of) result (left self.new) (put_behind (map from_of found) joins_at (left self.old)) }
+        ensures reads { FollowsReading (map from_of) result (left self.new) (put_behind (map from_of found) (read joins_form) (left self.old)) }
     {
         if self.skip(Mark::Left) {
             self.list_onto::<Joined>(Mark::Left, found)
@@ -150,21 +139,35 @@ impl<'a> Cursor<'a> {
         }
     }
 
+    // Reads a table of FROM and its second name.
+    #[tactic(auto, unfolding(mob_grammar::specs::Reading::read, mob_grammar::specs::Scripts::entry_form))]
+    fn entry(&mut self) -> Result<FromTable, Fault<Syntax>>
+        ensures reads { FollowsReading from_of result (left self.new) (read entry_form (left self.old)) }
+    {
+        let table = self.name()?;
+        let alias = self.second_name()?;
+        Ok(FromTable {
+            table,
+            alias,
+            on: None,
+        })
+    }
+
     // Reads a table and the tables left-joined to it, and appends them.
-    #[tactic(auto, unfolding(mob_grammar::specs::Reading::source_at, crate::specs::Orderings::put_behind))]
+    #[tactic(auto, unfolding(mob_grammar::specs::Reading::read, mob_grammar::specs::Scripts::source_form, crate::specs::Behind::put_behind))]
     fn source(&mut self, before: Items<FromTable>) -> Result<Items<FromTable>, Fault<Syntax>>
-        ensures reads { FollowsReading (map from_of) result (left self.new) (put_behind (map from_of before) source_at (left self.old)) }
+        ensures reads { FollowsReading (map from_of) result (left self.new) (put_behind (map from_of before) (read source_form) (left self.old)) }
     {
         let mut found = before;
-        let entry = FromTable::read(self)?;
+        let entry = self.entry()?;
         found.push(entry)?;
         self.joins(found)
     }
 
     // Reads the tables of FROM.
-    #[tactic(auto, unfolding(mob_grammar::specs::Reading::sources_at))]
+    #[tactic(auto, unfolding(mob_grammar::specs::Reading::read, mob_grammar::specs::Scripts::sources_form))]
     fn sources(&mut self) -> Result<Items<FromTable>, Fault<Syntax>>
-        ensures reads { FollowsReading (map from_of) result (left self.new) (sources_at (left self.old)) }
+        ensures reads { FollowsReading (map from_of) result (left self.new) (read sources_form (left self.old)) }
     {
         let mut found = self.source(Items::new(self.alloc))?;
         'more: while self.skip(Mark::Comma) {
@@ -173,9 +176,9 @@ impl<'a> Cursor<'a> {
         Ok(found)
     }
 
-    #[tactic(auto, unfolding(mob_grammar::specs::Reading::from_at, mob_grammar::specs::Reading::if_mark))]
+    #[tactic(auto, unfolding(mob_grammar::specs::Reading::read, mob_grammar::specs::Scripts::from_form, mob_grammar::specs::Reading::if_mark))]
     fn from_part(&mut self) -> Result<Items<FromTable>, Fault<Syntax>>
-        ensures reads { FollowsReading (map from_of) result (left self.new) (from_at (left self.old)) }
+        ensures reads { FollowsReading (map from_of) result (left self.new) (read from_form (left self.old)) }
     {
         if self.skip(Mark::From) {
             self.sources()
@@ -184,9 +187,9 @@ impl<'a> Cursor<'a> {
         }
     }
 
-    #[tactic(auto, unfolding(mob_grammar::specs::Reading::condition_at, mob_grammar::specs::Reading::some_expression_at, mob_grammar::specs::Reading::if_mark))]
+    #[tactic(auto, unfolding(mob_grammar::specs::Reading::read, mob_grammar::specs::Scripts::where_form, mob_grammar::specs::Reading::if_mark))]
     fn where_part(&mut self) -> Result<Option<Expr>, Fault<Syntax>>
-        ensures reads { FollowsReading (option_map tree_of) result (left self.new) (condition_at (left self.old)) }
+        ensures reads { FollowsReading (option_map tree_of) result (left self.new) (read where_form (left self.old)) }
     {
         if self.skip(Mark::Where) {
             Ok(Some(self.expression()?))
@@ -196,9 +199,9 @@ impl<'a> Cursor<'a> {
     }
 
     // Reads this mark, BY, and entries with commas between them, if the mark comes next.
-    #[tactic(auto, unfolding(mob_grammar::specs::Reading::behind_mark, mob_grammar::specs::Reading::if_mark))]
+    #[tactic(auto, unfolding(mob_grammar::specs::Reading::read, mob_grammar::specs::Scripts::by_form, mob_grammar::specs::Reading::behind_mark, mob_grammar::specs::Reading::if_mark))]
     fn by_part<T: Entry>(&mut self, mark: Mark) -> Result<Items<T::Made>, Fault<Syntax>>
-        ensures reads { FollowsReading (map T.parts_of) result (left self.new) (by_at mark T.reader (left self.old)) }
+        ensures reads { FollowsReading (map T.parts_of) result (left self.new) (read (by_form mark T.form) (left self.old)) }
     {
         if self.skip(mark) {
             self.expect(Mark::By)?;
@@ -208,9 +211,9 @@ impl<'a> Cursor<'a> {
         }
     }
 
-    #[tactic(auto, unfolding(mob_grammar::specs::Reading::limit_at, mob_grammar::specs::Reading::some_number_at, mob_grammar::specs::Reading::if_mark))]
+    #[tactic(auto, unfolding(mob_grammar::specs::Reading::read, mob_grammar::specs::Scripts::limit_form, mob_grammar::specs::Reading::if_mark))]
     fn limit_part(&mut self) -> Result<Option<Word>, Fault<Syntax>>
-        ensures reads { FollowsReading (λ w. w) result (left self.new) (limit_at (left self.old)) }
+        ensures reads { FollowsReading (λ w. w) result (left self.new) (read limit_form (left self.old)) }
     {
         if self.skip(Mark::Limit) {
             Ok(Some(self.number()?))
@@ -221,12 +224,12 @@ impl<'a> Cursor<'a> {
 
     // Reads GROUP BY, ORDER BY and LIMIT. Returns `front` with the columns, the keys and the
     // number.
-    #[tactic(auto, unfolding(crate::specs::Orderings::ordering_at, mob_grammar::specs::Reading::group_at, mob_grammar::specs::Reading::order_at))]
+    #[tactic(auto, unfolding(mob_grammar::specs::Reading::read, mob_grammar::specs::Scripts::ordering_form, mob_grammar::specs::Scripts::group_form, mob_grammar::specs::Scripts::order_form))]
     fn ordered<T: Drop>(
         &mut self,
         front: T,
     ) -> Result<(T, Items<Expr>, Items<Key>, Option<Word>), Fault<Syntax>>
-        ensures reads { FollowsReading (λ r. (map tree_of r.1, map key_of r.2, r.3)) result (left self.new) (ordering_at (left self.old)) }
+        ensures reads { FollowsReading (λ r. (map tree_of r.1, (map key_of r.2, r.3))) result (left self.new) (read ordering_form (left self.old)) }
         ensures same { IfOk result (λ r. r.0 ≡ front) }
     {
         let groups = self.by_part::<GroupColumn>(Mark::Group)?;
@@ -236,9 +239,9 @@ impl<'a> Cursor<'a> {
     }
 
     // Reads a SELECT, after its first word.
-    #[tactic(auto, unfolding(mob_grammar::specs::Reading::select_at))]
+    #[tactic(auto, unfolding(mob_grammar::specs::Reading::read, mob_grammar::specs::Scripts::select_form))]
     fn select(&mut self) -> Result<SelectTree, Fault<Syntax>>
-        ensures reads { FollowsReading select_of result (left self.new) (select_at (left self.old)) }
+        ensures reads { FollowsReading select_of result (left self.new) (read select_form (left self.old)) }
     {
         let distinct = self.distinct();
         let items = self.list::<Item>(Mark::Comma)?;
@@ -257,9 +260,9 @@ impl<'a> Cursor<'a> {
     }
 
     // Reads a DELETE, after its first word.
-    #[tactic(auto, unfolding(mob_grammar::specs::Reading::delete_at, mob_grammar::specs::Reading::delete_table_at, mob_grammar::specs::Reading::behind_mark))]
+    #[tactic(auto, unfolding(mob_grammar::specs::Reading::read, mob_grammar::specs::Scripts::delete_form, mob_grammar::specs::Reading::behind_mark))]
     fn delete(&mut self) -> Result<Statement, Fault<Syntax>>
-        ensures reads { FollowsReading statement_of result (left self.new) (delete_at (left self.old)) }
+        ensures reads { FollowsReading statement_of result (left self.new) (read delete_form (left self.old)) }
     {
         self.expect(Mark::From)?;
         let table = self.name()?;
@@ -268,9 +271,9 @@ impl<'a> Cursor<'a> {
     }
 
     // Reads an EXPLAIN, after its first word.
-    #[tactic(auto, unfolding(mob_grammar::specs::Reading::explain_at, mob_grammar::specs::Reading::behind_mark))]
+    #[tactic(auto, unfolding(mob_grammar::specs::Reading::read, mob_grammar::specs::Scripts::explain_form, mob_grammar::specs::Reading::behind_mark))]
     fn explain(&mut self) -> Result<Statement, Fault<Syntax>>
-        ensures reads { FollowsReading statement_of result (left self.new) (explain_at (left self.old)) }
+        ensures reads { FollowsReading statement_of result (left self.new) (read explain_form (left self.old)) }
     {
         self.expect(Mark::Select)?;
         Ok(Statement::Explain(self.select()?))
@@ -280,35 +283,12 @@ impl<'a> Cursor<'a> {
     /// that continues none of them.
     ///
     /// `Syntax` at the first token that does not fit; `NoMemory` if an allocation fails.
-    #[tactic(auto, unfolding(mob_grammar::specs::Reading::script_at))]
+    #[tactic(auto, unfolding(mob_grammar::specs::Reading::read, mob_grammar::specs::Scripts::script_form))]
     pub fn statements(&mut self) -> Result<Items<Statement>, Fault<Syntax>>
-        ensures reads { FollowsReading (map statement_of) result (left self.new) (script_at (left self.old)) }
+        ensures reads { FollowsReading (map statement_of) result (left self.new) (read script_form (left self.old)) }
     {
         self.list::<Statement>(Mark::Semicolon)
     }
-}
-
-impl Entry for FromTable {
-    type Made = FromTable;
-
-    ghost Parts = { FromParts };
-
-    ghost parts_of = { from_of };
-
-    ghost reader = { from_entry_at };
-
-    #[tactic(auto, unfolding(mob_grammar::specs::Reading::from_entry_at))]
-    fn read(cursor: &mut Cursor<'_>) -> Result<FromTable, Fault<Syntax>> {
-        let table = cursor.name()?;
-        let alias = cursor.second_name()?;
-        Ok(FromTable {
-            table,
-            alias,
-            on: None,
-        })
-    }
-
-    ghost shrinks = { from_entry_shrinks };
 }
 
 /// A left-joined table, after LEFT.
@@ -317,21 +297,27 @@ pub struct Joined;
 impl Entry for Joined {
     type Made = FromTable;
 
-    ghost Parts = { FromParts };
+    ghost sort = { from };
 
     ghost parts_of = { from_of };
 
-    ghost reader = { joined_entry_at };
+    ghost form = { joined_form };
 
-    #[tactic(auto, unfolding(mob_grammar::specs::Reading::joined_entry_at, mob_grammar::specs::Reading::behind_mark))]
+    #[tactic(auto, unfolding(mob_grammar::specs::Reading::read, mob_grammar::specs::Scripts::joined_form, mob_grammar::specs::Reading::behind_mark))]
     fn read(cursor: &mut Cursor<'_>) -> Result<FromTable, Fault<Syntax>> {
         cursor.expect(Mark::Join)?;
         let table = cursor.name()?;
         let alias = cursor.second_name()?;
-        cursor.on_part(table, alias)
+        cursor.expect(Mark::On)?;
+        let cond = cursor.expression()?;
+        Ok(FromTable {
+            table,
+            alias,
+            on: Some(cond),
+        })
     }
 
-    ghost shrinks = { joined_entry_shrinks };
+    ghost fit = { joined_fits };
 }
 
 /// A column of GROUP BY.
@@ -340,13 +326,13 @@ pub struct GroupColumn;
 impl Entry for GroupColumn {
     type Made = Expr;
 
-    ghost Parts = { Tree };
+    ghost sort = { expression };
 
     ghost parts_of = { tree_of };
 
-    ghost reader = { group_column_at };
+    ghost form = { group_column_form };
 
-    #[tactic(auto, unfolding(mob_grammar::specs::Reading::group_column_at, mob_grammar::specs::Reading::if_mark))]
+    #[tactic(auto, using(crate::proofs::Items::group_table), unfolding(mob_grammar::specs::Reading::read, mob_grammar::specs::Scripts::group_column_form, mob_grammar::specs::Reading::if_mark))]
     fn read(cursor: &mut Cursor<'_>) -> Result<Expr, Fault<Syntax>> {
         let name = cursor.name()?;
         if cursor.skip(Mark::Dot) {
@@ -356,19 +342,19 @@ impl Entry for GroupColumn {
         }
     }
 
-    ghost shrinks = { group_column_shrinks };
+    ghost fit = { group_column_fits };
 }
 
 impl Entry for Item {
     type Made = Item;
 
-    ghost Parts = { ItemParts };
+    ghost sort = { item };
 
     ghost parts_of = { item_of };
 
-    ghost reader = { item_at };
+    ghost form = { item_form };
 
-    #[tactic(auto, unfolding(mob_grammar::specs::Reading::item_at, mob_grammar::specs::Reading::value_item_at, mob_grammar::specs::Reading::every_at, mob_grammar::specs::Reading::mark_at))]
+    #[tactic(auto, using(crate::proofs::Items::item_every, crate::proofs::Items::item_count, crate::proofs::Items::item_one))]
     fn read(cursor: &mut Cursor<'_>) -> Result<Item, Fault<Syntax>> {
         if let Some(place) = cursor.take(Mark::Times) {
             Ok(Item::All { place })
@@ -379,39 +365,39 @@ impl Entry for Item {
         }
     }
 
-    ghost shrinks = { item_shrinks };
+    ghost fit = { item_fits };
 }
 
 impl Entry for Key {
     type Made = Key;
 
-    ghost Parts = { KeyParts };
+    ghost sort = { key };
 
     ghost parts_of = { key_of };
 
-    ghost reader = { key_at };
+    ghost form = { key_form };
 
-    #[tactic(auto, unfolding(mob_grammar::specs::Reading::key_at))]
+    #[tactic(auto, unfolding(mob_grammar::specs::Reading::read, mob_grammar::specs::Scripts::key_form))]
     fn read(cursor: &mut Cursor<'_>) -> Result<Key, Fault<Syntax>> {
         let value = cursor.expression()?;
         let descending = cursor.direction();
         Ok(Key { value, descending })
     }
 
-    ghost shrinks = { key_shrinks };
+    ghost fit = { key_fits };
 }
 
 /// A statement, which may be empty.
 impl Entry for Statement {
     type Made = Statement;
 
-    ghost Parts = { StatementParts };
+    ghost sort = { statement };
 
     ghost parts_of = { statement_of };
 
-    ghost reader = { statement_at };
+    ghost form = { statement_form };
 
-    #[tactic(auto, unfolding(mob_grammar::specs::Reading::statement_at, mob_grammar::specs::Reading::select_statement_at, mob_grammar::specs::Reading::if_mark))]
+    #[tactic(auto, unfolding(mob_grammar::specs::Reading::read, mob_grammar::specs::Scripts::statement_form, mob_grammar::specs::Reading::if_mark))]
     fn read(cursor: &mut Cursor<'_>) -> Result<Statement, Fault<Syntax>> {
         if cursor.skip(Mark::Create) {
             cursor.create()
@@ -430,5 +416,5 @@ impl Entry for Statement {
         }
     }
 
-    ghost shrinks = { statement_shrinks };
+    ghost fit = { statement_fits };
 }
