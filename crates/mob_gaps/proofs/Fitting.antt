@@ -1,7 +1,6 @@
 -- The test whether all parts fit is exact; and a formula after others.
 use Rattle.std.proofs.Common.{◌≡◌, Bool, true, false, List, [], ◌∷◌, ◌++◌, refl, subst, ◌^◌}
 use Rattle.std.specs.Prelude.{Result, Ok, Err, nat_abs}
-use borrow.Author.Tests.{ltb-true, lt-ltb}
 use Rattle.std.proofs.lemmas.Bool.{and_parts, and_from, ltb-true, lt-ltb}
 use Rattle.mob_ratio.specs.Ratio.{Ratio}
 use Rattle.mob_ratio.specs.Sign.{nil}

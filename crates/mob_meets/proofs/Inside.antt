@@ -40,8 +40,8 @@ turn_back = clear6 _ (λ D a b c d e f z. simp cleared (omega (arith, linear)))
 lt_of : (a : Ratio) → nil <ℚ a → nil ≤ℚ a
 lt_of = clear1 _ (λ D x p h. let h' = simp cleared at h in simp cleared (omega (arith, linear)))
 
-neg_lt : (a : Ratio) → nil <ℚ a → neg_ℚ a <ℚ nil
-neg_lt = clear1 _ (λ D x p h. let h' = simp cleared at h in simp cleared (omega (arith, linear)))
+neg_below : (a : Ratio) → nil <ℚ a → neg_ℚ a <ℚ nil
+neg_below = clear1 _ (λ D x p h. let h' = simp cleared at h in simp cleared (omega (arith, linear)))
 
 -- a is above p
 abbrev above : Point → Point → Bool
@@ -52,7 +52,7 @@ falls_right : (p a b : Point) → above p a ≡ true → above p b ≡ false →
 falls_right p a b ua ub la lb =
     let bc = mul_lt (b.x -ℚ p.x) (a.y -ℚ p.y) (sub_lt p.x b.x (before-lt _ _ lb)) (sub_lt p.y a.y (before-lt _ _ ua)) in
     let ea = mul_le (p.y -ℚ b.y) (a.x -ℚ p.x) (sub_le b.y p.y (up_to-le _ _ ub)) (lt_of _ (sub_lt p.x a.x (before-lt _ _ la))) in
-    lt-before _ _ (subst (λ z. z <ℚ nil) (sym (turn_left a.x a.y b.x b.y p.x p.y)) (neg_lt _ (add_lt_le _ _ bc ea)))
+    lt-before _ _ (subst (λ z. z <ℚ nil) (sym (turn_left a.x a.y b.x b.y p.x p.y)) (neg_below _ (add_lt_le _ _ bc ea)))
 
 -- a above p, b not; both to the left of p
 falls_left : (p a b : Point) → above p a ≡ true → above p b ≡ false → before a.x p.x ≡ true → before b.x p.x ≡ true → before nil (turn a b p) ≡ true
@@ -65,7 +65,7 @@ turned_up : (p a b : Point) → before (turn b a p) nil ≡ true → before nil 
 turned_up p a b h = lt-before _ _ (subst (λ z. nil <ℚ z) (sym (turn_back a.x a.y b.x b.y p.x p.y)) (neg_lt _ (before-lt _ _ h)))
 
 turned_down : (p a b : Point) → before nil (turn b a p) ≡ true → before (turn a b p) nil ≡ true
-turned_down p a b h = lt-before _ _ (subst (λ z. z <ℚ nil) (sym (turn_back a.x a.y b.x b.y p.x p.y)) (neg_lt _ (before-lt _ _ h)))
+turned_down p a b h = lt-before _ _ (subst (λ z. z <ℚ nil) (sym (turn_back a.x a.y b.x b.y p.x p.y)) (neg_below _ (before-lt _ _ h)))
 
 by_height : (ya yb far : Bool) → (ya ≡ true → yb ≡ false → far ≡ true) → (yb ≡ true → ya ≡ false → far ≡ true) → (is_one_alone ya yb && far) ≡ is_one_alone ya yb
 by_height true true far h k = refl

@@ -1,6 +1,6 @@
 //! Where a slice crosses the edges of tiles.
 ghost use Rattle.mob_slice.specs.Entries.{IsMadeBy};
-ghost use Rattle.std.specs.Prelude.{◌≡◌, [], ◌∷◌, ◌++◌, map, OnOk};
+ghost use Rattle.std.specs.Prelude.{◌≡◌, ◌++◌, map};
 ghost use Rattle.std.specs.List.{flat_map, AllByRecursion};
 ghost use Rattle.mob_frac.specs.Formula.{IsFormula};
 ghost use Rattle.mob_slice.specs.declared.formula.Formula.TheVariants.{F2, F3};
@@ -13,15 +13,7 @@ use mob_grid::edge;
 use mob_list::fault::Fault;
 use mob_slice::Formula;
 use mob_span::Span;
-use std::alloc::{AllocError, Global};
-
-/// Appends one more entry.
-pub fn add<T: Drop>(out: &mut Vec<T>, next: T) -> Result<(), AllocError>
-    ensures added { OnOk result (out.new.items ≡ out.old.items ++ next ∷ []) }
-{
-    out.push(next)?;
-    Ok(())
-}
+use std::alloc::Global;
 
 // The difference to an edge, from `x` to `y`.
 fn difference(c: &Frac, x: &Frac, y: &Frac, n: i64) -> Result<Ends, Overflow>
@@ -52,9 +44,7 @@ pub fn differences(
                 return Err(Fault::Because(Formula::F2));
             }
         };
-        if add(&mut out, next).is_err() {
-            return Err(Fault::NoMemory);
-        }
+        out.push(next)?;
     }
     Ok(out)
 }
@@ -71,9 +61,7 @@ pub fn times(alloc: Global, c: &Frac, low: i64, high: i64) -> Result<Vec<Frac>, 
                 return Err(Fault::Because(Formula::F2));
             }
         };
-        if add(&mut out, next).is_err() {
-            return Err(Fault::NoMemory);
-        }
+        out.push(next)?;
     }
     Ok(out)
 }
@@ -85,7 +73,10 @@ fn push_root(out: &mut Vec<Frac>, span: &Span, f: &Ends) -> Result<(), Fault<For
 {
     match root(span, f) {
         Ok(None) => Ok(()),
-        Ok(Some(r)) => Ok(add(out, r)?),
+        Ok(Some(r)) => {
+            out.push(r)?;
+            Ok(())
+        }
         Err(passed) => Err(Fault::Because(passed)),
     }
 }
