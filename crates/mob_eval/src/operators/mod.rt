@@ -8,7 +8,7 @@ ghost use Rattle.mob_eval.specs.SoFar.{operand_types};
 ghost use Rattle.mob_slice.specs.Entries.{IsFirst};
 ghost use Rattle.mob_value.specs.Held.{held};
 ghost use Rattle.mob_value.specs.Outcomes.{IsOutcome};
-ghost use Rattle.mob_eval.specs.Outcomes.{wanted};
+ghost use Rattle.mob_eval.specs.Wanted.{wanted};
 
 mod casting;
 mod meeting;

@@ -1,4 +1,4 @@
--- The outcome of an operator.
+-- Which of two restrictions an operator is.
 use Rattle.std.specs.Prelude.{Bool, true, false}
 use Rattle.mob_operators.specs.declared.operator.Op.{Op}
 use Rattle.mob_operators.specs.declared.operator.Op.TheVariants as op
