@@ -14,6 +14,7 @@ ghost use Rattle.mob_eval.specs.Remembered.{AllFit, Fits, IsBoxTold};
 use crate::memory::remembered::Remembering;
 use crate::memory::{Memory, box_cell_of};
 use crate::scene::View;
+use mob_clip::sql::boxes::{overlap, overlap_of};
 use mob_outcome::cells::{Cell, has_room};
 use mob_stbox::StBox;
 use mob_typed::TExpr;
