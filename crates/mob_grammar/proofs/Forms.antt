@@ -1,7 +1,6 @@
 -- Each form that fits is read: one proof for all productions. It fits if one token tells at each
 -- place which way to go on.
-use Rattle.std.proofs.Common.{◌≡◌, ◌⊎◌, inl, inr, ℕ, List, [], ◌∷◌, Bool, true, false, cond, Ok, refl, sym, ap, subst, ◌∙◌}
-use Rattle.mob_grammar.specs.declared.mark.Mark.{Mark}
+use Rattle.std.proofs.Common.{◌≡◌, ◌⊎◌, inl, inr, List, [], ◌∷◌, Bool, true, false, cond, Ok, refl, sym, ap, subst, ◌∙◌}
 use Rattle.mob_grammar.specs.declared.mark.Mark.TheVariants.{Open}
 use Rattle.mob_grammar.specs.TokenKinds.{TokenKinds, of_mark, names, no_kind, only_kind, only_mark, ◌∪◌, where_so, apart, expression_heads, expression_continues}
 use Rattle.mob_grammar.specs.Symbols.{PlacedSymbol, sign, among, begins, starts}
