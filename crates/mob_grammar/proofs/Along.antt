@@ -1,12 +1,11 @@
 -- The literals and rows of a text are at its tokens, in the same order, and all places of its value
 -- are at its tokens: one proof for all forms without `;`.
-use Rattle.std.proofs.Common.{◌≡◌, ◌∙◌, inl, inr, ℕ, List, [], ◌∷◌, ◌++◌, Bool, true, false, cond, refl, sym, subst}
-use Rattle.std.specs.List.{flat_map}
+use Rattle.std.proofs.Common.{◌≡◌, inl, inr, ℕ, List, [], ◌∷◌, ◌++◌, Bool, true, false, cond, refl, sym, subst}
 use Rattle.mob_grammar.specs.declared.mark.Mark.{Mark}
 use Rattle.mob_grammar.specs.declared.mark.Mark.TheVariants.{Semicolon}
 use Rattle.mob_grammar.specs.Marks.{is}
 use Rattle.mob_grammar.specs.Symbols.{PlacedSymbol, sign, identifier, numeral, string}
-use Rattle.mob_grammar.specs.Forms.{single, several as more_of, Sort, Meaning, counted, pair, Form, built, mark, a_name, a_number, a_string, a_type, an_expression, a_count_or_expression, made, both, behind, ended, choice, either, several, Derives}
+use Rattle.mob_grammar.specs.Forms.{single, several, Sort, Meaning, counted, pair, Form, built, mark, a_name, a_number, a_string, a_type, an_expression, a_count_or_expression, made, both, behind, ended, choice, either, separated, Derives}
 use Rattle.mob_grammar.specs.Places.{IsWithin, sort_places}
 use Rattle.mob_grammar.specs.Held.{sort_held}
 use Rattle.mob_grammar.proofs.Parts.{Covers, KeepsParts}
@@ -23,7 +22,7 @@ whole (behind m f) = cond (is m Semicolon) false (whole f)
 whole (ended f m) = cond (is m Semicolon) false (whole f)
 whole (choice m f g) = cond (is m Semicolon) false (cond (whole f) (whole g) false)
 whole (either f g) = cond (whole f) (whole g) false
-whole (several m f) = cond (is m Semicolon) false (whole f)
+whole (separated m f) = cond (is m Semicolon) false (whole f)
 whole _ = true
 
 -- a text passes the places of its value
@@ -50,9 +49,9 @@ not_end : (b c : Bool) → cond b false c ≡ true → (b ≡ false) × (c ≡ t
 not_end true c h = absurd (cc h)
 not_end false c h = (refl, h)
 
-along_list : {a : Sort} (m : Mark) → ((p : ℕ) → IsInside (sign m p)) → (f : Form a) → Along f → Along (several m f)
+along_list : {a : Sort} (m : Mark) → ((p : ℕ) → IsInside (sign m p)) → (f : Form a) → Along f → Along (separated m f)
 along_list m inside f one l _ r (single {x = x} d) = join (one l x r d) here
-along_list m inside f one l _ r (more_of {u = u} {x = x} {xs = xs} {p = p} d ds) = join (one l x (sign m p ∷ u) d) (by (inside p) (along_list m inside f one u xs r ds))
+along_list m inside f one l _ r (several {u = u} {x = x} {xs = xs} {p = p} d ds) = join (one l x (sign m p ∷ u) d) (by (inside p) (along_list m inside f one u xs r ds))
 
 pub form_along : {a : Sort} (f : Form a) → whole f ≡ true → KeepsParts f → Along f
 form_along (built a v) h k l x r d = subst (λ z. Passes l (sort_places a z) (sort_held a z) r) (sym d.0) (fewer [] (sort_places a v) [] (sort_held a v) k.1 k.2 (over d.1))
@@ -79,4 +78,4 @@ form_along (choice m f g) h k l x r (inl (p, u, e, d)) = let t = not_end (is m S
 form_along (choice m f g) h k l x r (inr d) = let t = not_end (is m Semicolon) _ h in form_along g (both_true (whole f) (whole g) t.1).1 k.1 l x r d
 form_along (either f g) h k l x r (inl d) = form_along f (both_true (whole f) (whole g) h).0 k.0 l x r d
 form_along (either f g) h k l x r (inr d) = form_along g (both_true (whole f) (whole g) h).1 k.1 l x r d
-form_along (several {a} m f) h k l xs r d = let t = not_end (is m Semicolon) (whole f) h in along_list m (λ p. t.0) f (form_along f t.1 k) l xs r d
+form_along (separated {a} m f) h k l xs r d = let t = not_end (is m Semicolon) (whole f) h in along_list m (λ p. t.0) f (form_along f t.1 k) l xs r d

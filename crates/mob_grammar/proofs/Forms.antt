@@ -1,12 +1,11 @@
 -- Each form that fits is read: one proof for all productions. It fits if one token tells at each
 -- place which way to go on.
-use Rattle.std.proofs.Common.{◌≡◌, ◌⊎◌, inl, inr, ℕ, List, [], ◌∷◌, Bool, true, false, cond, Ok, refl, sym, ap, subst, ◌∙◌}
-use Rattle.mob_grammar.specs.declared.mark.Mark.{Mark}
+use Rattle.std.proofs.Common.{◌≡◌, ◌⊎◌, inl, inr, List, [], ◌∷◌, Bool, true, false, cond, Ok, refl, sym, ap, subst, ◌∙◌}
 use Rattle.mob_grammar.specs.declared.mark.Mark.TheVariants.{Open}
 use Rattle.mob_grammar.specs.TokenKinds.{TokenKinds, of_mark, names, no_kind, only_kind, only_mark, ◌∪◌, where_so, apart, expression_heads, expression_continues}
 use Rattle.mob_grammar.specs.Symbols.{PlacedSymbol, sign, among, begins, starts}
 use Rattle.mob_grammar.specs.Expressions.{disjunction}
-use Rattle.mob_grammar.specs.Forms.{Builds, ◌⇒◌, ◌▸◌, single, several as more_of, Sort, Meaning, Form, built, mark, a_name, a_number, a_string, a_type, an_expression, a_count_or_expression, made, both, behind, ended, choice, either, several, Derives}
+use Rattle.mob_grammar.specs.Forms.{Builds, ◌⇒◌, ◌▸◌, single, several, Sort, Meaning, Form, built, mark, a_name, a_number, a_string, a_type, an_expression, a_count_or_expression, made, both, behind, ended, choice, either, separated, Derives}
 use Rattle.mob_grammar.specs.Reading.{◌>>=◌, closed, nullable, heads, read}
 use Rattle.mob_grammar.proofs.Complete.{Stops}
 use Rattle.mob_grammar.proofs.Heads.{not_this, begins_mark, type_begins, phrase_begins, loose_symbol}
@@ -24,7 +23,7 @@ continues (both f g) = continues g ∪ where_so (nullable g) (continues f)
 continues (behind m f) = continues f
 continues (choice m f g) = continues f ∪ continues g ∪ where_so (nullable g) (only_mark m)
 continues (either f g) = continues f ∪ continues g ∪ where_so (nullable g) (heads f)
-continues (several m f) = continues f ∪ only_mark m
+continues (separated m f) = continues f ∪ only_mark m
 continues _ = no_kind
 
 -- one token tells each form from what else could follow there
@@ -35,7 +34,7 @@ fits (behind m f) = fits f
 fits (ended f m) = cond (fits f) (cond (continues f (of_mark m)) false true) false
 fits (choice m f g) = cond (fits f) (cond (fits g) (cond (heads g (of_mark m)) false true) false) false
 fits (either f g) = cond (fits f) (cond (fits g) (cond (nullable f) false (apart (heads f) (heads g))) false) false
-fits (several m f) = cond (fits f) (cond (continues f (of_mark m)) false true) false
+fits (separated m f) = cond (fits f) (cond (continues f (of_mark m)) false true) false
 fits _ = true
 
 -- what may follow a text
@@ -77,8 +76,8 @@ begun (choice m f g) l y r (inl (p, u, e, d)) = inl (begins_left (only_mark m) (
 begun (choice m f g) l y r (inr d) = elim (begun g l y r d) [ inl b ↦ inl (begins_right (only_mark m) (heads g) l b) | inr b ↦ inr b ]
 begun (either f g) l y r (inl d) = elim (begun f l y r d) [ inl b ↦ inl (begins_left (heads f) (heads g) l b) | inr b ↦ inr (ap (λ z. cond z true (nullable g)) b.0, b.1) ]
 begun (either f g) l y r (inr d) = elim (begun g l y r d) [ inl b ↦ inl (begins_right (heads f) (heads g) l b) | inr b ↦ inr (one_right (nullable f) (nullable g) b.0, b.1) ]
-begun (several m f) l _ r (single {x = x} d) = elim (begun f l x r d) [ inl b ↦ inl (begins_left (heads f) (where_so (nullable f) (only_mark m)) l b) | inr b ↦ inr b ]
-begun (several m f) l _ r (more_of {u = u} {x = x} {p = p} d ds) = elim (begun f l x (sign m p ∷ u) d) [
+begun (separated m f) l _ r (single {x = x} d) = elim (begun f l x r d) [ inl b ↦ inl (begins_left (heads f) (where_so (nullable f) (only_mark m)) l b) | inr b ↦ inr b ]
+begun (separated m f) l _ r (several {u = u} {x = x} {p = p} d ds) = elim (begun f l x (sign m p ∷ u) d) [
   | inl b ↦ inl (begins_left (heads f) (where_so (nullable f) (only_mark m)) l b)
   | inr b ↦ inl (begins_right (heads f) (where_so (nullable f) (only_mark m)) l (begins_where (nullable f) (only_mark m) l b.0 (begins_mark m b.1)))
 ]
@@ -145,7 +144,7 @@ form_read (either f g) h =
       null_apart : (b c : Bool) → cond b false c ≡ true → c ≡ true
       null_apart true c h = absurd (cc h)
       null_apart false c h = h
-form_read (several m f) h =
+form_read (separated m f) h =
     let k = both_true (fits f) _ h in
-    let S = Stop (several m f) in
+    let S = Stop (separated m f) in
     read_list S (Stop f) m (Derives f) (read f) (form_read f k.0) (λ p u. not_true _ k.1) (λ r s. not_left (continues f) (only_mark m) r s) (λ r s. not_right (continues f) (only_mark m) r s)

@@ -1,7 +1,7 @@
 -- What a form builds has no more nodes, and no other places, than what it is built of.
 use Rattle.std.specs.Prelude.{◌≤◌, ℕ, List, []}
 use Rattle.std.specs.List.{AllByRecursion}
-use Rattle.mob_grammar.specs.Forms.{Sort, Meaning, Form, built, made, both, behind, ended, choice, either, several}
+use Rattle.mob_grammar.specs.Forms.{Sort, Meaning, Form, built, made, both, behind, ended, choice, either, separated}
 use Rattle.mob_grammar.specs.Sizes.{sort_size}
 use Rattle.mob_grammar.specs.Places.{IsWithin, sort_places}
 use Rattle.mob_grammar.specs.Held.{sort_held}
@@ -21,5 +21,5 @@ KeepsParts (behind m f) = KeepsParts f
 KeepsParts (ended f m) = KeepsParts f
 KeepsParts (choice m f g) = KeepsParts f × KeepsParts g
 KeepsParts (either f g) = KeepsParts f × KeepsParts g
-KeepsParts (several m f) = KeepsParts f
+KeepsParts (separated m f) = KeepsParts f
 KeepsParts _ = Unit {1}

@@ -1,21 +1,20 @@
 -- Each production of the table fits, has no `;`, and keeps the nodes and places of its parts. So
 -- scripts are read, have no more nodes than tokens, and hold places of their tokens.
-use Rattle.std.proofs.Common.{◌≡◌, ◌∙◌, ◌≤◌, ◌+◌, ◌++◌, inl, inr, map, refl, sym, ap, subst, ℕ, List, [], ◌∷◌, true, false, Some, None, arith}
+use Rattle.std.proofs.Common.{◌≡◌, ◌∙◌, ◌≤◌, ◌++◌, inl, inr, map, refl, sym, ap, subst, ℕ, List, [], ◌∷◌, true, false, Some, None, arith}
 use Rattle.std.specs.List.{AllByRecursion, flat_map, sum_by}
 use Rattle.std.proofs.lemmas.List.{map-append}
 use Rattle.std.proofs.lemmas.List.Concat.{flat_map-append}
 use Rattle.std.proofs.lemmas.List.Sums.{sum_by-cons, sum_by-append}
 use Rattle.mob_list.proofs.Each.{each_both, each_parts}
-use Rattle.mob_ast.specs.Trees.{FromParts, StatementParts}
-use Rattle.mob_grammar.specs.declared.mark.Mark.{Mark}
+use Rattle.mob_ast.specs.Trees.{FromParts}
 use Rattle.mob_grammar.specs.declared.mark.Mark.TheVariants.{Plus, Minus, Semicolon}
 use Rattle.mob_grammar.specs.Symbols.{PlacedSymbol, sign}
-use Rattle.mob_grammar.specs.Forms.{single, several as more_of, Meaning, flag, word, text, type_word, expression, counted, from, item, many, maybe, pair, Form, built, Derives}
+use Rattle.mob_grammar.specs.Forms.{single, several, Meaning, flag, word, text, expression, counted, from, item, many, maybe, pair, built, Derives}
 use Rattle.mob_grammar.specs.Scripts.{string_form, signed_form, number_form, typed_form, const_form, row_form, column_type_form, create_table_form, create_index_form, create_form, insert_form, header_form, format_form, delimiter_form, options_form, copy_form, some_name_form, second_name_form, entry_form, joined_form, joins_form, source_form, tables_of, sources_form, from_form, alias_form, named_item, item_form, direction_form, key_form, distinct_form, where_form, column_leaf, group_column_form, by_form, group_form, order_form, limit_form, ordering_form, select_form, delete_form, explain_form, statement_form, script_form}
 use Rattle.mob_grammar.specs.Reading.{read}
 use Rattle.mob_grammar.specs.Sizes.{from_nodes, HasFewNodes}
-use Rattle.mob_grammar.specs.Places.{IsWithin, nothing, other, item_places, condition_places, from_places, key_places, places_of_some, sort_places, statement_places, script_places, StandsAtTokens}
-use Rattle.mob_grammar.specs.Held.{word_held, type_held, tree_held, from_held, statement_held, sort_held}
+use Rattle.mob_grammar.specs.Places.{IsWithin, nothing, other, item_places, condition_places, from_places, key_places, sort_places, statement_places, script_places, StandsAtTokens}
+use Rattle.mob_grammar.specs.Held.{word_held, type_held, tree_held, from_held, statement_held}
 use Rattle.mob_grammar.proofs.Along.{Along, whole, form_along}
 use Rattle.mob_grammar.proofs.Forms.{Stop, fits, form_read}
 use Rattle.mob_grammar.proofs.Parts.{IsBuiltOf, KeepsParts}
@@ -25,9 +24,13 @@ use Rattle.mob_grammar.proofs.Sets.{both_true}
 use Rattle.mob_grammar.proofs.Sizes.{form_few}
 use Rattle.mob_grammar.proofs.Within.{within_all, within_back, within_both, within_front}
 
-pub script_fits : fits script_form ≡ true
+-- what is tested of the whole table
+table_tests : (fits script_form ≡ true) × (whole statement_form ≡ true)
 unfolding string_form signed_form number_form typed_form const_form row_form column_type_form create_table_form create_index_form create_form insert_form header_form format_form delimiter_form options_form copy_form some_name_form second_name_form entry_form joined_form joins_form source_form sources_form from_form alias_form item_form direction_form key_form distinct_form where_form group_column_form by_form group_form order_form limit_form ordering_form select_form delete_form explain_form statement_form
-script_fits = refl
+table_tests = (refl, refl)
+
+pub script_fits : fits script_form ≡ true
+script_fits = table_tests.0
 
 -- the entries of lists
 pub const_fits : fits const_form ≡ true
@@ -64,10 +67,6 @@ key_fits = refl
 
 pub statement_fits : fits statement_form ≡ true
 statement_fits = (both_true (fits statement_form) _ script_fits).0
-
-statement_whole : whole statement_form ≡ true
-unfolding string_form signed_form number_form typed_form const_form row_form column_type_form create_table_form create_index_form create_form insert_form header_form format_form delimiter_form options_form copy_form some_name_form second_name_form entry_form joined_form joins_form source_form sources_form from_form alias_form item_form direction_form key_form distinct_form where_form group_column_form by_form group_form order_form limit_form ordering_form select_form delete_form explain_form statement_form
-statement_whole = refl
 
 -- what each production keeps
 string_keeps : KeepsParts string_form
@@ -227,12 +226,12 @@ pub few_nodes : HasFewNodes
 few_nodes l x d = omega (arith, form_few script_form statement_keeps l x [] d)
 
 pub statement_along : Along statement_form
-statement_along = form_along statement_form statement_whole statement_keeps
+statement_along = form_along statement_form table_tests.1 statement_keeps
 
 one_way : (l r : List PlacedSymbol) (ps us qs : List ℕ) → Passes l ps us r → IsWithin qs (map (λ t. t.place) r) → IsWithin (ps ++ qs) (map (λ t. t.place) l)
 one_way l r ps us qs w rest = subst (λ k. IsWithin (ps ++ qs) (map (λ t. t.place) k)) (sym w.parts) (subst (IsWithin (ps ++ qs)) (sym (map-append (λ t. t.place) w.own r)) (within_both w.places rest))
 
 pub stands_at_tokens : StandsAtTokens
 stands_at_tokens l _ (single {x = s} d) = one_way l [] (statement_places s) (statement_held s) [] (statement_along l s [] d) nothing
-stands_at_tokens l _ (more_of {u = u} {x = s} {xs = ss} {p = p} d ds) =
+stands_at_tokens l _ (several {u = u} {x = s} {xs = ss} {p = p} d ds) =
     one_way l (sign Semicolon p ∷ u) (statement_places s) (statement_held s) (script_places ss) (statement_along l s (sign Semicolon p ∷ u) d) (other (stands_at_tokens u ss ds))

@@ -9,7 +9,7 @@ use Rattle.mob_grammar.specs.declared.mark.Mark.TheVariants.{Select, Delete, Dot
 use Rattle.mob_grammar.specs.Marks.{is}
 use Rattle.mob_grammar.specs.TokenKinds.{TokenKinds, of_mark, names, numbers, strings, only_mark, ◌∪◌, where_so, kinds_in}
 use Rattle.mob_grammar.specs.Symbols.{Symbol, fixed, name, number, quoted, PlacedSymbol, sign, identifier, kind, among, begins, starts}
-use Rattle.mob_grammar.specs.Forms.{Listed, single, several as more_of, Sort, Meaning, Form, built, mark, a_name, a_number, a_string, a_type, an_expression, a_count_or_expression, made, both, behind, ended, choice, either, several, Derives}
+use Rattle.mob_grammar.specs.Forms.{Listed, single, several, Sort, Meaning, Form, built, mark, a_name, a_number, a_string, a_type, an_expression, a_count_or_expression, made, both, behind, ended, choice, either, separated, Derives}
 use Rattle.mob_grammar.specs.Reading.{nullable, heads}
 use Rattle.mob_grammar.specs.Scripts.{string_form, signed_form, number_form, typed_form, const_form, row_form, column_type_form, create_table_form, create_index_form, create_form, insert_form, header_form, format_form, delimiter_form, options_form, copy_form, some_name_form, second_name_form, entry_form, joined_form, joins_form, source_form, sources_form, from_form, alias_form, item_form, direction_form, key_form, distinct_form, where_form, group_column_form, by_form, group_form, order_form, limit_form, ordering_form, select_form, delete_form, explain_form, statement_form, Statement}
 use Rattle.mob_grammar.proofs.Forms.{begun}
@@ -64,7 +64,7 @@ is_calm (behind m f) k = cond (is_quiet m) (is_calm f k) false
 is_calm (ended f m) k = cond (is_quiet m) (is_calm f (only_mark m)) false
 is_calm (choice m f g) k = cond (cond (is m Dot) (is_dotted f) (cond (is_quiet m) (is_calm f k) false)) (is_calm g k) false
 is_calm (either f g) k = cond (is_calm f k) (is_calm g k) false
-is_calm (several m f) k = cond (is_quiet m) (is_calm f (only_mark m ∪ k)) false
+is_calm (separated m f) k = cond (is_quiet m) (is_calm f (only_mark m ∪ k)) false
 
 -- what ends a statement
 abbrev end_kinds : TokenKinds
@@ -87,7 +87,7 @@ is_skipped last (behind m f) = cond (begins_expressions m) (cond last (is_calm f
 is_skipped last (ended f m) = cond (begins_expressions m) false (is_skipped false f)
 is_skipped last (choice m f g) = cond (cond (begins_expressions m) (cond last (is_calm f end_kinds) false) (is_skipped last f)) (is_skipped last g) false
 is_skipped last (either f g) = cond (is_skipped last f) (is_skipped last g) false
-is_skipped last (several m f) = cond (begins_expressions m) false (is_skipped false f)
+is_skipped last (separated m f) = cond (begins_expressions m) false (is_skipped false f)
 
 -- ---- in a SELECT
 -- one of the kinds follows, or nothing
@@ -172,9 +172,9 @@ chosen_walks m f k h {p = p} {l = l} {u = u} e x r d other = by (is m Dot) refl 
   by false i j = let t = both_true (is_quiet m) _ j in then_walks (quiet_pass m t.0 e) (other t.1)
 
 list_walks : {a : Sort} (m : Mark) (f : Form a) (k : TokenKinds) → is_quiet m ≡ true → ((l : List PlacedSymbol) (x : Meaning a) (r : List PlacedSymbol) (d : Derives f l x r) → Behind (only_mark m ∪ k) r → Walks (HasLightExpressions f l x r d) (at 0 0) l r)
-    → (l : List PlacedSymbol) (xs : List (Meaning a)) (r : List PlacedSymbol) (d : Derives (several m f) l xs r) → Behind k r → Walks (AllLight m (Derives f) (HasLightExpressions f) l xs r d) (at 0 0) l r
+    → (l : List PlacedSymbol) (xs : List (Meaning a)) (r : List PlacedSymbol) (d : Derives (separated m f) l xs r) → Behind k r → Walks (AllLight m (Derives f) (HasLightExpressions f) l xs r d) (at 0 0) l r
 list_walks m f k q each l _ r (single {x = x} d) b = each l x r d (more (only_mark m) k r b)
-list_walks m f k q each l _ r (more_of {u = u} {x = x} {xs = xs} {p = p} d ds) b =
+list_walks m f k q each l _ r (several {u = u} {x = x} {xs = xs} {p = p} d ds) b =
     both_walk (each l x (sign m p ∷ u) d (inr (begins_left (only_mark m) k (sign m p ∷ u) (begins_mark m {u = u} {p = p} refl)))) (then_walks (quiet_pass m q refl) (list_walks m f k q each u xs r ds b))
 
 -- a calm form is walked: its expressions are light, and what follows it
@@ -200,7 +200,7 @@ form_walks (choice m f g) k h l x r (inl (p, u, e, d)) b = chosen_walks m f k (b
 form_walks (choice m f g) k h l x r (inr d) b = form_walks g k (both_true _ (is_calm g k) h).1 l x r d b
 form_walks (either f g) k h l x r (inl d) b = form_walks f k (both_true (is_calm f k) (is_calm g k) h).0 l x r d b
 form_walks (either f g) k h l x r (inr d) b = form_walks g k (both_true (is_calm f k) (is_calm g k) h).1 l x r d b
-form_walks (several m f) k h l xs r d b = let t = both_true (is_quiet m) _ h in list_walks m f k t.0 (form_walks f (only_mark m ∪ k) t.1) l xs r d b
+form_walks (separated m f) k h l xs r d b = let t = both_true (is_quiet m) _ h in list_walks m f k t.0 (form_walks f (only_mark m ∪ k) t.1) l xs r d b
 
 -- ---- statements
 -- the end of a statement, at which it does not matter whether it was a SELECT
@@ -245,9 +245,9 @@ not_first true c h = absurd (cc h)
 not_first false c h = (refl, h)
 
 list_skips : {a : Sort} (m : Mark) (f : Form a) → begins_expressions m ≡ false → ((l : List PlacedSymbol) (x : Meaning a) (r : List PlacedSymbol) (d : Derives f l x r) → Walks (HasLightExpressions f l x r d) outside l r)
-    → (l : List PlacedSymbol) (xs : List (Meaning a)) (r : List PlacedSymbol) (d : Derives (several m f) l xs r) → Walks (AllLight m (Derives f) (HasLightExpressions f) l xs r d) outside l r
+    → (l : List PlacedSymbol) (xs : List (Meaning a)) (r : List PlacedSymbol) (d : Derives (separated m f) l xs r) → Walks (AllLight m (Derives f) (HasLightExpressions f) l xs r d) outside l r
 list_skips m f h each l _ r (single {x = x} d) = each l x r d
-list_skips m f h each l _ r (more_of {u = u} {x = x} {xs = xs} {p = p} d ds) = both_walk (each l x (sign m p ∷ u) d) (then_walks (skip (sign m p) u h) (list_skips m f h each u xs r ds))
+list_skips m f h each l _ r (several {u = u} {x = x} {xs = xs} {p = p} d ds) = both_walk (each l x (sign m p ∷ u) d) (then_walks (skip (sign m p) u h) (list_skips m f h each u xs r ds))
 
 form_skips : (last : Bool) {a : Sort} (f : Form a) → is_skipped last f ≡ true → (l : List PlacedSymbol) (x : Meaning a) (r : List PlacedSymbol) (d : Derives f l x r) → (last ≡ true → IsEnd r) → Walks (HasLightExpressions f l x r d) outside l r
 form_skips last (built a v) h l x r d s = none_walks (same_tokens d.1)
@@ -269,7 +269,7 @@ form_skips last (choice m f g) h l x r (inl (p, u, e, d)) s = mark_walks last m 
 form_skips last (choice m f g) h l x r (inr d) s = form_skips last g (both_true _ (is_skipped last g) h).1 l x r d s
 form_skips last (either f g) h l x r (inl d) s = form_skips last f (both_true (is_skipped last f) (is_skipped last g) h).0 l x r d s
 form_skips last (either f g) h l x r (inr d) s = form_skips last g (both_true (is_skipped last f) (is_skipped last g) h).1 l x r d s
-form_skips last (several m f) h l xs r d s = let t = not_first (begins_expressions m) _ h in list_skips m f t.0 (λ l x r d. form_skips false f t.1 l x r d (λ q. absurd (cc q))) l xs r d
+form_skips last (separated m f) h l xs r d s = let t = not_first (begins_expressions m) _ h in list_skips m f t.0 (λ l x r d. form_skips false f t.1 l x r d (λ q. absurd (cc q))) l xs r d
 
 statement_skips : is_skipped true statement_form ≡ true
 unfolding string_form signed_form number_form typed_form const_form row_form column_type_form create_table_form create_index_form create_form insert_form header_form format_form delimiter_form options_form copy_form some_name_form second_name_form entry_form joined_form joins_form source_form sources_form from_form alias_form item_form direction_form key_form distinct_form where_form group_column_form by_form group_form order_form limit_form ordering_form select_form delete_form explain_form statement_form
@@ -277,7 +277,7 @@ statement_skips = refl
 
 script_walks : (l : List PlacedSymbol) (xs : List StatementParts) (r : List PlacedSymbol) (ds : Listed Semicolon Statement l xs r) → IsEnd r → Walks (AllLight Semicolon Statement (HasLightExpressions statement_form) l xs r ds) outside l r
 script_walks l _ r (single {x = x} d) s = form_skips true statement_form statement_skips l x r d (λ q. s)
-script_walks l _ r (more_of {u = u} {x = x} {xs = xs} {p = p} d ds) s =
+script_walks l _ r (several {u = u} {x = x} {xs = xs} {p = p} d ds) s =
     both_walk (form_skips true statement_form statement_skips l x (sign Semicolon p ∷ u) d (λ q. before_end p u)) (then_walks (skip (sign Semicolon p) u refl) (script_walks u xs r ds s))
 
 pub expressions_are : ExpressionsAreTheGrammars

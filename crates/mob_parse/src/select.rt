@@ -4,7 +4,7 @@ ghost use Rattle.mob_ast.specs.Trees.{tree_of, from_of, item_of, key_of, select_
 ghost use Rattle.mob_grammar.specs.Forms.{expression, from, item, key, statement};
 ghost use Rattle.mob_grammar.specs.Symbols.{begins, is_name, counts_all, first, rest};
 ghost use Rattle.mob_grammar.specs.Reading.{read};
-ghost use Rattle.mob_grammar.specs.Scripts.{some_name_form, second_name_form, entry_form, joined_form, joins_form, source_form, sources_form, from_form, alias_form, item_form, direction_form, key_form, distinct_form, where_form, group_column_form, by_form, limit_form, ordering_form, select_form, explain_form, delete_form, statement_form, script_form};
+ghost use Rattle.mob_grammar.specs.Scripts.{some_name_form, second_name_form, entry_form, joined_form, joins_form, source_form, sources_form, from_form, alias_form, item_form, direction_form, key_form, distinct_form, where_form, group_column_form, by_form, limit_form, ordering_form, select_form, delete_form, statement_form, script_form};
 ghost use Rattle.mob_grammar.proofs.Statements.{joined_fits, item_fits, group_column_fits, key_fits, statement_fits};
 ghost use Rattle.mob_parse.specs.Behind.{put_behind};
 ghost use Rattle.mob_parse.specs.Cursors.{left, FollowsReading};
@@ -270,15 +270,6 @@ impl<'a> Cursor<'a> {
         Ok(Statement::Delete { table, cond })
     }
 
-    // Reads an EXPLAIN, after its first word.
-    #[tactic(auto, unfolding(mob_grammar::specs::Reading::read, mob_grammar::specs::Scripts::explain_form, mob_grammar::specs::Reading::behind_mark))]
-    fn explain(&mut self) -> Result<Statement, Fault<Syntax>>
-        ensures reads { FollowsReading statement_of result (left self.new) (read explain_form (left self.old)) }
-    {
-        self.expect(Mark::Select)?;
-        Ok(Statement::Explain(self.select()?))
-    }
-
     /// Reads the statements of a script, with `;` between them. It stops before the first token
     /// that continues none of them.
     ///
@@ -397,7 +388,7 @@ impl Entry for Statement {
 
     ghost form = { statement_form };
 
-    #[tactic(auto, unfolding(mob_grammar::specs::Reading::read, mob_grammar::specs::Scripts::statement_form, mob_grammar::specs::Reading::if_mark))]
+    #[tactic(auto, unfolding(mob_grammar::specs::Reading::read, mob_grammar::specs::Scripts::statement_form, mob_grammar::specs::Scripts::explain_form, mob_grammar::specs::Reading::if_mark, mob_grammar::specs::Reading::behind_mark))]
     fn read(cursor: &mut Cursor<'_>) -> Result<Statement, Fault<Syntax>> {
         if cursor.skip(Mark::Create) {
             cursor.create()
@@ -410,7 +401,8 @@ impl Entry for Statement {
         } else if cursor.skip(Mark::Select) {
             Ok(Statement::Select(cursor.select()?))
         } else if cursor.skip(Mark::Explain) {
-            cursor.explain()
+            cursor.expect(Mark::Select)?;
+            Ok(Statement::Explain(cursor.select()?))
         } else {
             Ok(Statement::Empty)
         }
