@@ -36,7 +36,7 @@ impl<C: Summed> Model for LastPiece<C> {
     ghost use Rattle.mob_tagg.specs.declared.again.PieceEnds.{PieceEnds as ends_of};
     ghost use Rattle.mob_tagg.specs.Last.{IsLast};
 
-    ghost Value = { ends_of C };
+    ghost Value = { ends_of C C.Base };
 
     ghost view = { λ l. l.ends };
 
