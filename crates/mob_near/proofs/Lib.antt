@@ -1,5 +1,4 @@
 pub mod Formulas
-pub mod Again
 pub mod Place
 pub mod OnPieces
 pub mod AllNearest

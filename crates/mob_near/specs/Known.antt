@@ -4,22 +4,8 @@ use Rattle.mob_ratio.specs.Ratio.{Ratio, ◌-ℚ◌}
 use Rattle.mob_frac.specs.Formula.{AllFit, square_parts}
 use Rattle.mob_plane.specs.declared.point.Point.{Point}
 use Rattle.mob_slice.specs.Comparison.{gap_parts}
-use Rattle.mob_slice.specs.Cut.{slice_value, slice_parts}
 use Rattle.mob_slice.specs.LineComparison.{point_gaps}
-use Rattle.mob_slice.specs.Lines.{plane_value_of, plane_parts_of}
-use Rattle.mob_slice.specs.declared.line.PlaneLine.{PlaneLine}
-use Rattle.mob_slice.specs.declared.slice.Slice.{Slice}
 use Rattle.mob_near.specs.Distances.{length_squared}
-
--- the point of a slice at an instant
-pub record FoundOf : Type 0 where
-  pub slice : Slice PlaneLine
-  pub at : Ratio
-  pub point : Point
-
--- it is the point of the slice, and each part of its formula fits
-abbrev pub IsFound : FoundOf → Type 0
-IsFound f = (f.point ≡ slice_value plane_value_of f.slice f.at) × AllFit (slice_parts plane_parts_of f.slice f.at)
 
 -- the difference of two points, to the east and to the north
 pub record ApartOf : Type 0 where

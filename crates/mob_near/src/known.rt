@@ -1,44 +1,26 @@
 //! Results at the end of a piece, kept for the piece that begins there: two neighbours share an
 //! instant, and usually the points at it.
 
-ghost use Rattle.std.specs.Prelude.{◌≡◌, true, MatchOption};
+ghost use Rattle.std.specs.Prelude.{◌≡◌, true, false, MatchOption};
 ghost use Rattle.mob_ratio.specs.Ratio.{◌-ℚ◌};
 ghost use Rattle.mob_ratio.specs.Order.{up_to};
-ghost use Rattle.mob_span.specs.Span.{has};
 ghost use Rattle.mob_frac.specs.Formula.{AllFit, IsFormula, square_parts};
 ghost use Rattle.mob_slice.specs.Comparison.{gap_parts};
 ghost use Rattle.mob_slice.specs.Computed.{IsComputed};
 ghost use Rattle.mob_slice.specs.Cut.{slice_value, slice_parts};
 ghost use Rattle.mob_slice.specs.LineComparison.{point_gaps};
 ghost use Rattle.mob_slice.specs.Lines.{plane_value_of, plane_parts_of};
+ghost use Rattle.mob_slice.specs.Look.{IsLooked};
 ghost use Rattle.mob_slice.specs.declared.formula.Formula.TheVariants.{F1};
 ghost use Rattle.mob_near.specs.Distances.{length_squared};
 
 use mob_frac::{Frac, Overflow};
 use mob_list::fault::Fault;
 use mob_plane::Point;
-use mob_slice::{Course, Formula, PlaneLine, Slice};
-use mob_sync::are_alike;
+use mob_slice::{Formula, PlaneLine, Slice, limit};
+use mob_sync::{Found, limit_found};
 use std::alloc::Global;
 use std::marker::Model;
-
-/// The position of a moving point at an instant strictly inside a slice.
-#[derive(Drop)]
-pub struct Found {
-    slice: Slice<PlaneLine>,
-    at: Frac,
-    point: Point,
-}
-
-impl Model for Found {
-    ghost use Rattle.mob_near.specs.Known.{FoundOf, IsFound};
-
-    ghost Value = { FoundOf };
-
-    ghost view = { λ f. record { slice = f.slice; at = f.at; point = f.point } };
-
-    ghost invariant = { λ f. IsFound (record { slice = f.slice; at = f.at; point = f.point }) };
-}
 
 /// The difference of two points.
 #[derive(Drop)]
@@ -81,9 +63,9 @@ impl Model for Squared {
 #[derive(Drop)]
 pub struct Last {
     /// The point of the first side.
-    pub left: Option<Found>,
+    pub left: Option<Found<PlaneLine>>,
     /// The point of the second side.
-    pub right: Option<Found>,
+    pub right: Option<Found<PlaneLine>>,
     /// Their difference.
     pub apart: Option<Apart>,
     /// Its squared length.
@@ -100,69 +82,45 @@ pub fn nothing() -> Last {
     }
 }
 
-// Whether the point was found on this slice at this instant.
-fn is_found(found: &Found, slice: &Slice<PlaneLine>, t: &Frac) -> bool
-    ensures value { result ≡ true → (found.now.point ≡ slice_value plane_value_of slice.now t.now) × AllFit (slice_parts plane_parts_of slice.now t.now) }
-{
-    // Reading a field gives the proof the invariant of `found`.
-    let _point = &found.point;
-    if !found.at.is_same(t) {
-        return false;
-    }
-    are_alike(slice, &found.slice)
-}
-
-// The point of a slice at an instant, if it is the last one found.
-fn found_again(found: &Option<Found>, slice: &Slice<PlaneLine>, t: &Frac) -> Option<Point>
-    ensures value { MatchOption result (Unit {0}) (λ p. (p ≡ slice_value plane_value_of slice.now t.now) × AllFit (slice_parts plane_parts_of slice.now t.now)) }
+// The value of a slice at an instant, as `limit` returns it.
+fn limit_again(
+    alloc: Global,
+    slice: &Slice<PlaneLine>,
+    t: &Frac,
+    found: &Option<Found<PlaneLine>>,
+) -> Result<Point, Fault<Formula>>
+    requires after { up_to slice.now.span.lower t.now ≡ true }
+    requires until { up_to t.now slice.now.span.upper ≡ true }
+    ensures value { IsLooked false (slice_parts plane_parts_of slice.now t.now) (slice_value plane_value_of slice.now t.now) result }
 {
     match found {
-        Some(last) => {
-            if is_found(last, slice, t) {
-                return Some(last.point);
-            }
-            None
-        }
-        None => None,
+        Some(last) => limit_found(alloc, slice, t, last),
+        None => limit(alloc, slice, t),
     }
 }
 
-// The point of a slice at an instant strictly inside, in the form in which it is kept.
-fn found_on(alloc: Global, slice: &Slice<PlaneLine>, t: &Frac) -> Result<Found, Formula>
-    requires inside { has slice.now.span t.now ≡ true }
-    ensures value { IsComputed F1 (slice_parts plane_parts_of slice.now t.now) (record { slice = slice.now; at = t.now; point = slice_value plane_value_of slice.now t.now }) result }
-{
-    let point = match slice.course.at(alloc, &slice.span, t) {
-        Ok(point) => point,
-        Err(Fault::Because(formula)) => return Err(formula),
-        Err(Fault::NoMemory) => unreachable!(),
-    };
-    Ok(Found {
-        slice: Slice {
-            span: slice.span,
-            course: slice.course,
-        },
-        at: *t,
-        point,
-    })
-}
-
-// The point of a slice at an instant strictly inside.
+// The point of a slice at an instant strictly inside, which is kept.
 fn point_within(
     alloc: Global,
     slice: &Slice<PlaneLine>,
     t: &Frac,
-    found: &mut Option<Found>,
+    found: &mut Option<Found<PlaneLine>>,
 ) -> Result<Point, Formula>
-    requires inside { has slice.now.span t.now ≡ true }
+    requires after { up_to slice.now.span.lower t.now ≡ true }
+    requires until { up_to t.now slice.now.span.upper ≡ true }
     ensures value { IsComputed F1 (slice_parts plane_parts_of slice.now t.now) (slice_value plane_value_of slice.now t.now) result }
 {
-    if let Some(point) = found_again(found, slice, t) {
-        return Ok(point);
-    }
-    let next = found_on(alloc, slice, t)?;
-    let point = next.point;
-    *found = Some(next);
+    let point = match limit_again(alloc, slice, t, found) {
+        Ok(point) => point,
+        Err(Fault::Because(formula)) => return Err(formula),
+        Err(Fault::NoMemory) => unreachable!(),
+    };
+    let copy = Slice {
+        span: slice.span,
+        course: slice.course,
+    };
+    let (from, to) = (point, point);
+    *found = Some(Found::new(copy, *t, PlaneLine { from, to }));
     Ok(point)
 }
 
@@ -172,7 +130,7 @@ pub fn point_at(
     alloc: Global,
     slice: &Slice<PlaneLine>,
     t: &Frac,
-    found: &mut Option<Found>,
+    found: &mut Option<Found<PlaneLine>>,
 ) -> Result<Point, Formula>
     requires after { up_to slice.now.span.lower t.now ≡ true }
     requires until { up_to t.now slice.now.span.upper ≡ true }

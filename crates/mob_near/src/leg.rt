@@ -13,11 +13,12 @@ ghost use Rattle.mob_cells.specs.Gaps.{entries_of_ends};
 ghost use Rattle.mob_near.specs.Legs.{ends_of, leg_between, leg_parts, leg_of, squares_of, squares_parts};
 
 use crate::known::{
-    Apart, Found, Last, Squared, difference, difference_kept, point_at, square, square_kept,
+    Apart, Last, Squared, difference, difference_kept, point_at, square, square_kept,
 };
 use mob_frac::Frac;
 use mob_slice::{Formula, Piece, PlaneLine, Side, Slice};
 use mob_span::Span;
+use mob_sync::Found;
 use std::alloc::Global;
 
 /// The difference of two points on a piece of time: a straight segment from (x0, y0) to (x1, y1).
@@ -47,7 +48,7 @@ fn ends_on(
     alloc: Global,
     slice: &Slice<PlaneLine>,
     span: &Span,
-    found: &mut Option<Found>,
+    found: &mut Option<Found<PlaneLine>>,
 ) -> Result<PlaneLine, Formula>
     requires holds { IsSound (λ c. c.from) (λ c. c.to) slice.now × (is_inside slice.now.span span.now ≡ true) }
     ensures ends { IsComputed F1 (at_ends (slice_parts plane_parts_of slice.now) span.now) (record { from = slice_value plane_value_of slice.now span.now.lower; to = slice_value plane_value_of slice.now span.now.upper }) result }
@@ -64,7 +65,7 @@ fn ends_of(
     alloc: Global,
     side: &Side<'_, PlaneLine>,
     span: &Span,
-    found: &mut Option<Found>,
+    found: &mut Option<Found<PlaneLine>>,
 ) -> Result<PlaneLine, Formula>
     requires holds { HoldsSide (λ c. c.from) (λ c. c.to) (side_of side.now) span.now }
     ensures ends { IsComputed F1 (at_ends (side_parts plane_parts_of (side_of side.now)) span.now) (ends_of (side_of side.now) span.now) result }

@@ -1,3 +1,4 @@
 mod Wholes
 mod Beside
 pub mod OneFunction
+pub mod Kept

@@ -5,11 +5,13 @@
 
 mod alike;
 mod common;
+mod found;
 pub mod laws;
 mod ones;
 mod pieces;
 
 pub use alike::are_alike;
 pub use common::Common;
+pub use found::{Found, limit_found};
 pub use ones::Ones;
 pub use pieces::Pieces;

@@ -5,7 +5,6 @@ ghost use Rattle.mob_ratio.specs.Order.{up_to};
 ghost use Rattle.mob_frac.specs.Formula.{AllFit, sum_parts};
 ghost use Rattle.mob_slice.specs.Cut.{slice_value, slice_parts};
 ghost use Rattle.mob_slice.specs.Look.{IsLooked};
-ghost use Rattle.mob_sync.specs.Alike.{AreAlike};
 ghost use Rattle.mob_tagg.specs.Last.{IsLast};
 ghost use Rattle.mob_tagg.specs.Sums.{IsSumOf};
 
@@ -13,18 +12,17 @@ use mob_arith::Summed;
 use mob_frac::Frac;
 use mob_list::fault::Fault;
 use mob_slice::{Course, Formula, Slice, limit};
-use mob_sync::are_alike;
+use mob_sync::{Found, limit_found};
 use std::alloc::Global;
 use std::cell::Cell;
 use std::marker::Model;
 
-/// A piece of two values: the slice of the second there, the two on the piece, and a course that
-/// ends with their sum.
+/// The end of a piece of two values: the first value on the piece, the second value at its end, and
+/// a course that ends with their sum.
 #[derive(Drop)]
-pub struct PieceEnds<C> {
-    pub(crate) of: Slice<C>,
+pub struct PieceEnds<C: Course> {
     pub(crate) left: Slice<C>,
-    pub(crate) right: Slice<C>,
+    pub(crate) found: Found<C>,
     pub(crate) sum: C,
 }
 
@@ -38,57 +36,26 @@ impl<C: Summed> Model for LastPiece<C> {
     ghost use Rattle.mob_tagg.specs.declared.again.PieceEnds.{PieceEnds as ends_of};
     ghost use Rattle.mob_tagg.specs.Last.{IsLast};
 
-    ghost Value = { ends_of C };
+    ghost Value = { ends_of C C.Base };
 
     ghost view = { λ l. l.ends };
 
-    ghost invariant = { λ l. IsLast C.value_of C.end_of C.parts_of C.number C.added l.ends };
+    ghost invariant = { λ l. IsLast C.end_of C.number C.added l.ends };
 }
 
 impl<C: Summed> LastPiece<C> {
-    /// The piece, whose second value and sum are right.
+    /// The piece, whose sum is right.
     pub fn new(ends: PieceEnds<C>) -> Self
-        requires last { IsLast C.value_of C.end_of C.parts_of C.number C.added ends }
+        requires last { IsLast C.end_of C.number C.added ends }
     {
         LastPiece { ends }
     }
 
     fn ends(&self) -> &PieceEnds<C>
-        ensures last { IsLast C.value_of C.end_of C.parts_of C.number C.added result.now }
+        ensures last { IsLast C.end_of C.number C.added result.now }
     {
         &self.ends
     }
-}
-
-// Whether a piece ends at an instant, on a slice of the second value.
-fn is_of<C: Course>(ends: &PieceEnds<C>, slice: &Slice<C>, t: &Frac) -> bool
-    ensures at { result ≡ true → t.now ≡ ends.now.right.span.upper }
-    ensures alike { result ≡ true → AreAlike slice.now ends.now.of }
-{
-    if !t.is_same(ends.right.span.upper()) {
-        return false;
-    }
-    are_alike(slice, &ends.of)
-}
-
-// The value of a slice at an instant, as `limit` returns it.
-fn limit_from<C: Summed + Drop>(
-    alloc: Global,
-    slice: &Slice<C>,
-    t: &Frac,
-    ends: &PieceEnds<C>,
-) -> Result<C::Base, Fault<Formula>>
-where
-    C::Base: Drop,
-    requires after { up_to slice.now.span.lower t.now ≡ true }
-    requires until { up_to t.now slice.now.span.upper ≡ true }
-    requires last { IsLast C.value_of C.end_of C.parts_of C.number C.added ends.now }
-    ensures value { IsLooked C.copy_allocates (slice_parts C.parts_of slice.now t.now) (slice_value C.value_of slice.now t.now) result }
-{
-    if !is_of(ends, slice, t) {
-        return limit(alloc, slice, t);
-    }
-    Ok(C::copy_base(alloc, ends.right.course.end())?)
 }
 
 /// The value of a slice at an instant, as `limit` returns it, after a piece or none.
@@ -105,7 +72,7 @@ where
     ensures value { IsLooked C.copy_allocates (slice_parts C.parts_of slice.now t.now) (slice_value C.value_of slice.now t.now) result }
 {
     match last {
-        Some(last) => limit_from(alloc, slice, t, last.ends()),
+        Some(last) => limit_found(alloc, slice, t, &last.ends().found),
         None => limit(alloc, slice, t),
     }
 }
@@ -128,13 +95,13 @@ fn summed_from<C: Summed>(
     ends: &PieceEnds<C>,
 ) -> Result<C::Base, Fault<Formula>>
 where
-    requires last { IsLast C.value_of C.end_of C.parts_of C.number C.added ends.now }
+    requires last { IsLast C.end_of C.number C.added ends.now }
     ensures sum { IsSumOf C.added C.number x.now y.now result }
 {
     if !C::same(x, ends.left.course.end()) {
         return summed::<C>(x, y);
     }
-    if !C::same(y, ends.right.course.end()) {
+    if !C::same(y, ends.found.value().end()) {
         return summed::<C>(x, y);
     }
     Ok(C::copy_base(alloc, ends.sum.end())?)
@@ -195,14 +162,15 @@ where
     let Some(sum) = limits_copied::<C>(alloc, to, to) else {
         return;
     };
+    let copy = Slice {
+        span: of.span,
+        course,
+    };
+    let Slice {
+        span,
+        course: value,
+    } = right;
+    let found = Found::new(copy, *span.upper(), value);
     // This drops the piece kept before.
-    let _old = memo.replace(Some(LastPiece::new(PieceEnds {
-        of: Slice {
-            span: of.span,
-            course,
-        },
-        left,
-        right,
-        sum,
-    })));
+    let _old = memo.replace(Some(LastPiece::new(PieceEnds { left, found, sum })));
 }

@@ -2,7 +2,7 @@ use Rattle.std.specs.Prelude.{◌≡◌, true, false, Ok, refl}
 use Rattle.std.proofs.Common.{◌∙◌, sym}
 use Rattle.mob_ratio.specs.Order.{same}
 use Rattle.mob_slice.specs.PlaneLaws.{plane_laws}
-use Rattle.mob_slice.proofs.Cuts.{at_low, at_high, inside_has}
+use Rattle.mob_slice.proofs.Cuts.{at_low, at_high}
 use Rattle.mob_near.proofs.known.point_at.Goals as goal
 
 pub returns-then-is_same : goal.returns-then-is_same
@@ -17,10 +17,3 @@ returns-then-is_same-2 c =
     let h : same c.args.t.now s.span.lower ≡ false = rw (← c.lower.ensures.value) (sym c.is_same.ensures.value ∙ c.if-is_same.false) in
     let k : same c.args.t.now s.span.upper ≡ true = rw (← c.upper.ensures.value) (sym c.is_same-2.ensures.value ∙ c.if-is_same-2.true) in
     record { value = at_high plane_laws s c.args.t.now (Ok s.course.to) c.requires.after h k refl }
-
-pub point_within-requires : goal.point_within-requires
-point_within-requires c =
-    let s = c.args.slice.now in
-    let h : same c.args.t.now s.span.lower ≡ false = rw (← c.lower.ensures.value) (sym c.is_same.ensures.value ∙ c.if-is_same.false) in
-    let k : same c.args.t.now s.span.upper ≡ false = rw (← c.upper.ensures.value) (sym c.is_same-2.ensures.value ∙ c.if-is_same-2.false) in
-    record { inside = inside_has s.span c.args.t.now c.requires.after c.requires.until h k }
