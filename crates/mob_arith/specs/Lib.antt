@@ -2,3 +2,4 @@ pub mod Operations
 pub mod Summed
 pub mod Termwise
 pub mod LineSummed
+pub mod Sql

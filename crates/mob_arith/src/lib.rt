@@ -5,6 +5,7 @@
 mod logic;
 mod operate;
 pub mod operation;
+pub mod sql;
 mod summed;
 mod sums;
 mod termwise;

@@ -10,3 +10,4 @@ pub mod Passing
 pub mod Judging
 pub mod AlongEdges
 pub mod EverInside
+pub mod OwnBoxes

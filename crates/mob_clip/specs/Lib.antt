@@ -7,3 +7,4 @@ pub mod Roots
 pub mod Steps
 pub mod Signs
 pub mod Pieces
+pub mod Sql

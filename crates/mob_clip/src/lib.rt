@@ -9,6 +9,7 @@ mod pieces;
 mod polygons;
 mod roots;
 mod sides;
+pub mod sql;
 mod steps;
 
 pub use boxes::{at_box, minus_box};

@@ -3,6 +3,7 @@
 #![tactic(auto)]
 
 mod courses;
+pub mod sql;
 mod times;
 
 pub use courses::compare;

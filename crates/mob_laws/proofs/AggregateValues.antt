@@ -28,7 +28,7 @@ use Rattle.mob_clauses.specs.Keys.{value_type}
 use Rattle.mob_typing.specs.WellTyped.{IsTypedItem, condition_alone}
 use Rattle.mob_value.specs.declared.value.Value.{Value}
 use Rattle.mob_value.specs.declared.value.Value.TheVariants.{Null, Number, MovingBool, MovingInt, MovingFrac}
-use Rattle.mob_ordinary.specs.Moving.{AreNormalBy, line_function, or_nothing, plane_function, step_function}
+use Rattle.mob_value.specs.Moving.{AreNormalBy, line_function, or_nothing, plane_function, step_function}
 use Rattle.mob_ordinary.specs.Ordinary.{is_null}
 use Rattle.mob_catalog.specs.Catalogue.{Catalogue}
 use Rattle.mob_catalog.specs.OwnTypes.{IsValueOf}

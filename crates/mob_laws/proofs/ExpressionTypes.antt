@@ -34,7 +34,8 @@ use Rattle.mob_value.specs.Null.{value_or_null}
 use Rattle.mob_value.specs.declared.store.Table.{Table}
 use Rattle.mob_value.specs.declared.value.Value.{Value}
 use Rattle.mob_value.specs.declared.value.Value.TheVariants.{Null, Number}
-use Rattle.mob_ordinary.specs.Ordinary.{is_nil, negated, unchanged}
+use Rattle.mob_arith.specs.Sql.Arithmetic.{is_nil}
+use Rattle.mob_ordinary.specs.Ordinary.{negated, unchanged}
 use Rattle.mob_tuples.specs.Tuples.{no_row}
 use Rattle.mob_catalog.specs.Catalogue.{Catalogue}
 use Rattle.mob_catalog.specs.OwnTypes.{HasColumnTypes, IsValueOf}

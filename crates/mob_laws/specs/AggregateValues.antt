@@ -19,7 +19,7 @@ use Rattle.mob_clauses.specs.Keys.{value_type}
 use Rattle.mob_typing.specs.WellTyped.{IsAggregateOf}
 use Rattle.mob_value.specs.declared.value.Value.{Value}
 use Rattle.mob_value.specs.declared.value.Value.TheVariants.{Null, Number}
-use Rattle.mob_ordinary.specs.Moving.{StepSlices}
+use Rattle.mob_value.specs.Moving.{StepSlices}
 use Rattle.mob_catalog.specs.Catalogue.{Catalogue}
 use Rattle.mob_catalog.specs.OwnTypes.{IsValueOf}
 use Rattle.mob_operands.specs.Rows.{is_there}

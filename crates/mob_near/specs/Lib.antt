@@ -3,3 +3,4 @@ pub mod Approaches
 pub mod Entries
 pub mod Legs
 pub mod Known
+pub mod Sql

@@ -8,6 +8,7 @@ mod laws;
 mod leg;
 mod nearness;
 mod piece;
+pub mod sql;
 
 pub use laws::one_approach;
 pub use nearness::{approach_squared, ever_within};

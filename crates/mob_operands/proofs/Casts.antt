@@ -6,7 +6,7 @@ use Rattle.mob_operators.specs.declared.operator.Op.TheVariants as op
 use Rattle.mob_value.specs.declared.value.Value.{Value}
 use Rattle.mob_value.specs.declared.value.Value.TheVariants.{Null, Number, MovingFrac}
 use Rattle.mob_ordinary.specs.Ordinary.{unchanged}
-use Rattle.mob_meaning.specs.Coordinates.{IsWidened}
+use Rattle.mob_value.specs.Lines.{IsWidened}
 use Rattle.mob_catalog.specs.OwnTypes.{IsValueOf}
 use Rattle.mob_operands.specs.Rows.{HaveNull, IsAnswer, CastsHaveMeanings}
 use Rattle.mob_operands.proofs.Forms.{by_type, null_answer, made_answer, of_one}

@@ -13,11 +13,11 @@ use Rattle.mob_operators.specs.declared.operator.Op.TheVariants as op
 use Rattle.mob_value.specs.ValueBoxes.{HasBox}
 use Rattle.mob_value.specs.declared.value.Value.{Value}
 use Rattle.mob_value.specs.declared.value.Value.TheVariants.{Null, Number, Box, MovingPoint}
-use Rattle.mob_ordinary.specs.Moving.{or_nothing}
-use Rattle.mob_meaning.specs.declared.choices.Scope.TheVariants.{Ever}
-use Rattle.mob_meaning.specs.Boxes.{IsExpansion}
-use Rattle.mob_meaning.specs.Nearness.{IsEverWithin}
-use Rattle.mob_meaning.specs.Signs.{IsAsked}
+use Rattle.mob_value.specs.Moving.{or_nothing}
+use Rattle.mob_compare.specs.declared.sql.scope.Scope.TheVariants.{Ever}
+use Rattle.mob_clip.specs.Sql.Boxes.{IsExpansion}
+use Rattle.mob_near.specs.Sql.Nearness.{IsEverWithin}
+use Rattle.mob_compare.specs.Sql.Signs.{IsAsked}
 use Rattle.mob_catalog.specs.OwnTypes.{IsValueOf}
 use Rattle.mob_operands.specs.Rows.{IsAnswer}
 use Rattle.mob_operands.proofs.Forms.{OnForms, by_type, by_types, null_answer, made_answer, first_null, second_null}

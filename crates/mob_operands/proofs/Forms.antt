@@ -17,7 +17,7 @@ use Rattle.mob_operators.specs.declared.operator.Op.{Op}
 use Rattle.mob_value.specs.Types.{is_of_type}
 use Rattle.mob_value.specs.declared.value.Value.{Value}
 use Rattle.mob_value.specs.declared.value.Value.TheVariants.{Null, Bool as Truth, Number, Text, Moment, Point, Polygon, Span, SpanSet, Box, MovingBool, MovingInt, MovingFrac, MovingText, MovingPoint}
-use Rattle.mob_ordinary.specs.Moving.{StepSlices, AreNormalBy, IsFunctionOrNull, or_nothing}
+use Rattle.mob_value.specs.Moving.{StepSlices, AreNormalBy, IsFunctionOrNull, or_nothing}
 use Rattle.mob_meaning.specs.Scene.{Scene}
 use Rattle.mob_meaning.specs.Operators.{GivesOfOne, GivesOfTwo, GivesOfThree}
 use Rattle.mob_catalog.specs.OwnTypes.{AreWhole, IsValueOf}

@@ -11,10 +11,10 @@ use Rattle.mob_operators.specs.declared.operator.Op.{Op}
 use Rattle.mob_operators.specs.declared.operator.Op.TheVariants as op
 use Rattle.mob_value.specs.declared.value.Value.TheVariants.{Bool as Truth}
 use Rattle.mob_ordinary.specs.Ordinary.{is_null}
-use Rattle.mob_meaning.specs.declared.choices.Calculation.TheVariants.{Sum, Difference, Product}
-use Rattle.mob_meaning.specs.declared.choices.Scope.TheVariants.{Each, Ever, Always}
-use Rattle.mob_meaning.specs.Lifted.{IsMovingBool, IsMovingText}
-use Rattle.mob_meaning.specs.Nearness.{IsApproachValue}
+use Rattle.mob_arith.specs.declared.sql.calculation.Calculation.TheVariants.{Sum, Difference, Product}
+use Rattle.mob_compare.specs.declared.sql.scope.Scope.TheVariants.{Each, Ever, Always}
+use Rattle.mob_value.specs.Lifted.{IsMovingBool, IsMovingText}
+use Rattle.mob_near.specs.Sql.Nearness.{IsApproachValue}
 use Rattle.mob_operands.specs.Rows.{HasMeaning, LineHasMeaning, RowsHaveMeanings, SettledIsTheValue}
 use Rattle.mob_operands.proofs.Distances.{are_near, within_answers, are_widened, expansion_answers}
 use Rattle.mob_operands.proofs.Forms.{of_one, of_two, of_three}

@@ -20,21 +20,25 @@ use Rattle.mob_operators.specs.declared.operator.Op.{Op}
 use Rattle.mob_operators.specs.declared.operator.Op.TheVariants as op
 use Rattle.mob_value.specs.declared.value.Value.{Value}
 use Rattle.mob_value.specs.declared.value.Value.TheVariants.{Null, Bool as Truth, Number}
-use Rattle.mob_ordinary.specs.Moving.{OverTime}
-use Rattle.mob_ordinary.specs.Ordinary.{rel_of, IsTest}
-use Rattle.mob_meaning.specs.declared.choices.Calculation.{Calculation}
-use Rattle.mob_meaning.specs.declared.choices.Calculation.TheVariants.{Sum, Difference, Product}
-use Rattle.mob_meaning.specs.declared.choices.Scope.{Scope as Asking}
-use Rattle.mob_meaning.specs.declared.choices.Scope.TheVariants.{Each, Ever, Always}
-use Rattle.mob_meaning.specs.Arithmetic.{IsArithmetic, IsDivided}
-use Rattle.mob_meaning.specs.Calculations.{result_by}
-use Rattle.mob_meaning.specs.Lifted.{OnOperands, OnPair, IsMovingBool, IsMovingInt, IsMovingText, truth_pair, number_pair, text_pair}
-use Rattle.mob_meaning.specs.Lines.{IsMovingFrac, line_pair, plane_pair, product_pair}
-use Rattle.mob_meaning.specs.Nearness.{IsApproachValue, IsEverWithin}
-use Rattle.mob_meaning.specs.Operators.{IsJoined, GivesOfOne, GivesOfTwo, GivesOfThree}
+use Rattle.mob_value.specs.Moving.{OverTime}
+use Rattle.mob_value.specs.Relations.{rel_of, text_relates, truth_relates}
+use Rattle.mob_ordinary.specs.Ordinary.{IsTest}
+use Rattle.mob_arith.specs.declared.sql.calculation.Calculation.{Calculation}
+use Rattle.mob_arith.specs.declared.sql.calculation.Calculation.TheVariants.{Sum, Difference, Product}
+use Rattle.mob_compare.specs.declared.sql.scope.Scope.{Scope as Asking}
+use Rattle.mob_compare.specs.declared.sql.scope.Scope.TheVariants.{Each, Ever, Always}
+use Rattle.mob_arith.specs.Sql.Arithmetic.{IsArithmetic, IsDivided}
+use Rattle.mob_arith.specs.Sql.Calculations.{result_by}
+use Rattle.mob_value.specs.Pairs.{OnOperands, OnPair, truth_pair, number_pair, text_pair, plane_pair}
+use Rattle.mob_value.specs.Lifted.{IsMovingBool, IsMovingInt, IsMovingText, IsMovingFrac}
+use Rattle.mob_value.specs.Lines.{line_pair}
+use Rattle.mob_arith.specs.Sql.Factors.{product_pair}
+use Rattle.mob_near.specs.Sql.Nearness.{IsApproachValue, IsEverWithin}
+use Rattle.mob_arith.specs.Sql.Lifting.{IsJoined}
+use Rattle.mob_meaning.specs.Operators.{GivesOfOne, GivesOfTwo, GivesOfThree}
 use Rattle.mob_meaning.specs.Scene.{Scene}
-use Rattle.mob_meaning.specs.Signs.{text_relates, truth_relates, IsAsked, IsOrderTest, IsAnyTest, IsSignTest}
-use Rattle.mob_meaning.specs.Times.{asked_spans, IsRestriction}
+use Rattle.mob_compare.specs.Sql.Signs.{IsAsked, IsOrderTest, IsAnyTest, IsSignTest}
+use Rattle.mob_restrict.specs.Sql.Times.{asked_spans, IsRestriction}
 use Rattle.mob_meaning.specs.Types.{meeting, IsCastTo, IsCast}
 use Rattle.mob_operands.specs.Rows.{HaveNull, knows_null, NullGivesNull}
 use Rattle.mob_operands.proofs.Distances.{expansion_right}

@@ -9,21 +9,21 @@ use Rattle.mob_slice.specs.Operands.{steady_value, map_both, IsPointwise}
 use Rattle.mob_slice.specs.Sides.{given_at}
 use Rattle.mob_slice.specs.declared.line.Line.{Line}
 use Rattle.mob_slice.specs.declared.slice.Slice.{Slice}
-use Rattle.mob_normal.specs.Widened.{level_line}
+use Rattle.mob_value.specs.Lines.{level_line, as_line}
 use Rattle.mob_ast.specs.declared.types.SqlType.{SqlType}
 use Rattle.mob_ast.specs.declared.types.SqlType.TheVariants as sql
 use Rattle.mob_operators.specs.declared.operator.Op.{Op}
 use Rattle.mob_operators.specs.declared.operator.Op.TheVariants as op
 use Rattle.mob_value.specs.declared.value.Value.{Value}
 use Rattle.mob_value.specs.declared.value.Value.TheVariants.{Null, Bool as Truth, Number, MovingInt, MovingFrac}
-use Rattle.mob_ordinary.specs.Moving.{OverTime}
-use Rattle.mob_ordinary.specs.Ordinary.{is_nil}
-use Rattle.mob_meaning.specs.declared.choices.Calculation.{Calculation}
-use Rattle.mob_meaning.specs.declared.choices.Calculation.TheVariants.{Sum, Difference, Product}
-use Rattle.mob_meaning.specs.Arithmetic.{IsArithmetic, IsLineQuotient, IsQuotientOf, IsDivided, quotient}
-use Rattle.mob_meaning.specs.Calculations.{result_by}
-use Rattle.mob_meaning.specs.Lifted.{OnOperands, OnPair, IsMovingInt, number_pair}
-use Rattle.mob_meaning.specs.Lines.{IsMovingFrac, as_line, product_pair}
+use Rattle.mob_value.specs.Moving.{OverTime}
+use Rattle.mob_arith.specs.Sql.Arithmetic.{is_nil, IsArithmetic, IsLineQuotient, IsQuotientOf, IsDivided, quotient}
+use Rattle.mob_arith.specs.declared.sql.calculation.Calculation.{Calculation}
+use Rattle.mob_arith.specs.declared.sql.calculation.Calculation.TheVariants.{Sum, Difference, Product}
+use Rattle.mob_arith.specs.Sql.Calculations.{result_by}
+use Rattle.mob_value.specs.Pairs.{OnOperands, OnPair, number_pair}
+use Rattle.mob_value.specs.Lifted.{IsMovingInt, IsMovingFrac}
+use Rattle.mob_arith.specs.Sql.Factors.{product_pair}
 use Rattle.mob_catalog.specs.OwnTypes.{IsValueOf}
 use Rattle.mob_operands.specs.Rows.{is_there, HaveNull, NullByType, NullIsDue, IsAnswer, DividesByOther}
 use Rattle.mob_operands.proofs.Forms.{OnForms, by_types, null_answer, made_answer, function_answer, first_null, second_null}

@@ -11,12 +11,15 @@ use Rattle.mob_operators.specs.declared.operator.Op.TheVariants as op
 use Rattle.mob_value.specs.declared.value.Value.{Value}
 use Rattle.mob_value.specs.declared.value.Value.TheVariants.{Null, Bool as Truth, Number, Text, Box}
 use Rattle.mob_slice.specs.declared.comparison.Rel.{Rel}
-use Rattle.mob_ordinary.specs.Ordinary.{truth_of, known, rel_of, IsEquality, ordered, IsTest, IsTruthOf, negated, unchanged, conjunction, disjunction}
-use Rattle.mob_meaning.specs.declared.choices.Calculation.{Calculation}
-use Rattle.mob_meaning.specs.Arithmetic.{on_numbers}
-use Rattle.mob_meaning.specs.Boxes.{IsStBox}
-use Rattle.mob_meaning.specs.Calculations.{result_by}
-use Rattle.mob_meaning.specs.Operators.{concatenation, printed_text}
+use Rattle.mob_ordinary.specs.Ordinary.{truth_of, IsEquality, ordered, IsTest, negated, unchanged, conjunction, disjunction}
+use Rattle.mob_value.specs.Truths.{known, IsTruthOf}
+use Rattle.mob_value.specs.Relations.{rel_of}
+use Rattle.mob_arith.specs.declared.sql.calculation.Calculation.{Calculation}
+use Rattle.mob_arith.specs.Sql.Arithmetic.{on_numbers}
+use Rattle.mob_clip.specs.Sql.Boxes.{IsStBox}
+use Rattle.mob_arith.specs.Sql.Calculations.{result_by}
+use Rattle.mob_arith.specs.Sql.Lifting.{concatenation}
+use Rattle.mob_meaning.specs.Operators.{printed_text}
 use Rattle.mob_catalog.specs.OwnTypes.{IsValueOf}
 use Rattle.mob_operands.specs.Rows.{HaveNull, NullIsDue, IsAnswer}
 use Rattle.mob_operands.proofs.Forms.{OnForms, by_type, by_types, null_answer, made_answer, truth_answer, first_null, second_null}

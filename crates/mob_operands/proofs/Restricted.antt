@@ -27,12 +27,12 @@ use Rattle.mob_operators.specs.declared.operator.Op.{Op}
 use Rattle.mob_operators.specs.declared.operator.Op.TheVariants as op
 use Rattle.mob_value.specs.declared.value.Value.{Value}
 use Rattle.mob_value.specs.declared.value.Value.TheVariants.{Null, Bool as Truth, Number, Text, Moment, Point, Span, SpanSet, MovingBool, MovingInt, MovingFrac, MovingText, MovingPoint}
-use Rattle.mob_ordinary.specs.Moving.{StepSlices, step_function, line_function, plane_function, or_nothing, IsFunctionOrNull}
-use Rattle.mob_meaning.specs.Boxes.{IsBoxRestriction}
-use Rattle.mob_meaning.specs.ByValue.{IsValueRestriction}
-use Rattle.mob_meaning.specs.Polygons.{IsPolygonRestriction}
-use Rattle.mob_meaning.specs.Signs.{text_relates, truth_relates}
-use Rattle.mob_meaning.specs.Times.{IsRestriction, IsTimeRestriction, look_up}
+use Rattle.mob_value.specs.Moving.{StepSlices, step_function, line_function, plane_function, or_nothing, IsFunctionOrNull}
+use Rattle.mob_clip.specs.Sql.Boxes.{IsBoxRestriction}
+use Rattle.mob_restrict.specs.Sql.ByValue.{IsValueRestriction}
+use Rattle.mob_clip.specs.Sql.Polygons.{IsPolygonRestriction}
+use Rattle.mob_value.specs.Relations.{text_relates, truth_relates}
+use Rattle.mob_restrict.specs.Sql.Times.{IsRestriction, IsTimeRestriction, look_up}
 use Rattle.mob_catalog.specs.OwnTypes.{IsValueOf}
 use Rattle.mob_operands.specs.Rows.{is_there, HaveNull, passes, is_asked, is_then, is_within, NothingIsLeft, NullIsDue, IsAnswer}
 use Rattle.mob_operands.proofs.Forms.{OnForms, AreInts, by_type, by_types, null_answer, own_answer, function_answer, first_null, second_null}

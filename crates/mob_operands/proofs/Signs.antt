@@ -8,9 +8,9 @@ use Rattle.mob_ast.specs.declared.types.SqlType.{SqlType}
 use Rattle.mob_ast.specs.declared.types.SqlType.TheVariants as sql
 use Rattle.mob_operators.specs.declared.operator.Op.{Op}
 use Rattle.mob_value.specs.declared.value.Value.{Value}
-use Rattle.mob_ordinary.specs.Ordinary.{rel_of}
-use Rattle.mob_meaning.specs.declared.choices.Scope.{Scope}
-use Rattle.mob_meaning.specs.Signs.{IsAsked, IsOrderTest, IsAnyTest, IsSignTest, text_relates, truth_relates}
+use Rattle.mob_value.specs.Relations.{rel_of, text_relates, truth_relates}
+use Rattle.mob_compare.specs.declared.sql.scope.Scope.{Scope}
+use Rattle.mob_compare.specs.Sql.Signs.{IsAsked, IsOrderTest, IsAnyTest, IsSignTest}
 use Rattle.mob_meaning.specs.Types.{common_type}
 use Rattle.mob_catalog.specs.OwnTypes.{IsValueOf}
 use Rattle.mob_operands.specs.Rows.{AreNeverTogether, NullIsDue, IsAnswer}

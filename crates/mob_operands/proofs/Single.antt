@@ -11,12 +11,14 @@ use Rattle.mob_operators.specs.declared.operator.Op.{Op}
 use Rattle.mob_operators.specs.declared.operator.Op.TheVariants as op
 use Rattle.mob_value.specs.declared.value.Value.{Value}
 use Rattle.mob_value.specs.declared.value.Value.TheVariants.{Null, SpanSet, Box, MovingBool, MovingFrac, MovingPoint}
-use Rattle.mob_ordinary.specs.Moving.{StepSlices, step_function}
-use Rattle.mob_meaning.specs.Boxes.{IsOverlap}
-use Rattle.mob_meaning.specs.Coordinates.{IsCoordinate}
-use Rattle.mob_meaning.specs.Lifted.{IsLiftedNot}
-use Rattle.mob_meaning.specs.Polygons.{IsIntersecting}
-use Rattle.mob_meaning.specs.Times.{AreInstantsOf, IsDefinedTime, IsTrueTime, set_or_null}
+use Rattle.mob_value.specs.Moving.{StepSlices, step_function}
+use Rattle.mob_clip.specs.Sql.Boxes.{IsOverlap}
+use Rattle.mob_restrict.specs.Sql.Coordinates.{IsCoordinate}
+use Rattle.mob_arith.specs.Sql.Lifting.{IsLiftedNot}
+use Rattle.mob_clip.specs.Sql.Polygons.{IsIntersecting}
+use Rattle.mob_value.specs.Sets.{AreInstantsOf}
+use Rattle.mob_restrict.specs.Sql.Times.{IsDefinedTime}
+use Rattle.mob_compare.specs.Sql.TrueTimes.{IsTrueTime, set_or_null}
 use Rattle.mob_catalog.specs.OwnTypes.{IsValueOf}
 use Rattle.mob_operands.specs.Rows.{NullIsDue, IsAnswer}
 use Rattle.mob_operands.proofs.Forms.{OnForms, by_type, by_types, null_answer, made_answer, truth_answer, first_null, second_null}

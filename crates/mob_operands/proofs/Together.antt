@@ -3,8 +3,8 @@ use Rattle.std.proofs.Common.{◌≡◌, ◌≢◌, ◌∙◌, ℕ, Bool, true, 
 use Rattle.std.specs.Prelude.{is_some, MatchOption}
 use Rattle.mob_ratio.specs.Ratio.{Ratio}
 use Rattle.mob_plane.specs.declared.point.Point.{Point as PointOf}
-use Rattle.mob_normal.specs.Widened.{level_line}
-use Rattle.mob_normal.proofs.Widening.{level_at}
+use Rattle.mob_value.specs.Lines.{level_line, line_pair}
+use Rattle.mob_value.proofs.Widening.{level_at}
 use Rattle.mob_slice.specs.CourseOf.{CourseOf, steady_course, line_course}
 use Rattle.mob_slice.specs.Lines.{line_value_of, plane_value_of}
 use Rattle.mob_slice.specs.Operands.{steady_value, map_both, IsPointwise}
@@ -17,14 +17,14 @@ use Rattle.mob_ast.specs.declared.types.SqlType.TheVariants as sql
 use Rattle.mob_operators.specs.declared.operator.Op.{Op}
 use Rattle.mob_value.specs.declared.value.Value.{Value}
 use Rattle.mob_value.specs.declared.value.Value.TheVariants.{Null, Bool as Truth, Number, MovingBool, MovingFrac, MovingText}
-use Rattle.mob_ordinary.specs.Moving.{StepSlices, OverTime, step_function, line_function, or_nothing, IsFunctionOrNull}
-use Rattle.mob_ordinary.specs.Ordinary.{known}
-use Rattle.mob_meaning.specs.declared.choices.Scope.{Scope}
-use Rattle.mob_meaning.specs.declared.choices.Scope.TheVariants.{Each, Ever, Always}
-use Rattle.mob_meaning.specs.Lifted.{OnOperands, OnPair, IsMovingBool, IsMovingText, truth_pair, number_pair, text_pair}
-use Rattle.mob_meaning.specs.Lines.{IsMovingFrac, line_pair, plane_pair}
-use Rattle.mob_meaning.specs.Nearness.{IsApproachValue}
-use Rattle.mob_meaning.specs.Signs.{IsAsked}
+use Rattle.mob_value.specs.Moving.{StepSlices, OverTime, step_function, line_function, or_nothing, IsFunctionOrNull}
+use Rattle.mob_value.specs.Truths.{known}
+use Rattle.mob_compare.specs.declared.sql.scope.Scope.{Scope}
+use Rattle.mob_compare.specs.declared.sql.scope.Scope.TheVariants.{Each, Ever, Always}
+use Rattle.mob_value.specs.Pairs.{OnOperands, OnPair, truth_pair, number_pair, text_pair, plane_pair}
+use Rattle.mob_value.specs.Lifted.{IsMovingBool, IsMovingText, IsMovingFrac}
+use Rattle.mob_near.specs.Sql.Nearness.{IsApproachValue}
+use Rattle.mob_compare.specs.Sql.Signs.{IsAsked}
 use Rattle.mob_catalog.specs.OwnTypes.{IsValueOf}
 use Rattle.mob_operands.specs.Rows.{is_there, AreNeverTogether, NullIsDue, IsAnswer}
 use Rattle.mob_operands.proofs.Forms.{OnForms, by_types, null_answer}

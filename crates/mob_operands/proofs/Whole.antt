@@ -22,10 +22,10 @@ use Rattle.mob_slice.proofs.Orders.{ordered, all_sound}
 use Rattle.mob_written.specs.Values.{is_whole_number}
 use Rattle.mob_ast.specs.declared.types.SqlType.TheVariants as sql
 use Rattle.mob_value.specs.declared.value.Value.TheVariants.{MovingInt}
-use Rattle.mob_ordinary.specs.Moving.{StepSlices, OverTime, step_function, AreNormalBy}
-use Rattle.mob_meaning.specs.declared.choices.Calculation.{Calculation}
-use Rattle.mob_meaning.specs.declared.choices.Calculation.TheVariants.{Sum, Difference, Product}
-use Rattle.mob_meaning.specs.Calculations.{result_by}
+use Rattle.mob_value.specs.Moving.{StepSlices, OverTime, step_function, AreNormalBy}
+use Rattle.mob_arith.specs.declared.sql.calculation.Calculation.{Calculation}
+use Rattle.mob_arith.specs.declared.sql.calculation.Calculation.TheVariants.{Sum, Difference, Product}
+use Rattle.mob_arith.specs.Sql.Calculations.{result_by}
 use Rattle.mob_catalog.specs.OwnTypes.{IsValueOf}
 use Rattle.mob_operands.proofs.Forms.{AreInts}
 

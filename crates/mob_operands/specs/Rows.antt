@@ -20,10 +20,11 @@ use Rattle.mob_expression.specs.Expressions.{can_cast}
 use Rattle.mob_value.specs.ValueBoxes.{HasBox}
 use Rattle.mob_value.specs.declared.value.Value.{Value}
 use Rattle.mob_value.specs.declared.value.Value.TheVariants.{Null, Bool as Truth, Number, Text, Moment, Point, Polygon, Span, SpanSet, Box, MovingBool, MovingInt, MovingFrac, MovingText, MovingPoint}
-use Rattle.mob_ordinary.specs.Moving.{step_function, line_function, plane_function}
-use Rattle.mob_ordinary.specs.Ordinary.{is_null, is_nil}
+use Rattle.mob_value.specs.Moving.{step_function, line_function, plane_function}
+use Rattle.mob_ordinary.specs.Ordinary.{is_null}
+use Rattle.mob_arith.specs.Sql.Arithmetic.{is_nil}
 use Rattle.mob_meaning.specs.Scene.{Scene}
-use Rattle.mob_meaning.specs.Signs.{text_relates, truth_relates}
+use Rattle.mob_value.specs.Relations.{text_relates, truth_relates}
 use Rattle.mob_meaning.specs.Evaluation.{stops, stop_of}
 use Rattle.mob_meaning.specs.Operators.{OperatorGives}
 use Rattle.mob_catalog.specs.OwnTypes.{IsValueOf}

@@ -11,10 +11,10 @@ use Rattle.mob_slice.specs.Slices.{value_at, IsNormal}
 use Rattle.mob_slice.specs.SteadyLaws.{steady_laws}
 use Rattle.mob_slice.specs.declared.line.Line.{Line}
 use Rattle.mob_slice.specs.declared.slice.Slice.{Slice}
-use Rattle.mob_normal.specs.Widened.{level_line}
+use Rattle.mob_value.specs.Lines.{level_line}
 use Rattle.mob_normal.proofs.Unique.{unique, OneList}
-use Rattle.mob_normal.proofs.Widening.{level_normal, level_at}
-use Rattle.mob_ordinary.specs.Moving.{StepSlices, AreNormalBy, step_function, line_function}
+use Rattle.mob_value.proofs.Widening.{level_normal, level_at}
+use Rattle.mob_value.specs.Moving.{StepSlices, AreNormalBy, step_function, line_function}
 use Rattle.mob_ordinary.specs.Ordinary.{AreOneFunction}
 
 -- this holds for steps, for linear numbers, and for points

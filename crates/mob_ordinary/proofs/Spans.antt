@@ -1,19 +1,11 @@
 -- Spans and span sets as sets of instants.
 use Rattle.std.proofs.Common.{◌≡◌, Bool, true, List, [], ◌∷◌, ap, sym, ◌∙◌}
 use Rattle.std.specs.Prelude.{IsTrue, ◌↔◌}
-use Rattle.mob_ratio.specs.Ratio.{Ratio}
 use Rattle.mob_span.specs.Span.{SpanOf, has_instant}
 use Rattle.mob_span.specs.Sets.{in_some, IsSpanSet}
 use Rattle.mob_span.proofs.OneSet.{one_set}
+use Rattle.mob_value.proofs.OneSpan.{alone}
 use Rattle.mob_ordinary.specs.Ordinary.{HaveSameInstants}
-
--- a span that has an instant is a span set
-pub alone : (s : SpanOf) → has_instant s ≡ true → IsSpanSet (s ∷ [])
-alone s h = (h, tt, tt)
-
--- the span set of the instants of one span is that span
-pub set_of_one : (s : SpanOf) (spans set : List SpanOf) → has_instant s ≡ true → spans ≡ s ∷ [] → ((t : Ratio) → in_some set t ≡ in_some spans t) → IsSpanSet set → set ≡ s ∷ []
-set_of_one s spans set h e f n = one_set set (s ∷ []) n (alone s h) (λ t. f t ∙ ap (λ z. in_some z t) e)
 
 -- span sets have the same instants exactly if their lists are equal
 pub sets_test : (a b v w : List SpanOf) (r : Bool) → v ≡ a → w ≡ b → IsSpanSet a → IsSpanSet b → IsTrue r ↔ (v ≡ w) → IsTrue r ↔ HaveSameInstants a b

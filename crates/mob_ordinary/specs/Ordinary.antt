@@ -1,18 +1,17 @@
 -- The ordinary operators. Each is NULL if an operand is NULL, or is not a value that it takes.
-use Rattle.std.specs.Prelude.{◌≡◌, ◌↔◌, Bool, true, false, cond, ◌&&◌, ◌||◌, IsTrue, pos, List, [], ◌∷◌, Option, Some, None}
-use Rattle.mob_ratio.specs.Ratio.{Ratio, whole, neg_ℚ}
-use Rattle.mob_ratio.specs.Order.{same}
+use Rattle.std.specs.Prelude.{◌≡◌, Bool, true, false, cond, ◌&&◌, ◌||◌, List, [], ◌∷◌, Option, Some, None}
+use Rattle.mob_ratio.specs.Ratio.{Ratio, neg_ℚ}
 use Rattle.mob_ast.specs.declared.types.Cmp.{Cmp}
 use Rattle.mob_ast.specs.declared.types.Cmp.TheVariants as cmp
 use Rattle.mob_slice.specs.declared.comparison.Rel.{Rel}
-use Rattle.mob_slice.specs.declared.comparison.Rel.TheVariants as rel
 use Rattle.mob_slice.specs.Ranks.{holds, compare_ratio, compare_bytes}
 use Rattle.mob_span.specs.Sets.{in_some}
 use Rattle.mob_span.specs.Span.{SpanOf}
-use Rattle.mob_span.specs.Flags.{same_bool}
 use Rattle.mob_value.specs.declared.value.Value.{Value}
 use Rattle.mob_value.specs.declared.value.Value.TheVariants.{Null, Bool as Truth, Number, Text, Moment, Point, Span, SpanSet, Box, MovingBool, MovingInt, MovingFrac, MovingText, MovingPoint}
-use Rattle.mob_ordinary.specs.Moving.{OverTime, step_function, line_function, plane_function}
+use Rattle.mob_value.specs.Moving.{OverTime, step_function, line_function, plane_function}
+use Rattle.mob_value.specs.Truths.{IsTruthOf}
+use Rattle.mob_value.specs.Relations.{rel_of}
 
 -- the truth value of a value, if it is one
 abbrev pub truth_of : Value → Option Bool
@@ -23,11 +22,6 @@ truth_of _ = None
 abbrev pub is_true_value : Value → Bool
 is_true_value (Truth b) = b
 is_true_value _ = false
-
--- a truth value, or NULL if there is none
-abbrev pub known : Option Bool → Value
-known None = Null
-known (Some b) = Truth b
 
 -- AND: false if one operand is false, true if both are true
 abbrev pub conjunction : Option Bool → Option Bool → Option Bool
@@ -47,18 +41,6 @@ disjunction None None = None
 abbrev pub is_null : Value → Bool
 is_null Null = true
 is_null _ = false
-
-abbrev pub rel_of : Cmp → Rel
-rel_of cmp.Eq = rel.Eq
-rel_of cmp.Ne = rel.Ne
-rel_of cmp.Lt = rel.Lt
-rel_of cmp.Le = rel.Le
-rel_of cmp.Gt = rel.Gt
-rel_of cmp.Ge = rel.Ge
-
--- v is the truth value of P if `wanted` is true, and its opposite if it is false
-abbrev pub IsTruthOf : Bool → Type 0 → Value → Type 0
-IsTruthOf wanted P v = (c : Bool) × (IsTrue c ↔ P) × (v ≡ Truth (same_bool wanted c))
 
 -- two temporal values are one function of time: at each instant both have the same value, or
 -- neither is defined
@@ -112,7 +94,3 @@ negated _ = Null
 abbrev pub unchanged : Value → Value
 unchanged (Number a) = Number a
 unchanged _ = Null
-
--- whether a number is 0
-abbrev pub is_nil : Ratio → Bool
-is_nil a = same a (whole (pos 0))

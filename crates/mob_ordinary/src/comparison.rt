@@ -1,11 +1,11 @@
 //! The six plain comparisons.
 ghost use Rattle.std.specs.Prelude.{◌≡◌, ◌↔◌, IsTrue, ◌&&◌, [], ◌∷◌, map};
 ghost use Rattle.mob_span.specs.Flags.{same_bool};
-ghost use Rattle.mob_normal.specs.Widened.{level_line};
+ghost use Rattle.mob_value.specs.Lines.{level_line};
 ghost use Rattle.mob_slice.specs.Slices.{value_at};
 ghost use Rattle.mob_value.specs.declared.value.Value.TheVariants.{Bool as Truth};
-ghost use Rattle.mob_ordinary.specs.Moving.{step_function, line_function};
-ghost use Rattle.mob_ordinary.specs.Ordinary.{rel_of, AreOneFunction, HaveSameInstants, IsEquality, ordered, IsTest};
+ghost use Rattle.mob_value.specs.Moving.{step_function, line_function};
+ghost use Rattle.mob_ordinary.specs.Ordinary.{AreOneFunction, HaveSameInstants, IsEquality, ordered, IsTest};
 
 use mob_ast::Cmp;
 use mob_frac::Frac;
@@ -15,20 +15,7 @@ use mob_slice::{BaseValue, Course, Line, Moving, Ranked, Rel, Slice, Steady};
 use mob_span::{Span, SpanSet};
 use mob_stbox::StBox;
 use mob_value::Value;
-
-/// The comparison of courses for a sign.
-pub fn rel_of(sign: Cmp) -> Rel
-    ensures value { result ≡ rel_of sign }
-{
-    match sign {
-        Cmp::Eq => Rel::Eq,
-        Cmp::Ne => Rel::Ne,
-        Cmp::Lt => Rel::Lt,
-        Cmp::Le => Rel::Le,
-        Cmp::Gt => Rel::Gt,
-        Cmp::Ge => Rel::Ge,
-    }
-}
+use mob_value::relation::rel_of;
 
 fn same_truth(left: bool, right: bool) -> bool
     ensures exact { IsTrue result ↔ (left ≡ right) }

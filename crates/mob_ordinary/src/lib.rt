@@ -1,10 +1,8 @@
 //! The ordinary operators without a formula: comparisons of two values of SQL, and logic. Also how
-//! results become values of SQL, and how stored values are read.
+//! stored values are read.
 #![tactic(auto)]
 
 pub mod comparison;
-pub mod kinds;
 pub mod logic;
 pub mod numbers;
 pub mod reading;
-pub mod sets;

@@ -1,9 +1,7 @@
 //! Three-valued logic, as in PostgreSQL, and the test of NULL.
-ghost use Rattle.std.specs.Prelude.{◌≡◌, not, cond, true, false, None, Some, Ok, Err, MatchResult, option_map};
-ghost use Rattle.mob_ordinary.specs.Ordinary.{truth_of, known, conjunction, disjunction, is_null, is_true_value};
+ghost use Rattle.std.specs.Prelude.{◌≡◌, not, cond, true, false, None, Some, option_map};
+ghost use Rattle.mob_ordinary.specs.Ordinary.{truth_of, conjunction, disjunction, is_null, is_true_value};
 
-use mob_list::fault::Fault;
-use mob_slice::Formula;
 use mob_value::Value;
 
 /// The truth value of a value; `None` if it is NULL or not a truth value.
@@ -13,26 +11,6 @@ pub fn truth_of(value: &Value) -> Option<bool>
     match value {
         Value::Bool(truth) => Some(*truth),
         _ => None,
-    }
-}
-
-/// A truth value, or NULL for None.
-pub fn known(truth: Option<bool>) -> Value
-    ensures value { result ≡ known truth }
-{
-    match truth {
-        Some(truth) => Value::Bool(truth),
-        None => Value::Null,
-    }
-}
-
-/// The answer of a test, as a truth value or NULL, or its overflow.
-pub fn answered(answer: Result<Option<bool>, Formula>) -> Result<Value, Fault<Formula>>
-    ensures value { MatchResult answer (λ truth. result ≡ Ok (known truth)) (λ e. result ≡ Err (Fault.Because e)) }
-{
-    match answer {
-        Ok(truth) => Ok(known(truth)),
-        Err(formula) => Err(Fault::Because(formula)),
     }
 }
 

@@ -1,16 +1,9 @@
 //! Plain numbers.
 ghost use Rattle.std.specs.Prelude.{◌≡◌};
-ghost use Rattle.mob_ordinary.specs.Ordinary.{negated, unchanged, is_nil};
+ghost use Rattle.mob_ordinary.specs.Ordinary.{negated, unchanged};
 
 use mob_frac::Frac;
 use mob_value::Value;
-
-/// Whether a number is 0.
-pub fn is_nil(number: &Frac) -> bool
-    ensures value { result ≡ is_nil number.now }
-{
-    number.is_zero()
-}
 
 /// The negative of a number; NULL if the value is not a number.
 pub fn negation(value: &Value) -> Value

@@ -1,3 +1,4 @@
 pub mod Cuts
 pub mod Coordinates
 pub mod Values
+pub mod Sql

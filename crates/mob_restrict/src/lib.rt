@@ -6,6 +6,7 @@ mod by_time;
 mod by_value;
 mod coordinates;
 mod defined;
+pub mod sql;
 
 pub use by_time::{at_time, minus_time};
 pub use by_value::{at_value, minus_value};

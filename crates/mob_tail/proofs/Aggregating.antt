@@ -24,13 +24,13 @@ use Rattle.mob_operators.specs.declared.aggregate.AggKind.{AggKind}
 use Rattle.mob_operators.specs.declared.aggregate.AggKind.TheVariants.{CountAll, Count, Sum, TCount, TSum, TAnd, TOr}
 use Rattle.mob_value.specs.declared.value.Value.{Value}
 use Rattle.mob_value.specs.declared.value.Value.TheVariants.{Null, Number, MovingBool, MovingInt, MovingFrac}
-use Rattle.mob_meaning.specs.declared.choices.Calculation.TheVariants.{Sum as Added}
-use Rattle.mob_meaning.specs.Arithmetic.{arithmetic_entries, parts_on}
-use Rattle.mob_meaning.specs.Calculations.{parts_by}
+use Rattle.mob_arith.specs.declared.sql.calculation.Calculation.TheVariants.{Sum as Added}
+use Rattle.mob_arith.specs.Sql.Entries.{arithmetic_entries, parts_on}
+use Rattle.mob_arith.specs.Sql.Calculations.{parts_by}
 use Rattle.mob_frac.specs.Formula.{AllFit}
 use Rattle.mob_span.specs.Flags.{same_bool}
 use Rattle.mob_value.specs.declared.value.Value.TheVariants as value
-use Rattle.mob_ordinary.specs.Moving.{AreNormalBy, IsFunction, StepSlices, or_nothing}
+use Rattle.mob_value.specs.Moving.{AreNormalBy, IsFunction, StepSlices, or_nothing}
 use Rattle.mob_ordinary.specs.Ordinary.{is_null}
 use Rattle.mob_tagg.specs.Aggregates.{put_there, made_of, IsAggregate, JoinsBy, total, count, all_hold, some_holds}
 use Rattle.mob_tagg.proofs.Joining.{total_joins, all_joins, some_joins, aggregate_one, aggregate_both, aggregate_same, aggregate_first}

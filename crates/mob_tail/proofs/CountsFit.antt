@@ -29,9 +29,9 @@ use Rattle.mob_operators.specs.declared.aggregate.AggKind.{AggKind}
 use Rattle.mob_operators.specs.declared.aggregate.AggKind.TheVariants.{CountAll, Count, Sum, TCount, TSum, TAnd, TOr}
 use Rattle.mob_value.specs.declared.value.Value.{Value}
 use Rattle.mob_value.specs.declared.value.Value.TheVariants.{MovingInt}
-use Rattle.mob_meaning.specs.declared.choices.Calculation.TheVariants.{Sum as Added}
-use Rattle.mob_meaning.specs.Arithmetic.{arithmetic_entries}
-use Rattle.mob_ordinary.specs.Moving.{StepSlices, or_nothing}
+use Rattle.mob_arith.specs.declared.sql.calculation.Calculation.TheVariants.{Sum as Added}
+use Rattle.mob_arith.specs.Sql.Entries.{arithmetic_entries}
+use Rattle.mob_value.specs.Moving.{StepSlices, or_nothing}
 use Rattle.mob_ordinary.specs.Ordinary.{is_null}
 use Rattle.mob_tagg.proofs.Unions.{none_at}
 use Rattle.mob_tagg.specs.Aggregates.{put_there, values_at, made_of, IsAggregate, count}

@@ -22,7 +22,7 @@ use Rattle.mob_value.specs.declared.value.Value.{Value}
 use Rattle.mob_value.specs.declared.value.Value.TheVariants.{MovingBool, MovingInt, MovingFrac}
 use Rattle.mob_value.specs.declared.store.Store.{Store}
 use Rattle.mob_literal.specs.Fields.{field_text}
-use Rattle.mob_ordinary.specs.Moving.{or_nothing}
+use Rattle.mob_value.specs.Moving.{or_nothing}
 use Rattle.mob_ordinary.proofs.Functions.{one_of_steps, one_of_lines}
 use Rattle.mob_meaning.specs.Scene.{Scene, scene}
 use Rattle.mob_meaning.specs.Outcomes.{HasOneOutcome, IsOne}

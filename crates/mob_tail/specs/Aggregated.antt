@@ -20,9 +20,9 @@ use Rattle.mob_operators.specs.declared.aggregate.AggKind.TheVariants.{CountAll,
 use Rattle.mob_typed.specs.declared.typed.Agg.{Agg}
 use Rattle.mob_value.specs.declared.value.Value.{Value}
 use Rattle.mob_value.specs.declared.value.Value.TheVariants.{Null, Number, MovingBool, MovingInt, MovingFrac, MovingText, MovingPoint}
-use Rattle.mob_meaning.specs.declared.choices.Calculation.TheVariants.{Sum as Added}
-use Rattle.mob_meaning.specs.Arithmetic.{arithmetic_entries}
-use Rattle.mob_ordinary.specs.Moving.{AreNormalBy, StepSlices, or_nothing, step_function, line_function, plane_function}
+use Rattle.mob_arith.specs.declared.sql.calculation.Calculation.TheVariants.{Sum as Added}
+use Rattle.mob_arith.specs.Sql.Entries.{arithmetic_entries}
+use Rattle.mob_value.specs.Moving.{AreNormalBy, StepSlices, or_nothing, step_function, line_function, plane_function}
 use Rattle.mob_ordinary.specs.Ordinary.{is_null}
 use Rattle.mob_tagg.specs.United.{AreUnited}
 use Rattle.mob_tagg.specs.Aggregates.{put_there, made_of, IsAggregate, total, count, all_hold, some_holds}

@@ -15,7 +15,7 @@ use Rattle.mob_operators.specs.declared.aggregate.AggKind.{AggKind}
 use Rattle.mob_operators.specs.declared.aggregate.AggKind.TheVariants.{CountAll, Count, TCount, TAnd, TOr}
 use Rattle.mob_value.specs.declared.value.Value.{Value}
 use Rattle.mob_value.specs.declared.value.Value.TheVariants.{MovingBool, MovingInt}
-use Rattle.mob_ordinary.specs.Moving.{AreNormalBy, StepSlices, or_nothing}
+use Rattle.mob_value.specs.Moving.{AreNormalBy, StepSlices, or_nothing}
 use Rattle.mob_tagg.specs.Gathered.{united_all, parts_at}
 use Rattle.mob_tagg.specs.United.{united_by}
 use Rattle.mob_tagg.specs.declared.parts.Part.{Part}

@@ -4,3 +4,11 @@ pub mod Memory
 pub mod Null
 pub mod Types
 pub mod ValueBoxes
+pub mod Moving
+pub mod Truths
+pub mod Relations
+pub mod Pairs
+pub mod Lifted
+pub mod Lines
+pub mod Sets
+pub mod Outcomes

@@ -4,8 +4,13 @@
 mod boxed;
 mod copies;
 pub mod held;
+pub mod kinds;
 pub mod laws;
+pub mod lines;
+pub mod pair;
+pub mod relation;
 mod rows;
+pub mod sets;
 mod store;
 mod value;
 mod value_box;

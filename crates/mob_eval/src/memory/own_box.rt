@@ -5,7 +5,7 @@
 ghost use Rattle.std.specs.Prelude.{◌≡◌, ◌∷◌, [], Ok, Some, None, IfSome};
 ghost use Rattle.mob_typed.specs.Trees.{typed_of};
 ghost use Rattle.mob_value.specs.ValueBoxes.{OnBox};
-ghost use Rattle.mob_meaning.specs.Boxes.{IsOverlap};
+ghost use Rattle.mob_clip.specs.Sql.Boxes.{IsOverlap};
 ghost use Rattle.mob_meaning.specs.Evaluation.{EvaluatesTo, OperandsEvaluateTo};
 ghost use Rattle.mob_eval.specs.Views.{scene_of};
 ghost use Rattle.mob_eval.specs.SoFar.{trees};
@@ -13,8 +13,8 @@ ghost use Rattle.mob_eval.specs.Remembered.{AllFit, Fits, IsBoxTold};
 
 use crate::memory::remembered::Remembering;
 use crate::memory::{Memory, box_cell_of};
-use crate::operators::boxes::{overlap, overlap_of};
 use crate::scene::View;
+use mob_clip::sql::boxes::{overlap, overlap_of};
 use mob_outcome::cells::{Cell, has_room};
 use mob_stbox::StBox;
 use mob_typed::TExpr;

@@ -5,12 +5,12 @@ ghost use Rattle.mob_value.specs.Held.{held};
 ghost use Rattle.mob_eval.specs.SoFar.{operand_types};
 ghost use Rattle.mob_meaning.specs.Types.{IsCastTo, IsCast};
 
-use crate::operators::coordinates::widened;
 use mob_ast::SqlType;
 use mob_ordinary::numbers::unchanged;
 use mob_typed::TExpr;
 use mob_value::Value;
 use mob_value::held::{Held, made};
+use mob_value::lines::widened;
 use std::alloc::{AllocError, Global};
 
 fn is_same_type(from: SqlType, to: SqlType) -> bool

@@ -7,55 +7,42 @@ ghost use Rattle.mob_meaning.specs.Operators.{GivesOfOne, GivesOfTwo, GivesOfThr
 ghost use Rattle.mob_eval.specs.SoFar.{operand_types};
 ghost use Rattle.mob_slice.specs.Entries.{IsFirst};
 ghost use Rattle.mob_value.specs.Held.{held};
-ghost use Rattle.mob_eval.specs.Outcomes.{IsOutcome, wanted};
+ghost use Rattle.mob_value.specs.Outcomes.{IsOutcome};
+ghost use Rattle.mob_eval.specs.Wanted.{wanted};
 
-mod arithmetic;
-mod asked;
-pub mod boxes;
-mod by_value;
 mod casting;
-mod coordinates;
-mod defined;
-mod lifting;
-mod line_arithmetic;
-mod lines;
-mod look;
 mod meeting;
-mod nearness;
-mod pair;
-mod polygons;
 mod printed;
-mod restriction;
-mod signs;
 
-use crate::operators::arithmetic::{calculate, division};
-use crate::operators::boxes::{box_restriction, box_value, expansion, overlap};
-use crate::operators::by_value::value_restriction;
 use crate::operators::casting::cast;
-use crate::operators::coordinates::{east, north};
-use crate::operators::defined::{defined_time, true_time};
-use crate::operators::lifting::{join, lifted_and, lifted_not, lifted_or};
-use crate::operators::look::look_up;
 use crate::operators::meeting::meeting;
-use crate::operators::nearness::{nearest_approach, within};
-use crate::operators::polygons::{intersects, polygon_restriction};
 use crate::operators::printed::as_text;
-use crate::operators::restriction::restriction;
-use crate::operators::signs::sign_test;
 use crate::scene::View;
+use mob_arith::sql::arithmetic::{calculate, division};
+use mob_arith::sql::calculation::Calculation;
+use mob_arith::sql::lifting::{join, lifted_and, lifted_not, lifted_or};
 use mob_ast::SqlType;
+use mob_clip::sql::boxes::{box_restriction, box_value, expansion, overlap};
+use mob_clip::sql::polygons::{intersects, polygon_restriction};
+use mob_compare::sql::scope::Scope;
+use mob_compare::sql::signs::sign_test;
+use mob_compare::sql::true_times::true_time;
 use mob_list::fault::Fault;
-use mob_meaning::{Calculation, Scope};
+use mob_near::sql::nearness::{nearest_approach, within};
 use mob_operators::Op;
 use mob_ordinary::comparison::test;
-use mob_ordinary::logic::{
-    conjunction, disjunction, is_null, known, negation as contrary, truth_of,
-};
+use mob_ordinary::logic::{conjunction, disjunction, is_null, negation as contrary, truth_of};
 use mob_ordinary::numbers::{negation, unchanged};
+use mob_restrict::sql::by_value::value_restriction;
+use mob_restrict::sql::coordinates::{east, north};
+use mob_restrict::sql::defined::defined_time;
+use mob_restrict::sql::look::look_up;
+use mob_restrict::sql::restriction::restriction;
 use mob_slice::Formula;
 use mob_typed::TExpr;
 use mob_value::Value;
 use mob_value::held::{Held, made};
+use mob_value::kinds::known;
 use std::alloc::{AllocError, Global};
 
 /// An operator on one operand.

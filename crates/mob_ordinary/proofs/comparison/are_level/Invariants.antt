@@ -1,5 +1,5 @@
 use Rattle.std.proofs.Common.{◌≡◌, drop, map}
-use Rattle.mob_normal.specs.Widened.{level_line}
+use Rattle.mob_value.specs.Lines.{level_line}
 use Rattle.mob_ordinary.proofs.comparison.are_level.Given as goal
 
 abbrev pub invariant-loop-i : goal.invariant-loop-i

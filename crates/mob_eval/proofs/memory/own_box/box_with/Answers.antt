@@ -1,7 +1,7 @@
 use Rattle.std.proofs.Common.{ap, subst, sym}
 use Rattle.mob_typed.proofs.TreeFacts.{typed_is}
 use Rattle.mob_eval.specs.Views.{scene_of}
-use Rattle.mob_eval.proofs.OwnBoxes.{has_given}
+use Rattle.mob_clip.proofs.OwnBoxes.{has_given}
 use Rattle.mob_eval.specs.Remembered.{IsCellOf, place_of}
 use Rattle.mob_eval.proofs.Recalled.{box_told, told_box}
 use Rattle.mob_eval.proofs.memory.own_box.box_with.Goals as goal

@@ -1,0 +1,12 @@
+use Rattle.std.proofs.Common.{Some, sym, subst, ◌∙◌}
+use Rattle.mob_list.specs.Faults.{OnCause}
+use Rattle.mob_slice.specs.Entries.{IsFirst}
+use Rattle.mob_arith.specs.Sql.Entries.{quotient_entries}
+use Rattle.mob_arith.proofs.Zero.{not_nil}
+use Rattle.mob_arith.proofs.sql.line_arithmetic.frac_quotient.Goals as goal
+
+pub over_const-requires : goal.over_const-requires
+over_const-requires c = record { divides = not_nil c.in-Number.k c.is_nil.result c.is_nil.ensures.value c.if-is_nil.false }
+
+pub returns-in-Err : goal.returns-in-Err
+returns-in-Err c = rw (c.in-MovingFrac.is, c.in-Number.is) (record { outcome = subst (λ nil. OnCause (λ f. IsFirst (quotient_entries nil c.in-MovingFrac.a c.in-Number.k) (Some f)) c.in-Err.fault) (sym c.if-is_nil.false ∙ c.is_nil.ensures.value) c.in-Err.ensures.first })

@@ -1,0 +1,4 @@
+-- What the operators of SQL mean, and their entries.
+pub mod Signs
+pub mod TrueTimes
+pub mod Entries

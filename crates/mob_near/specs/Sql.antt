@@ -1,0 +1,3 @@
+-- What the operators of SQL mean, and their entries.
+pub mod Nearness
+pub mod Entries

@@ -1,0 +1,5 @@
+-- What the operators of SQL mean, and their entries.
+pub mod Times
+pub mod ByValue
+pub mod Coordinates
+pub mod Entries
