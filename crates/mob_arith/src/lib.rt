@@ -1,5 +1,5 @@
 //! Sums, differences and multiples of numbers, logic, and concatenation of texts, instant by
-//! instant.
+//! instant. `sql` has the operators of SQL by these.
 #![tactic(auto)]
 
 mod logic;

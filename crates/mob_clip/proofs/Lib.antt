@@ -11,3 +11,4 @@ pub mod Judging
 pub mod AlongEdges
 pub mod EverInside
 pub mod OwnBoxes
+pub mod OnePlace

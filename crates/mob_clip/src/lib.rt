@@ -1,4 +1,5 @@
 //! Restriction of moving points to boxes and polygons, and whether they are ever inside a polygon.
+//! `sql` has the operators of SQL by these.
 #![tactic(auto)]
 
 mod areas;

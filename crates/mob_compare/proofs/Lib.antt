@@ -1,2 +1,3 @@
 pub mod TrueSpans
 pub mod Comparing
+pub mod OneSign

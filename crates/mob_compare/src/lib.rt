@@ -1,5 +1,5 @@
 //! The six comparisons, instant by instant, on temporal values, and the instants at which a
-//! temporal boolean is true.
+//! temporal boolean is true. `sql` has the operators of SQL by these.
 #![tactic(auto)]
 
 mod courses;

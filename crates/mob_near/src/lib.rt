@@ -1,5 +1,6 @@
 //! The nearest approach of two moving points: whether they are ever within a distance, and the
-//! squared distance of their nearest approach, which includes excluded ends.
+//! squared distance of their nearest approach, which includes excluded ends. `sql` has the operators
+//! of SQL by these.
 #![tactic(auto)]
 
 mod foot;

@@ -1,31 +1,19 @@
 -- Normal lists of slices that are one function of time are one list, by the course of their values.
-use Rattle.std.proofs.Common.{◌≡◌, Bool, false, List, map, refl, ap, sym, ◌∙◌}
+use Rattle.std.proofs.Common.{◌≡◌, Bool, List, map, refl, ap, sym, ◌∙◌}
 use Rattle.std.specs.Prelude.{IsTrue, ◌↔◌}
 use Rattle.mob_ratio.specs.Ratio.{Ratio}
 use Rattle.mob_ratio.specs.Order.{same}
 use Rattle.mob_slice.specs.Course.{IsCourse}
-use Rattle.mob_slice.specs.CourseOf.{steady_course, line_course, plane_course}
-use Rattle.mob_slice.specs.LineLaws.{line_laws}
-use Rattle.mob_slice.specs.PlaneLaws.{plane_laws}
+use Rattle.mob_slice.specs.CourseOf.{steady_course, line_course}
 use Rattle.mob_slice.specs.Slices.{value_at, IsNormal}
-use Rattle.mob_slice.specs.SteadyLaws.{steady_laws}
 use Rattle.mob_slice.specs.declared.line.Line.{Line}
 use Rattle.mob_slice.specs.declared.slice.Slice.{Slice}
 use Rattle.mob_value.specs.Lines.{level_line}
-use Rattle.mob_normal.proofs.Unique.{unique, OneList}
+use Rattle.mob_normal.proofs.Unique.{unique}
 use Rattle.mob_value.proofs.Widening.{level_normal, level_at}
 use Rattle.mob_value.specs.Moving.{StepSlices, AreNormalBy, step_function, line_function}
 use Rattle.mob_ordinary.specs.Ordinary.{AreOneFunction}
-
--- this holds for steps, for linear numbers, and for points
-pub one_of_steps : {B : Type 0} (is_same : B → B → Bool) → ((a b : B) → IsTrue (is_same a b) ↔ (a ≡ b)) → OneList (steady_course is_same)
-one_of_steps is_same exact = unique (steady_laws false is_same exact)
-
-pub one_of_lines : OneList line_course
-one_of_lines = unique line_laws
-
-pub one_of_points : OneList plane_course
-one_of_points = unique plane_laws
+use Rattle.mob_normal.proofs.ByCourse.{one_of_lines}
 
 -- lists are one function exactly if they are equal
 module _ {C B : Type 0} {steady copies : Bool} {value : C → Ratio → Ratio → Ratio → B} {start end : C → B} {can_make : B → B → Type 0} {make : B → B → C} {continues : C → C → Ratio → Ratio → Ratio → Bool} {parts : C → Ratio → Ratio → Ratio → List Ratio} (laws : IsCourse steady copies value start end can_make make continues parts) where

@@ -4,3 +4,4 @@ pub mod Outside
 pub mod Axes
 pub mod ToOne
 mod Examples
+pub mod OneRestriction

@@ -23,7 +23,7 @@ use Rattle.mob_value.specs.declared.value.Value.TheVariants.{MovingBool, MovingI
 use Rattle.mob_value.specs.declared.store.Store.{Store}
 use Rattle.mob_literal.specs.Fields.{field_text}
 use Rattle.mob_value.specs.Moving.{or_nothing}
-use Rattle.mob_ordinary.proofs.Functions.{one_of_steps, one_of_lines}
+use Rattle.mob_normal.proofs.ByCourse.{one_of_steps, one_of_lines}
 use Rattle.mob_meaning.specs.Scene.{Scene, scene}
 use Rattle.mob_meaning.specs.Outcomes.{HasOneOutcome, IsOne}
 use Rattle.mob_meaning.specs.Evaluation.{PlacedFormula}

@@ -19,7 +19,7 @@ use Rattle.mob_operators.specs.declared.aggregate.AggKind.TheVariants.{CountAll,
 use Rattle.mob_value.specs.declared.value.Value.{Value}
 use Rattle.mob_value.specs.declared.value.Value.TheVariants.{Null, MovingBool, MovingInt}
 use Rattle.mob_value.specs.Moving.{AreNormalBy, StepSlices, or_nothing}
-use Rattle.mob_ordinary.proofs.Functions.{one_of_steps}
+use Rattle.mob_normal.proofs.ByCourse.{one_of_steps}
 use Rattle.mob_tagg.specs.Gathered.{united_all, parts_at, whole_at}
 use Rattle.mob_tagg.specs.United.{united_by}
 use Rattle.mob_tagg.specs.declared.parts.Part.{Part}

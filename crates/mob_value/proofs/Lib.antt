@@ -3,3 +3,5 @@ pub mod ValueBoxes
 pub mod Answered
 pub mod OneSpan
 pub mod Widening
+pub mod OneValue
+pub mod OneTime
