@@ -1,11 +1,10 @@
 -- A temporal value at the instants that are not in a set, by the remainders of its time.
-use Rattle.std.specs.Prelude.{◌≡◌, ◌⊎◌, Bool, true, false, cond, ◌&&◌, not, List, [], ◌∷◌, ◌++◌, map, Option, Some, None, Result, Ok, Err, refl, suc, ◌^◌, nat_abs}
+use Rattle.std.specs.Prelude.{◌≡◌, ◌⊎◌, Bool, true, false, cond, ◌&&◌, not, List, [], ◌∷◌, ◌++◌, map, Option, Some, None, Result, Ok, Err, refl}
 use Rattle.std.specs.List.{flat_map, filter, AllByRecursion}
-use Rattle.std.proofs.Common.{ap, sym, ◌∙◌, subst, inl, inr, ⊎_elim, true≢false, arith}
-use Rattle.std.proofs.lemmas.Bool.Decides.{leb_tells}
+use Rattle.std.proofs.Common.{ap, sym, ◌∙◌, subst, inl, inr, ⊎_elim, true≢false}
 use Rattle.mob_ratio.specs.Ratio.{Ratio}
-use Rattle.mob_frac.specs.Fits.{Fits}
 use Rattle.mob_frac.specs.Formula.{AllFit}
+use Rattle.mob_frac.proofs.Fits.{fits_or}
 use Rattle.mob_span.specs.Span.{SpanOf, has, has_instant}
 use Rattle.mob_span.specs.Neighbours.{is_inside}
 use Rattle.mob_span.specs.Meet.{meet_of}
@@ -48,10 +47,7 @@ outside_values value start end v slices h spans remainders a g r = record {
   values = λ t. r.values t ∙ ap (λ b. where_wanted true (λ x. b) (value_at value v t)) (g t) ∙ by_hull (value_at value v t) (has h t) (in_some spans t) (λ n. gone value h v t a n);
 }
 
--- a number fits or does not, and so do the parts of a formula
-fits_or : (q : Ratio) → Fits q ⊎ (¬ Fits q)
-fits_or q = ⊎_elim (λ m. ⊎_elim (λ n. inl (record { num_fits = omega (arith, m.1); den_fits = omega (arith, n.1) })) (λ n. inr (λ f. absurd (omega (arith, n.1, f.den_fits)))) (leb_tells (suc q.den) (2 ^ 62))) (λ m. inr (λ f. absurd (omega (arith, m.1, f.num_fits)))) (leb_tells (suc (nat_abs q.num)) (2 ^ 62))
-
+-- the parts of a formula fit or do not
 parts_or : (parts : List Ratio) → AllFit parts ⊎ (¬ AllFit parts)
 parts_or [] = inl tt
 parts_or (q ∷ parts) = ⊎_elim (λ m. ⊎_elim (λ n. inl (m, n)) (λ n. inr (λ f. n f.1)) (parts_or parts)) (λ m. inr (λ f. m f.0)) (fits_or q)

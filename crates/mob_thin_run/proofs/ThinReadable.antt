@@ -34,7 +34,8 @@ use Rattle.mob_literal.specs.SqlReadable.{IsReadableAs}
 use Rattle.mob_plane.specs.declared.point.Point.{Point}
 use Rattle.mob_catalog.specs.Fields.{FieldSays}
 use Rattle.mob_catalog.specs.TableFile.{IsRow}
-use Rattle.mob_catalog.proofs.OwnTypes.{fits_unless, no_part}
+use Rattle.mob_frac.proofs.Fits.{fits_unless}
+use Rattle.mob_catalog.proofs.OwnTypes.{no_part}
 use Rattle.mob_simplify.specs.Breaks.{start_of, end_of}
 use Rattle.mob_simplify.specs.BreaksOf.{HaveBreaks, followed, printed_instants}
 use Rattle.mob_simplify.specs.Thinned.{IsThin}
