@@ -111,7 +111,7 @@ impl Grid {
 
     #[tactic(auto, unfolding(mob_stbox::specs::Boxes::is_whole))]
     /// All tiles that a box reaches: those between the floors of its sides and ends, divided by
-    /// those of a tile. Ends that are not included count as if they were. `Passed` is F2, exactly
+    /// those of a tile. Ends that are not included count as if they were. The error is F2, exactly
     /// if a quotient does not fit.
     pub fn range(&self, b: &StBox) -> Result<TileRange, Formula>
         requires whole { is_whole b.now ≡ true }

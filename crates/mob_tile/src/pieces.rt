@@ -215,7 +215,7 @@ fn on_slice(
     pieces_at(alloc, grid, range, slice, cells.as_slice())
 }
 
-/// The pieces of all slices, in order of time. `Passed` has the first formula of a slice with a
+/// The pieces of all slices, in order of time. The fault names the first formula of a slice with a
 /// part that does not fit.
 pub fn pieces_of(
     alloc: Global,
