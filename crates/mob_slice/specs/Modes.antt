@@ -18,5 +18,5 @@ abbrev pub entry_given : List Ratio → List Entry
 entry_given numbers = record { formula = Given; parts = numbers } ∷ []
 
 -- the entries of a formula in the narrow mode, the numbers that are given in the wide one
-abbrev pub entries_in : Mode → List Entry → List Ratio → List Entry
-entries_in mode entries numbers = by_mode mode entries (entry_given numbers)
+abbrev pub entries_by : Mode → List Entry → List Ratio → List Entry
+entries_by mode entries numbers = by_mode mode entries (entry_given numbers)
