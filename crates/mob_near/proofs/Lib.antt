@@ -3,6 +3,11 @@ pub mod Again
 pub mod Place
 pub mod OnPieces
 pub mod AllNearest
+pub mod Apart
+pub mod Covering
+pub mod Far
+pub mod Broadly
+pub mod Widely
 pub mod Judging
 pub mod Narrowing
 pub mod Answering

@@ -2,12 +2,17 @@
 //! squared distance of their nearest approach, which includes excluded ends.
 #![tactic(auto)]
 
+mod broad;
+mod covers;
 mod foot;
 mod known;
 mod laws;
 mod leg;
 mod nearness;
 mod piece;
+mod wide;
 
+pub use covers::{Cover, Covers, covers_of};
 pub use laws::one_approach;
 pub use nearness::{approach_squared, ever_within};
+pub use wide::{approach_wide, ever_within_wide, least_exact};
