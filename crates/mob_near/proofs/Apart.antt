@@ -102,7 +102,7 @@ held_by lo hi x0 x1 l u t a b c d h k true false e f =
     let w = (within x0 x1 l u t e h k).falling (grind (arith, f, before-back x1 x0)) in
     (up_to-trans lo x1 (line_at x0 x1 l u t) c w.0, up_to-trans (line_at x0 x1 l u t) x0 hi w.1 b)
 
-still_has : (s r : SpanOf) (t : Ratio) → is_inside s r ≡ true → has r t ≡ true → has s t ≡ true
+pub still_has : (s r : SpanOf) (t : Ratio) → is_inside s r ≡ true → has r t ≡ true → has s t ≡ true
 still_has s r t h k = by (has s t) refl
   where
     by : (b : Bool) → has s t ≡ b → has s t ≡ true

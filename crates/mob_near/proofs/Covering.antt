@@ -179,22 +179,22 @@ clear_tail s slices h = h.2
 -- ---- the two loops
 -- the cover of the slices before the rest
 pub record IsExtending (k : ℕ) (all rest : List (Slice PlaneLine)) (c : Cover) : Type 0 where
-  pub rest : drop c.count all ≡ rest
+  pub at : drop c.count all ≡ rest
   pub clear : PiecesAreClear (λ z. z.span) rest
   pub cover : IsCoverOn k all c
 
 pub extending_start : (k : ℕ) (s : Slice PlaneLine) (more : List (Slice PlaneLine)) (c : Cover) → c ≡ first_cover s k → PiecesAreClear (λ z. z.span) (s ∷ more) → IsExtending k (s ∷ more) more c
-extending_start k s more c e h = rw e (record { rest = refl; clear = h.2; cover = first_is k s more h })
+extending_start k s more c e h = rw e (record { at = refl; clear = h.2; cover = first_is k s more h })
 
 pub extending_step : (k : ℕ) (all rest more : List (Slice PlaneLine)) (c d : Cover) (s : Slice PlaneLine) → rest ≡ s ∷ more → d ≡ with_slice c s → IsExtending k all rest c → IsExtending k all more d
 extending_step k all rest more c d s e f h =
-    let at = h.rest ∙ e in
+    let at = h.at ∙ e in
     let clear = subst (PiecesAreClear (λ z. z.span)) e h.clear in
-    rw f (record { rest = (take_next c.count all s more at).1; clear = clear.2; cover = more_is k all c s more at clear h.cover })
+    rw f (record { at = (take_next c.count all s more at).1; clear = clear.2; cover = more_is k all c s more at clear h.cover })
 
 -- before a slice of the rest
 pub extending_clear : (k : ℕ) (all rest more : List (Slice PlaneLine)) (c : Cover) (s : Slice PlaneLine) → rest ≡ s ∷ more → IsExtending k all rest c → (has_instant c.span ≡ true) × (has_instant s.span ≡ true) × (is_clear c.span s.span ≡ true)
-extending_clear k all rest more c s e h = (h.cover.has, (subst (PiecesAreClear (λ z. z.span)) e h.clear).0, subst (IsBefore c.span) (h.rest ∙ e) h.cover.after)
+extending_clear k all rest more c s e h = (h.cover.has, (subst (PiecesAreClear (λ z. z.span)) e h.clear).0, subst (IsBefore c.span) (h.at ∙ e) h.cover.after)
 
 -- the covers of the slices before the rest
 pub record IsMakingRuns (all rest : List (Slice PlaneLine)) (k : ℕ) (covers : List Cover) : Type 0 where
@@ -203,10 +203,10 @@ pub record IsMakingRuns (all rest : List (Slice PlaneLine)) (k : ℕ) (covers : 
   pub covering : IsCovering all rest k covers
 
 pub making_start : (all : List (Slice PlaneLine)) → PiecesAreClear (λ z. z.span) all → IsMakingRuns all all 0 []
-making_start all h = record { clear = h; count = refl; covering = covering_start all }
+making_start all h = record { clear = h; count = omega arith; covering = covering_start all }
 
 length_left : {X : Type 0} (n : ℕ) (xs : List X) → n ≤ length xs → n + length (drop n xs) ≡ length xs
-length_left zero xs h = refl
+length_left zero xs h = omega arith
 length_left (suc n) [] h = absurd (omega (arith, h))
 length_left (suc n) (x ∷ xs) h = let k = length_left n xs (omega (arith, h)) in omega (arith, k)
 

@@ -6,6 +6,7 @@ pub mod AllNearest
 pub mod Apart
 pub mod Covering
 pub mod Far
+pub mod Runs
 pub mod Broadly
 pub mod Widely
 pub mod Judging

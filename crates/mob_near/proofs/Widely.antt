@@ -35,14 +35,6 @@ use Rattle.mob_near.proofs.AllNearest.{up_to-trans, is_approach}
 use Rattle.mob_near.proofs.Far.{far_never, gap_bounds}
 use Rattle.mob_near.proofs.OnPieces.{IsHeld, all_reached, all_nearest}
 
--- the slices contain the piece, and it has an instant
-abbrev pub IsPiece : PointPiece → Type 0
-IsPiece p = IsHeld p × (has_instant p.span ≡ true)
-
-pub all_some : (ps : List PointPiece) → PiecesAreClear (λ p. p.span) ps → AllByRecursion IsHeld ps → AllByRecursion IsPiece ps
-all_some [] c h = tt
-all_some (p ∷ ps) c h = ((h.0, c.0), all_some ps c.2 h.1)
-
 -- ---- the rectangles of a piece
 covers_side : (r : SpanOf) (q : SideOf PlaneLine Point) → CoversSide (side_cover r q) q
 covers_side r (Moves s) = (

@@ -11,6 +11,7 @@ use Rattle.mob_span.specs.Span.{SpanOf}
 use Rattle.mob_plane.specs.Corners.{smaller, greater}
 use Rattle.mob_plane.specs.declared.point.Point.{Point}
 use Rattle.mob_slice.specs.Sides.{SideOf, Moves, Stays, Slices, pieces, side_start}
+use Rattle.mob_slice.specs.Slices.{IsOrdered}
 use Rattle.mob_slice.specs.declared.line.PlaneLine.{PlaneLine}
 use Rattle.mob_slice.specs.declared.slice.Slice.{Slice}
 use Rattle.mob_near.specs.Distances.{length_squared}
@@ -93,10 +94,10 @@ cover_gap c e = length_squared (range_between c.xmin c.xmax e.xmin e.xmax) (rang
 
 -- runs whose rectangles lie beyond d of each other do not come within d
 abbrev pub BeyondNeverReaches : Type 0
-BeyondNeverReaches = (d : Ratio) (c e : Cover) (v w : List (Slice PlaneLine)) → up_to nil d ≡ true → CoversRun c v → CoversRun e w → is_beyond d c e ≡ true
+BeyondNeverReaches = (d : Ratio) (c e : Cover) (v w : List (Slice PlaneLine)) → up_to nil d ≡ true → IsOrdered (λ z. z.from) (λ z. z.to) v → IsOrdered (λ z. z.from) (λ z. z.to) w → CoversRun c v → CoversRun e w → is_beyond d c e ≡ true
     → AllByRecursion (λ p. piece_reaches (d *ℚ d) p ≡ false) (pieces (Slices v) (Slices w))
 
 -- no approach of two runs is below the squared distance of their rectangles
 abbrev pub GapsBoundApproaches : Type 0
-GapsBoundApproaches = (c e : Cover) (v w : List (Slice PlaneLine)) → CoversRun c v → CoversRun e w
+GapsBoundApproaches = (c e : Cover) (v w : List (Slice PlaneLine)) → IsOrdered (λ z. z.from) (λ z. z.to) v → IsOrdered (λ z. z.from) (λ z. z.to) w → CoversRun c v → CoversRun e w
     → AllByRecursion (λ p. up_to (cover_gap c e) (piece_approach p) ≡ true) (pieces (Slices v) (Slices w))

@@ -174,7 +174,6 @@ fn comes_within(
 
 // Whether the squared distance is at most `square`, that of `d`, at some common instant. The walk
 // stops at the first piece that has one.
-#[tactic(auto, using(crate::proofs::Widely::all_some))]
 fn ever_comes_within(
     alloc: Global,
     a: Operand<'_, PlaneLine>,
@@ -333,7 +332,6 @@ fn nearer(
 /// both are defined, of any size. `None` exactly if no such instant exists. Pieces whose rectangles
 /// are no nearer than the result so far are skipped. The only error is a failed allocation: it
 /// allocates only where a step of a piece overflows.
-#[tactic(auto, using(crate::proofs::Widely::all_some))]
 pub fn least_exact(
     alloc: Global,
     a: Operand<'_, PlaneLine>,
