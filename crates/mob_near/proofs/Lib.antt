@@ -4,7 +4,6 @@ pub mod Place
 pub mod OnPieces
 pub mod AllNearest
 pub mod Apart
-pub mod Covering
 pub mod Far
 pub mod Runs
 pub mod Broadly
