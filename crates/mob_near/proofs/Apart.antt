@@ -1,5 +1,5 @@
 -- Points in two rectangles, and how far they are from each other.
-use Rattle.std.proofs.Common.{◌≡◌, ◌⊎◌, inl, inr, Bool, true, false, true≢false, pos, List, [], arith, refl, sym, ap, ◌∙◌, subst}
+use Rattle.std.proofs.Common.{◌≡◌, Bool, true, false, true≢false, pos, [], arith, refl, sym, ap, ◌∙◌, subst}
 use Rattle.std.specs.Prelude.{cond, not, ◌||◌}
 use Rattle.mob_ratio.specs.Ratio.{Ratio, ◌+ℚ◌, ◌-ℚ◌, ◌*ℚ◌, ◌<ℚ◌, ◌≤ℚ◌}
 use Rattle.mob_ratio.specs.Line.{line_at}
@@ -22,7 +22,7 @@ use Rattle.mob_span.proofs.SpanLemmas.{has_upto_lower, has_upto_upper}
 use Rattle.mob_slice.specs.Lines.{plane_value_of}
 use Rattle.mob_slice.specs.Sides.{SideOf, Moves, Stays, HoldsSide, side_at}
 use Rattle.mob_slice.specs.declared.line.PlaneLine.{PlaneLine}
-use Rattle.mob_near.specs.Covers.{IsCovered, CoversSide, is_beyond, range_between, cover_gap}
+use Rattle.mob_near.specs.Covers.{IsCovered, CoversSide, is_beyond, cover_gap}
 use Rattle.mob_near.specs.Distances.{distance_squared}
 use Rattle.mob_near.specs.declared.covers.Cover.{Cover}
 use Rattle.mob_near.proofs.AllNearest.{up_to-trans}

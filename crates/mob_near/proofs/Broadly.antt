@@ -1,7 +1,7 @@
 -- Nearness in numbers of any size, by the same definitions.
-use Rattle.std.specs.Prelude.{◌≡◌, ◌||◌, ◌&&◌, Bool, true, false, cond, not, Option, Some, None, Result, Ok, Err, IfOk, refl}
+use Rattle.std.specs.Prelude.{◌≡◌, ◌||◌, ◌&&◌, Bool, true, false, not, Option, None, Result, Ok, Err, IfOk, refl}
 use Rattle.std.proofs.Common.{arith, ap, sym, ◌∙◌, subst}
-use Rattle.mob_ratio.specs.Ratio.{Ratio, ◌+ℚ◌, ◌*ℚ◌, ◌/ℚ◌, ◌<ℚ◌, ◌≤ℚ◌}
+use Rattle.mob_ratio.specs.Ratio.{Ratio, ◌+ℚ◌, ◌*ℚ◌, ◌<ℚ◌}
 use Rattle.mob_ratio.specs.Order.{before, up_to}
 use Rattle.mob_ratio.specs.Sign.{nil}
 use Rattle.mob_ratio.proofs.Order.{before-lt, not-up_to-le}

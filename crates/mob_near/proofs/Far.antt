@@ -4,7 +4,7 @@ use Rattle.std.proofs.Common.{ap, sym, ◌∙◌, true≢false}
 use Rattle.mob_ratio.specs.Ratio.{Ratio, ◌*ℚ◌}
 use Rattle.mob_ratio.specs.Order.{before, up_to}
 use Rattle.mob_ratio.specs.Sign.{nil}
-use Rattle.mob_ratio.proofs.Order.{false_unless, not-up_to-le, le-up_to}
+use Rattle.mob_ratio.proofs.Order.{false_unless, not-up_to-le}
 use Rattle.mob_quadratic.proofs.Convex.{square_le}
 use Rattle.mob_span.specs.Span.{has, has_instant}
 use Rattle.mob_slice.specs.Sides.{side_at}
@@ -13,7 +13,7 @@ use Rattle.mob_near.specs.Covers.{CoversSide, IsCovered, is_beyond, cover_gap}
 use Rattle.mob_near.specs.Entries.{PointPiece}
 use Rattle.mob_near.specs.declared.covers.Cover.{Cover}
 use Rattle.mob_near.specs.Legs.{piece_reaches, piece_approach}
-use Rattle.mob_near.proofs.OnPieces.{IsHeld, IsNearestOn, square_on, reached_by, nearest_by}
+use Rattle.mob_near.proofs.OnPieces.{IsHeld, square_on, reached_by, nearest_by}
 use Rattle.mob_near.proofs.Apart.{covered_at, gap_below, far_points}
 
 not_both : (b : Bool) → not b ≡ true → b ≡ true → ⊥

@@ -1,16 +1,15 @@
 -- Nearness in numbers of any size, over all pieces.
-use Rattle.std.specs.Prelude.{◌≡◌, Bool, true, false, cond, not, ◌||◌, List, [], ◌∷◌, Option, Some, None, Result, Ok, Err, IfOk, refl}
+use Rattle.std.specs.Prelude.{◌≡◌, Bool, true, false, cond, ◌||◌, List, [], ◌∷◌, Option, Some, None, Result, Ok, Err, IfOk, refl}
 use Rattle.std.specs.List.{AllByRecursion}
 use Rattle.std.proofs.Common.{arith, ap, sym, ◌∙◌, subst, inr}
 use Rattle.mob_ratio.specs.Ratio.{Ratio, ◌*ℚ◌, ◌≤ℚ◌}
 use Rattle.mob_ratio.specs.Order.{before, up_to}
 use Rattle.mob_ratio.specs.Sign.{nil}
 use Rattle.mob_ratio.proofs.Order.{before-back, before-neither, before-trans}
-use Rattle.mob_frac.specs.Fits.{Fits}
 use Rattle.mob_list.specs.declared.fault.Fault.{Fault}
 use Rattle.mob_list.specs.declared.fault.Fault.TheVariants.{Because, NoMemory}
 use Rattle.mob_quadratic.proofs.Convex.{square_le}
-use Rattle.mob_plane.specs.Corners.{smaller, greater}
+use Rattle.mob_plane.specs.Corners.{smaller}
 use Rattle.mob_plane.proofs.Widening.{smaller_left, smaller_right, greater_left, greater_right}
 use Rattle.mob_plane.specs.declared.point.Point.{Point}
 use Rattle.mob_span.specs.Span.{SpanOf, has_instant}
