@@ -1,9 +1,10 @@
 -- Differences in numbers of any size, as the definitions have them.
 use Rattle.std.specs.Prelude.{◌≡◌, Option}
-use Rattle.mob_ratio.specs.Ratio.{Ratio, ◌-ℚ◌}
+use Rattle.mob_ratio.specs.Ratio.{Ratio, ◌+ℚ◌, ◌-ℚ◌, ◌*ℚ◌}
 use Rattle.mob_plane.specs.declared.point.Point.{Point}
-use Rattle.mob_near.specs.Legs.{foot_of, foot_square}
+use Rattle.mob_near.specs.Legs.{foot_of, foot_square, squares_of}
 use Rattle.mob_near.specs.declared.leg.Leg.{Leg}
+use Rattle.mob_near.specs.declared.leg.Squares.{Squares}
 use Rattle.mob_near.specs.declared.foot.Foot.{Foot}
 use Rattle.mob_near.specs.declared.broad.leg.Spot.{Spot}
 use Rattle.mob_near.specs.declared.broad.leg.BroadLeg.{BroadLeg}
