@@ -4,7 +4,8 @@ use Rattle.std.proofs.Common.{ap, sym, ◌∙◌, true≢false}
 use Rattle.mob_ratio.specs.Ratio.{Ratio, ◌*ℚ◌}
 use Rattle.mob_ratio.specs.Order.{before, up_to}
 use Rattle.mob_ratio.specs.Sign.{nil}
-use Rattle.mob_ratio.proofs.Order.{false_unless, not-up_to-le}
+use Rattle.std.proofs.lemmas.Bool.{false_from_ne_true}
+use Rattle.mob_ratio.proofs.Order.{not-up_to-le}
 use Rattle.mob_quadratic.proofs.Convex.{square_le}
 use Rattle.mob_span.specs.Span.{has, has_instant}
 use Rattle.mob_slice.specs.Sides.{side_at}
@@ -29,12 +30,12 @@ module _ (p : PointPiece) (held : IsHeld p) (some : has_instant p.span ≡ true)
 
   -- beyond d, the points never come within d
   pub far_never : (d : Ratio) → up_to nil d ≡ true → is_beyond d c e ≡ true → piece_reaches (d *ℚ d) p ≡ false
-  far_never d hd h = false_unless (piece_reaches (d *ℚ d) p) (λ r.
+  far_never d hd h = false_from_ne_true (piece_reaches (d *ℚ d) p) (λ r.
       let m = (reached_by (d *ℚ d) p (square_le d) held some (before p.span.lower p.span.upper) refl).0 r in
       true≢false (sym m.2 ∙ far_points c e (side_at plane_value_of p.left m.0) (side_at plane_value_of p.right m.0) (at_left m.0 m.1) (at_right m.0 m.1) d (not-up_to-le nil d hd) h))
 
   -- the approach is at least the distance of the rectangles
   pub gap_bounds : up_to (cover_gap c e) (piece_approach p) ≡ true
-  gap_bounds = ap not (false_unless (before (piece_approach p) (cover_gap c e)) (λ h.
+  gap_bounds = ap not (false_from_ne_true (before (piece_approach p) (cover_gap c e)) (λ h.
       let m = (nearest_by p held some (before p.span.lower p.span.upper) refl).greatest (cover_gap c e) h in
       not_both (before (square_on p m.0) (cover_gap c e)) (gap_below c e (side_at plane_value_of p.left m.0) (side_at plane_value_of p.right m.0) (at_left m.0 m.1) (at_right m.0 m.1)) m.2))
