@@ -16,7 +16,7 @@ README_LINES = 150
 FUNCTION_LINES = 40
 WRONG_BODIES = 4
 # The crates that may have more wrong bodies: docs/GATE.md says why.
-MORE_WRONG_BODIES = {"mob_knn": 5, "mob_statements": 6}
+MORE_WRONG_BODIES = {"mob_knn": 6, "mob_statements": 6}
 # Layers of crates.txt that do not count towards a chain.
 UNCOUNTED_LAYERS = {"Tests", "What times crates"}
 

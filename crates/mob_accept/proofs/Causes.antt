@@ -1,16 +1,9 @@
 -- Why a text has no trees, or no types.
-use Rattle.std.proofs.Common.{◌≡◌, refl, inl, inr, ℕ, ◌≤◌, List, length, Ok, Err}
-use Rattle.std.specs.Prelude.{◌⊎◌, ◌≢◌, Result, IfOk, IfErr}
-use Rattle.mob_ast.specs.declared.statement.Script.{Script}
-use Rattle.mob_ast.specs.declared.refusal.Kind.{Kind}
-use Rattle.mob_ast.specs.declared.refusal.Kind.TheVariants.{NotUtf8, Lexical, Syntax, TooComplex, NoMemory}
-use Rattle.mob_ast.specs.declared.refusal.Refusal.{Refusal}
-use Rattle.mob_ast.specs.Kinds.{no_memory}
-use Rattle.mob_ast.specs.Trees.{StatementParts, script_of}
-use Rattle.mob_parse.specs.Refusals.{IsCause, IsTreeOf, ParsesToRefusal as HasNoTree}
-use Rattle.mob_parse.proofs.Refused.{no_tree}
-use Rattle.mob_typed.specs.declared.typed.Typed.{Typed}
-use Rattle.mob_typed.specs.Statements.{ScriptOut, script_seen}
+use Rattle.std.{specs.Prelude.{◌⊎◌, ◌≢◌, Result, IfOk, IfErr}, proofs.Common.{◌≡◌, refl, inl, inr, ℕ, ◌≤◌, List, length, Ok, Err}}
+use Rattle.mob_ast.{specs.declared.statement.Script.{Script}, specs.declared.refusal.Kind.{Kind}, specs.declared.refusal.Kind.TheVariants.{NotUtf8, Lexical, Syntax, TooComplex, NoMemory}}
+use Rattle.mob_ast.{specs.declared.refusal.Refusal.{Refusal}, specs.Kinds.{no_memory}, specs.Trees.{StatementParts, script_of}}
+use Rattle.mob_parse.{specs.Refusals.{IsCause, IsTreeOf, ParsesToRefusal as HasNoTree}, proofs.Refused.{no_tree}}
+use Rattle.mob_typed.{specs.declared.typed.Typed.{Typed}, specs.Statements.{ScriptOut, script_seen}}
 use Rattle.mob_typing.specs.Statements.{typed_script, IsTypingRefusal}
 use Rattle.mob_accept.specs.Accepts.{HasTrees, IsAccepted, IsAcceptRefusal, script_limit}
 

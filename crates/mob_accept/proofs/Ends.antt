@@ -1,22 +1,15 @@
 -- The tokens of a text, as the grammar sees them, begin at strictly increasing places; and how many
 -- `;` tokens come before a place.
-use Rattle.std.specs.Prelude.{IfSome}
-use Rattle.std.specs.List.{AllByRecursion}
-use Rattle.std.proofs.Common.{◌≡◌, ◌<◌, ◌≤◌, ◌+◌, ◌∙◌, refl, sym, ap, subst, arith, ℕ, List, [], ◌∷◌, ◌++◌, length, append-nil, cond, Option, Some, None, Ok}
-use Rattle.std.proofs.lemmas.Bool.{lt-ltb, le-ltb}
-use Rattle.mob_chars.specs.declared.token.Token.{Token}
-use Rattle.mob_chars.specs.Tokens.{token, end_at, tokens_of}
-use Rattle.mob_chars.specs.Layout.{Leads, here, blank, comment, next, InOrder}
-use Rattle.mob_chars.proofs.Sizes.{token_within}
+use Rattle.std.{specs.Prelude.{IfSome}, specs.List.{AllByRecursion}}
+use Rattle.std.{proofs.Common.{◌≡◌, ◌<◌, ◌≤◌, ◌+◌, ◌∙◌, refl, sym, ap, subst, arith, ℕ, List, [], ◌∷◌, ◌++◌, length, append-nil, cond, Option, Some, None, Ok}, proofs.lemmas.Bool.{lt-ltb, le-ltb}}
+use Rattle.mob_chars.{specs.declared.token.Token.{Token}, specs.Tokens.{token, end_at, tokens_of}, specs.Layout.{Leads, here, blank, comment, next, InTextOrder}, proofs.Sizes.{token_within}}
 use Rattle.mob_chars.proofs.Along.{are_laid, are_in_order}
-use Rattle.mob_grammar.specs.Symbols.{Symbol, PlacedSymbol}
-use Rattle.mob_grammar.specs.Cuts.{ends_among, StandsBehind}
+use Rattle.mob_grammar.{specs.Symbols.{Symbol, PlacedSymbol}, specs.Cuts.{ends_among, StandsBehind}}
 use Rattle.mob_lexemes.specs.Lexed.{symbol_at, before_lexed, lexed}
 use Rattle.mob_parse.specs.Refusals.{first_place}
 use Rattle.mob_typed.specs.Written.{Rises}
 use Rattle.mob_list.proofs.Each.{each_on, one_of}
-use Rattle.mob_accept.proofs.Within.{ends_later}
-use Rattle.mob_accept.specs.Numbers.{tokens_in, symbols_before, statement_number}
+use Rattle.mob_accept.{specs.Numbers.{tokens_in, symbols_before, statement_number}, proofs.Within.{ends_later}}
 
 -- a token that the grammar sees has at least one byte
 abbrev HasByte : Token → Option Symbol → Type 0
@@ -61,7 +54,7 @@ module _ (text : List ℕ) where
       let some = own in
       ((from, each_on (λ u. t.to ≤ u.place) (λ u. q ≤ u.place) (λ u le. omega arith) l rest.0), (each_on (λ u. t.to ≤ u.place) (λ u. t.from < u.place) (λ u le. omega arith) l rest.0, rest.1), (omega arith, rest.2))
 
-  symbols_rise : (q e : ℕ) (ts : List Token) → InOrder q e ts → AllHaveBytes text ts → StandBetween q e (lexed text ts)
+  symbols_rise : (q e : ℕ) (ts : List Token) → InTextOrder q e ts → AllHaveBytes text ts → StandBetween q e (lexed text ts)
   symbols_rise q e [] order have = (tt, tt, tt)
   symbols_rise q e (t ∷ ts) order have = one_rises q e t (symbol_at text t.kind t.from t.to) (lexed text ts) order.0 order.1 (ends_later t.to e ts order.2) have.0 (symbols_rise t.to e ts order.2 have.1)
 

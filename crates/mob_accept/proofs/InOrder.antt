@@ -1,19 +1,11 @@
 -- If the literals and rows of the trees are in order, the typed script is in written order.
-use Rattle.std.specs.List.{AllByRecursion}
-use Rattle.std.proofs.Common.{◌≡◌, ◌≤◌, ◌+◌, ◌∙◌, arith, sym, ap, subst, inl, inr, ℕ, List, [], ◌∷◌, ◌++◌, append_assoc, append-nil}
+use Rattle.std.{specs.List.{AllByRecursion}, proofs.Common.{◌≡◌, ◌≤◌, ◌+◌, ◌∙◌, arith, sym, ap, subst, inl, inr, ℕ, List, [], ◌∷◌, ◌++◌, append_assoc, append-nil}}
 use Rattle.mob_ast.specs.Trees.{StatementParts}
-use Rattle.mob_typed.specs.declared.typed.ConstText.{ConstText}
-use Rattle.mob_typed.specs.Statements.{ScriptOut}
-use Rattle.mob_typing.specs.Names.{NameLists}
-use Rattle.mob_typed.specs.Written.{HasRisingRows, LiteralUpTo, Rises}
+use Rattle.mob_typed.{specs.declared.typed.ConstText.{ConstText}, specs.Statements.{ScriptOut}, specs.Written.{HasRisingRows, LiteralUpTo, Rises}, proofs.Rising.{both_rise}}
+use Rattle.mob_typing.{specs.Names.{NameLists}, proofs.Walk.{Belongs, places_of}, proofs.WalkedScripts.{AreMade, none_made, one_made, script_made}}
 use Rattle.mob_list.proofs.Each.{each_both, each_on}
-use Rattle.mob_typed.proofs.Rising.{both_rise}
-use Rattle.mob_typing.proofs.Walk.{Belongs, places_of}
-use Rattle.mob_typing.proofs.WalkedScripts.{AreMade, none_made, one_made, script_made}
-use Rattle.mob_grammar.specs.Places.{statement_places, script_places}
-use Rattle.mob_grammar.proofs.Within.{within_all, within_back, within_front}
-use Rattle.mob_accept.specs.Written.{TypingKeepsOrder}
-use Rattle.mob_accept.proofs.OnParts.{rises_within}
+use Rattle.mob_grammar.{specs.Places.{statement_places, script_places}, proofs.Within.{within_all, within_back, within_front}}
+use Rattle.mob_accept.{specs.Written.{TypingKeepsOrder}, proofs.OnParts.{rises_within}}
 
 -- sorted places
 abbrev pub Rising : List ℕ → Type 0

@@ -1,29 +1,19 @@
 -- Typing numbers statements as the `;` tokens do: the trees of a text are cut at these tokens, and
 -- typing keeps to the trees.
-use Rattle.std.specs.List.{AllByRecursion}
-use Rattle.std.proofs.Common.{◌≡◌, ◌+◌, ◌∙◌, sym, ap, subst, arith, inl, inr, ℕ, List, [], ◌∷◌, ◌++◌, length, take, drop, append_assoc, append-nil, Ok}
+use Rattle.std.{specs.List.{AllByRecursion}, proofs.Common.{◌≡◌, ◌+◌, ◌∙◌, sym, ap, subst, arith, inl, inr, ℕ, List, [], ◌∷◌, ◌++◌, length, take, drop, append_assoc, append-nil, Ok}}
 use Rattle.std.proofs.lemmas.List.{take-append-drop}
-use Rattle.mob_ast.specs.declared.refusal.Kind.TheVariants.{Syntax, TooComplex}
-use Rattle.mob_ast.specs.declared.refusal.Refusal.{Refusal}
-use Rattle.mob_ast.specs.Trees.{StatementParts}
-use Rattle.mob_chars.specs.declared.token.Token.{Token}
-use Rattle.mob_chars.specs.Tokens.{tokens_of}
-use Rattle.mob_grammar.specs.Symbols.{PlacedSymbol}
-use Rattle.mob_grammar.specs.Places.{statement_places}
-use Rattle.mob_grammar.specs.Held.{statement_held}
-use Rattle.mob_grammar.specs.Cuts.{ends_among, StandsBehind, AllStandBehind}
+use Rattle.mob_ast.{specs.declared.refusal.Kind.TheVariants.{Syntax, TooComplex}, specs.declared.refusal.Refusal.{Refusal}, specs.Trees.{StatementParts}}
+use Rattle.mob_chars.{specs.declared.token.Token.{Token}, specs.Tokens.{tokens_of}}
+use Rattle.mob_grammar.{specs.Symbols.{PlacedSymbol}, specs.Places.{statement_places}, specs.Held.{statement_held}, specs.Cuts.{ends_among, StandsBehind, AllStandBehind}}
 use Rattle.mob_grammar.proofs.Cuts.{places_are_cut, held_are_cut}
 use Rattle.mob_parse.specs.Refusals.{HasTokens, first_place, IsCause}
 use Rattle.mob_lexemes.specs.Lexed.{lexed}
-use Rattle.mob_typed.specs.declared.typed.ConstText.{ConstText}
-use Rattle.mob_typed.specs.Statements.{ScriptOut}
-use Rattle.mob_typing.specs.Names.{NameLists}
-use Rattle.mob_accept.specs.Numbers.{statement_number, AreIn, TreesAreIn, RowsAreIn, TreesAreNumbered, TypingKeepsNumbers, TextIsNumbered, OperatorsAreNumbered, TypingRefusesInside, WrongNamesAreHeld, WrongNamesAreNumbered, WrongTokensAreNumbered}
-use Rattle.mob_list.proofs.Each.{each_both, each_on}
-use Rattle.mob_typing.proofs.Walk.{Belongs, places_of}
+use Rattle.mob_typed.{specs.declared.typed.ConstText.{ConstText}, specs.Statements.{ScriptOut}}
+use Rattle.mob_typing.{specs.Names.{NameLists}, proofs.Walk.{Belongs, places_of}}
 use Rattle.mob_typing.proofs.WalkedScripts.{AreMade, none_made, one_made, HoldPlaces, script_made, script_made_at, script_stops_inside, operators_stand, typing_refuses_what_is_held}
-use Rattle.mob_accept.proofs.Ends.{behind_is, place_behind}
-use Rattle.mob_accept.proofs.OnParts.{all_within}
+use Rattle.mob_accept.specs.Numbers.{statement_number, AreIn, TreesAreIn, RowsAreIn, TreesAreNumbered, TypingKeepsNumbers, TextIsNumbered, OperatorsAreNumbered, TypingRefusesInside}
+use Rattle.mob_accept.{specs.Numbers.{WrongNamesHavePlaces, WrongNamesAreNumbered, WrongTokensAreNumbered}, proofs.Ends.{behind_is, place_behind}, proofs.OnParts.{all_within}}
+use Rattle.mob_list.proofs.Each.{each_both, each_on}
 
 module _ (bytes : List ℕ) (ts : List Token) (l : List PlacedSymbol) (are : tokens_of bytes ≡ Ok ts) (is : l ≡ lexed bytes ts) (places : StatementParts → List ℕ) where
   trees_in : (n : ℕ) (ss : List StatementParts) → AllStandBehind places l n ss → TreesAreIn places bytes (n + 1) ss
@@ -77,7 +67,7 @@ pub operators_are_numbered : OperatorsAreNumbered
 operators_are_numbered bytes out h =
     operators_stand (script_made_at (λ k p. statement_number bytes p ≡ k) h.trees (hold_places bytes 1 h.trees (trees_are_numbered bytes h.trees h.script.read.tree).1) out h.script.typed)
 
-pub wrong_names_are_held : WrongNamesAreHeld
+pub wrong_names_are_held : WrongNamesHavePlaces
 wrong_names_are_held bytes e h = (h.trees, h.read.tree, typing_refuses_what_is_held h.trees e h.first)
 
 pub text_is_numbered : TextIsNumbered

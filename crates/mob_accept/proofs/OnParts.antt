@@ -1,6 +1,5 @@
 -- What holds for the elements of a list holds for those of a list within it.
-use Rattle.std.specs.List.{AllByRecursion}
-use Rattle.std.proofs.Common.{List}
+use Rattle.std.{specs.List.{AllByRecursion}, proofs.Common.{List}}
 use Rattle.mob_typed.specs.Written.{Rises}
 use Rattle.mob_grammar.specs.Places.{IsWithin, nothing, other, same}
 

@@ -1,11 +1,8 @@
 -- A text that is refused for its own content has one refusal.
-use Rattle.std.proofs.Common.{arith, ◌≡◌, ◌∙◌, ◌≤◌, sym, inl, inr, ℕ, List, length}
-use Rattle.std.specs.Prelude.{◌⊎◌}
+use Rattle.std.{specs.Prelude.{◌⊎◌}, proofs.Common.{arith, ◌≡◌, ◌∙◌, ◌≤◌, sym, inl, inr, ℕ, List, length}}
 use Rattle.mob_ast.specs.declared.refusal.Refusal.{Refusal}
 use Rattle.mob_parse.proofs.Refused.{no_tree, one_refusal as one_first}
-use Rattle.mob_accept.specs.Accepts.{IsNoScript, IsWrongName, script_limit}
-use Rattle.mob_accept.specs.Outcomes.{HasOneTextRefusal}
-use Rattle.mob_accept.proofs.OneScript.{one_text}
+use Rattle.mob_accept.{specs.Accepts.{IsNoScript, IsWrongName, script_limit}, specs.Outcomes.{HasOneTextRefusal}, proofs.OneScript.{one_text}}
 
 no_script_once : (bytes : List ℕ) (d e : Refusal) → IsNoScript bytes d → IsNoScript bytes e → d ≡ e
 no_script_once bytes d e h k = elim (one_first bytes d e h.cause k.cause) [

@@ -1,15 +1,10 @@
 -- Each text has one judgement.
 use Rattle.std.proofs.Common.{arith, ◌≡◌, refl, subst, inl, inr, ℕ, List, []}
 use Rattle.mob_ast.specs.Trees.{StatementParts}
-use Rattle.mob_grammar.specs.Symbols.{PlacedSymbol}
-use Rattle.mob_grammar.specs.Scripts.{IsScript}
-use Rattle.mob_grammar.proofs.Statements.{read_script}
-use Rattle.mob_parse.specs.Refusals.{IsTreeOf}
-use Rattle.mob_parse.proofs.Refused.{no_tree, same_tokens}
-use Rattle.mob_parse.proofs.Scripts.{script_only}
+use Rattle.mob_grammar.{specs.Symbols.{PlacedSymbol}, specs.Scripts.{IsScript}, proofs.Statements.{read_script}}
+use Rattle.mob_parse.{specs.Refusals.{IsTreeOf}, proofs.Refused.{no_tree, same_tokens}, proofs.Scripts.{script_only}}
 use Rattle.mob_typed.specs.Statements.{ScriptOut}
-use Rattle.mob_accept.specs.Accepts.{IsTypedAs}
-use Rattle.mob_accept.specs.Outcomes.{HasOneScript, NeverTakenAndRefused}
+use Rattle.mob_accept.{specs.Accepts.{IsTypedAs}, specs.Outcomes.{HasOneScript, NeverTakenAndRefused}}
 
 -- a list of tokens has one tree: the one that the reader gives
 one_tree : (l : List PlacedSymbol) (x y : List StatementParts) → IsScript l x → IsScript l y → x ≡ y

@@ -1,10 +1,7 @@
 -- Which texts are accepted as scripts, and why a text is refused for its own content, before any
 -- literal or file is read.
 use Rattle.std.specs.Prelude.{◌≡◌, ◌≢◌, ◌⊎◌, ◌<◌, ◌≤◌, ℕ, List, length, Ok, Err}
-use Rattle.mob_ast.specs.declared.refusal.Kind.TheVariants.{NoMemory, Limit}
-use Rattle.mob_ast.specs.declared.refusal.Refusal.{Refusal}
-use Rattle.mob_ast.specs.Kinds.{no_memory}
-use Rattle.mob_ast.specs.Trees.{StatementParts}
+use Rattle.mob_ast.{specs.declared.refusal.Kind.TheVariants.{NoMemory, Limit}, specs.declared.refusal.Refusal.{Refusal}, specs.Kinds.{no_memory}, specs.Trees.{StatementParts}}
 use Rattle.mob_parse.specs.Refusals.{IsTreeOf, IsLightText, ParsesToRefusal as HasNoTree}
 use Rattle.mob_typed.specs.Statements.{ScriptOut}
 use Rattle.mob_typing.specs.Statements.{typed_script}

@@ -1,22 +1,13 @@
 -- Which statement a place is in. The number of a statement and a place agree: typing counts
 -- statements as the `;` tokens of the text do.
-use Rattle.std.specs.Prelude.{◌≡◌, ◌⊎◌, ◌+◌, ℕ, List, [], ◌∷◌, filter, nat_lt, Result, Ok, Err}
-use Rattle.std.specs.List.{AllByRecursion}
-use Rattle.mob_ast.specs.Trees.{StatementParts}
-use Rattle.mob_ast.specs.declared.refusal.Kind.TheVariants.{Syntax, TooComplex}
-use Rattle.mob_ast.specs.declared.refusal.Refusal.{Refusal}
-use Rattle.mob_chars.specs.declared.token.Token.{Token}
-use Rattle.mob_chars.specs.Tokens.{tokens_of}
-use Rattle.mob_grammar.specs.Symbols.{PlacedSymbol}
-use Rattle.mob_grammar.specs.Cuts.{ends_among}
-use Rattle.mob_grammar.specs.Places.{statement_places}
-use Rattle.mob_grammar.specs.Held.{statement_held}
+use Rattle.std.{specs.Prelude.{◌≡◌, ◌⊎◌, ◌+◌, ℕ, List, [], ◌∷◌, filter, nat_lt, Result, Ok, Err}, specs.List.{AllByRecursion}}
+use Rattle.mob_ast.{specs.Trees.{StatementParts}, specs.declared.refusal.Kind.TheVariants.{Syntax, TooComplex}, specs.declared.refusal.Refusal.{Refusal}}
+use Rattle.mob_chars.{specs.declared.token.Token.{Token}, specs.Tokens.{tokens_of}}
+use Rattle.mob_grammar.{specs.Symbols.{PlacedSymbol}, specs.Cuts.{ends_among}, specs.Places.{statement_places}, specs.Held.{statement_held}}
 use Rattle.mob_lexemes.specs.Lexed.{lexed}
 use Rattle.mob_parse.specs.Refusals.{IsTreeOf}
-use Rattle.mob_typed.specs.Statements.{StatementOut, ScriptOut}
-use Rattle.mob_typed.specs.Written.{brackets_of}
-use Rattle.mob_typing.specs.Statements.{typed_script}
-use Rattle.mob_typing.specs.Stands.{OperatorsStand, IsHeldRefusal}
+use Rattle.mob_typed.{specs.Statements.{StatementOut, ScriptOut}, specs.Written.{brackets_of}}
+use Rattle.mob_typing.{specs.Statements.{typed_script}, specs.Stands.{OperatorsStand, IsPlacedRefusal}}
 use Rattle.mob_accept.specs.Accepts.{IsAccepted, IsNoScript, IsWrongName}
 
 -- the tokens of a text; none if it has no tokens
@@ -83,8 +74,8 @@ abbrev pub WrongNamesAreNumbered : Type 0
 WrongNamesAreNumbered = (bytes : List ℕ) (e : Refusal) → IsWrongName bytes e → e.statement ≡ statement_number bytes e.place
 
 -- the tree of that statement, among the trees of the text, holds the place
-abbrev pub WrongNamesAreHeld : Type 0
-WrongNamesAreHeld = (bytes : List ℕ) (e : Refusal) → IsWrongName bytes e → (trees : List StatementParts) × IsTreeOf bytes trees × IsHeldRefusal trees e
+abbrev pub WrongNamesHavePlaces : Type 0
+WrongNamesHavePlaces = (bytes : List ℕ) (e : Refusal) → IsWrongName bytes e → (trees : List StatementParts) × IsTreeOf bytes trees × IsPlacedRefusal trees e
 
 -- a refusal of a wrong token, or of the token at which an expression is too complex, also names the
 -- statement that its place is in

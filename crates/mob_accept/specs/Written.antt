@@ -3,9 +3,8 @@ use Rattle.std.specs.Prelude.{◌≡◌, ◌≤◌, ℕ, List, Ok}
 use Rattle.mob_ast.specs.Trees.{StatementParts}
 use Rattle.mob_grammar.specs.Places.{script_places}
 use Rattle.mob_parse.specs.Refusals.{IsTreeOf}
-use Rattle.mob_typed.specs.Statements.{ScriptOut}
+use Rattle.mob_typed.{specs.Statements.{ScriptOut}, specs.Written.{IsWritten, Rises}}
 use Rattle.mob_typing.specs.Statements.{typed_script}
-use Rattle.mob_typed.specs.Written.{IsWritten, Rises}
 use Rattle.mob_accept.specs.Accepts.{IsAccepted}
 
 -- the places of the literals and rows of the trees are sorted

@@ -1,6 +1,6 @@
 //! Laws of script texts: which are accepted, their order, and how places are numbered. No code runs
 //! here.
-ghost use Rattle.mob_accept.specs.Numbers.{OperatorsAreNumbered, TextIsNumbered, TreesAreNumbered, TypingKeepsNumbers, TypingRefusesInside, WrongNamesAreHeld, WrongNamesAreNumbered, WrongTokensAreNumbered};
+ghost use Rattle.mob_accept.specs.Numbers.{OperatorsAreNumbered, TextIsNumbered, TreesAreNumbered, TypingKeepsNumbers, TypingRefusesInside, WrongNamesHavePlaces, WrongNamesAreNumbered, WrongTokensAreNumbered};
 ghost use Rattle.mob_accept.specs.Outcomes.{HasOneScript, NeverTakenAndRefused, HasOneTextRefusal};
 ghost use Rattle.mob_accept.specs.Written.{AreWritten, TreesRise, TypingKeepsOrder};
 
@@ -40,6 +40,6 @@ pub fn text_is_numbered()
 pub fn refusals_are_numbered()
     ensures typing { TypingRefusesInside }
     ensures names { WrongNamesAreNumbered }
-    ensures held { WrongNamesAreHeld }
+    ensures held { WrongNamesHavePlaces }
     ensures tokens { WrongTokensAreNumbered }
 {}

@@ -1,4 +1,6 @@
 //! Decides whether a text is a script, and if not, gives its first refusal.
+//!
+//! It is apart from `mob_shell`, one of the most expensive crates to prove.
 #![tactic(auto)]
 
 pub mod laws;

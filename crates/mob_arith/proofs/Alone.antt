@@ -1,11 +1,8 @@
 -- A temporal value next to a base value.
-use Rattle.std.specs.Prelude.{◌≡◌, Bool, true, not, List, [], ◌∷◌, Option, Some, None, option_map, refl}
-use Rattle.std.proofs.Common.{ap, sym, ◌∙◌}
+use Rattle.std.{specs.Prelude.{◌≡◌, Bool, true, not, List, [], ◌∷◌, Option, Some, None, option_map, refl}, proofs.Common.{ap, sym, ◌∙◌}}
 use Rattle.mob_ratio.specs.Ratio.{Ratio}
 use Rattle.mob_span.proofs.SpanLemmas.{some_instant}
-use Rattle.mob_slice.specs.Slices.{value_at, IsNormal}
-use Rattle.mob_slice.specs.Operands.{map_both}
-use Rattle.mob_slice.specs.declared.slice.Slice.{Slice}
+use Rattle.mob_slice.{specs.Slices.{value_at, IsNormal}, specs.Operands.{map_both}, specs.declared.slice.Slice.{Slice}}
 use Rattle.mob_arith.specs.Operations.{differ}
 
 -- a normal list has a value at some instant

@@ -1,32 +1,18 @@
 -- Arithmetic, logic and joining have one value.
 use Rattle.std.proofs.Common.{ℕ, Bool, List, sym, ◌∙◌, true, false, option_map, not}
-use Rattle.mob_ratio.specs.Ratio.{Ratio, ◌/ℚ◌}
-use Rattle.mob_ratio.specs.Order.{same}
-use Rattle.mob_ratio.proofs.Order.{same_exact}
+use Rattle.mob_ratio.{specs.Ratio.{Ratio, ◌/ℚ◌}, specs.Order.{same}, proofs.Order.{same_exact}}
 use Rattle.mob_span.specs.Flags.{same_bool, same_bool_exact}
-use Rattle.mob_slice.specs.CourseOf.{steady_course, line_course}
-use Rattle.mob_slice.specs.Operands.{steady_value, map_both}
-use Rattle.mob_slice.specs.Sameness.{same_bytes, same_bytes_exact}
-use Rattle.mob_slice.specs.declared.slice.Slice.{Slice}
-use Rattle.mob_value.specs.declared.value.Value.{Value}
-use Rattle.mob_value.specs.declared.value.Value.TheVariants.{MovingBool, MovingInt, MovingFrac, MovingText, Number}
-use Rattle.mob_value.specs.Moving.{OverTime, line_function, step_function}
-use Rattle.mob_value.specs.Lifted.{IsMovingBool, IsMovingInt, IsMovingText, IsMovingFrac}
-use Rattle.mob_slice.specs.Lines.{line_value_of}
+use Rattle.mob_slice.{specs.CourseOf.{steady_course, line_course}, specs.Operands.{steady_value, map_both}, specs.Sameness.{same_bytes, same_bytes_exact}, specs.declared.slice.Slice.{Slice}}
+use Rattle.mob_slice.{specs.Lines.{line_value_of}, specs.declared.line.Line.{Line}}
+use Rattle.mob_value.{specs.declared.value.Value.{Value}, specs.declared.value.Value.TheVariants.{MovingBool, MovingInt, MovingFrac, MovingText, Number}}
+use Rattle.mob_value.{specs.Moving.{OverTime, line_function, step_function}, specs.Lifted.{IsMovingBool, IsMovingInt, IsMovingText, IsMovingFrac}, specs.Pairs.{number_pair, text_pair}}
+use Rattle.mob_value.{specs.Lines.{line_pair, as_line}, proofs.OneValue.{operands_once, pair_once, or_null_once, function_once, Once}}
 use Rattle.mob_ast.specs.declared.types.SqlType.{SqlType}
+use Rattle.mob_lift.proofs.ByCourse.{one_of_lines, one_of_steps}
+use Rattle.mob_arith.{specs.declared.sql.calculation.Calculation.{Calculation}, specs.declared.sql.calculation.Calculation.TheVariants.{Sum, Difference, Product}}
+use Rattle.mob_arith.{specs.Sql.Arithmetic.{IsLineArithmetic, IsArithmetic, IsQuotientOf, IsLineQuotient, IsDivided, is_nil}, specs.Sql.Calculations.{result_by}, specs.Sql.Factors.{product_pair}}
+use Rattle.mob_arith.{specs.Operations.{text_of}, specs.Sql.Lifting.{IsLiftedNot, IsJoined}}
 use Rattle.mob_ast.specs.declared.types.SqlType.TheVariants as sql
-use Rattle.mob_value.specs.Pairs.{number_pair, text_pair}
-use Rattle.mob_value.specs.Lines.{line_pair, as_line}
-use Rattle.mob_slice.specs.declared.line.Line.{Line}
-use Rattle.mob_normal.proofs.ByCourse.{one_of_lines, one_of_steps}
-use Rattle.mob_value.proofs.OneValue.{operands_once, pair_once, or_null_once, function_once, Once}
-use Rattle.mob_arith.specs.declared.sql.calculation.Calculation.{Calculation}
-use Rattle.mob_arith.specs.declared.sql.calculation.Calculation.TheVariants.{Sum, Difference, Product}
-use Rattle.mob_arith.specs.Sql.Arithmetic.{IsLineArithmetic, IsArithmetic, IsQuotientOf, IsLineQuotient, IsDivided, is_nil}
-use Rattle.mob_arith.specs.Sql.Calculations.{result_by}
-use Rattle.mob_arith.specs.Sql.Factors.{product_pair}
-use Rattle.mob_arith.specs.Operations.{text_of}
-use Rattle.mob_arith.specs.Sql.Lifting.{IsLiftedNot, IsJoined}
 
 pub truth_once : {X Y : Type 0} (f : X → Y → Bool) (left : OverTime X) (right : OverTime Y) → Once (IsMovingBool f left right)
 truth_once f left right v w h k = or_null_once (steady_course same_bool) (one_of_steps same_bool same_bool_exact) MovingBool (λ t. map_both f (left t) (right t)) v w h k

@@ -1,24 +1,12 @@
 -- The result, on one piece, of an operation that is computed from the limits.
-use Rattle.std.specs.Prelude.{◌≡◌, Bool, true, false, List, ◌++◌, Some, None, refl}
-use Rattle.std.proofs.Common.{ap, sym, ◌∙◌, subst, inl, inr}
-use Rattle.mob_ratio.specs.Ratio.{Ratio}
-use Rattle.mob_ratio.specs.Order.{before}
+use Rattle.std.{specs.Prelude.{◌≡◌, Bool, true, false, List, ◌++◌, Some, None, refl}, proofs.Common.{ap, sym, ◌∙◌, subst, inl, inr}}
+use Rattle.mob_ratio.{specs.Ratio.{Ratio}, specs.Order.{before}}
 use Rattle.mob_frac.specs.Formula.{AllFit}
-use Rattle.mob_span.specs.Span.{SpanOf, has, has_instant}
-use Rattle.mob_span.specs.Meets.{PieceOf}
-use Rattle.mob_slice.specs.Course.{IsCourse}
-use Rattle.mob_slice.specs.Look.{IsLookFault}
-use Rattle.mob_slice.specs.Sides.{SideOf, side_at, side_parts, at_ends, HasValues}
-use Rattle.mob_list.specs.Faults.{OnCause}
-use Rattle.mob_slice.specs.Entries.{Entry, IsFirst}
-use Rattle.mob_slice.specs.declared.slice.Slice.{Slice}
-use Rattle.mob_slice.specs.declared.formula.Formula.{Formula}
-use Rattle.mob_slice.specs.declared.formula.Formula.TheVariants.{F2}
-use Rattle.mob_list.specs.declared.fault.Fault.{Fault}
-use Rattle.mob_list.specs.declared.fault.Fault.TheVariants.{Because, NoMemory}
-use Rattle.mob_slice.proofs.Cuts.{all_both, all_first, all_second}
-use Rattle.mob_arith.specs.Summed.{IsTermwise}
-use Rattle.mob_arith.specs.Termwise.{entries_at_ends}
+use Rattle.mob_span.{specs.Span.{SpanOf, has, has_instant}, specs.Meets.{PieceOf}}
+use Rattle.mob_slice.{specs.Course.{IsCourse}, specs.Look.{IsLookFault}, specs.Sides.{SideOf, side_at, side_parts, at_ends, HasValues}, specs.Entries.{Entry, IsFirst}}
+use Rattle.mob_slice.{specs.declared.slice.Slice.{Slice}, specs.declared.formula.Formula.{Formula}, specs.declared.formula.Formula.TheVariants.{F2}, proofs.Cuts.{all_both, all_first, all_second}}
+use Rattle.mob_list.{specs.Faults.{OnCause}, specs.declared.fault.Fault.{Fault}, specs.declared.fault.Fault.TheVariants.{Because, NoMemory}}
+use Rattle.mob_arith.{specs.Summed.{IsTermwise}, specs.Termwise.{entries_at_ends}}
 
 -- a slice on a span of one instant has equal limits
 level_of : {C B : Type 0} (value : C → Ratio → Ratio → Ratio → B) (start end : C → B) (e : Ratio → B) (r : SpanOf) (n : Slice C) → HasValues value start end e r n → before r.lower r.upper ≡ false → start n.course ≡ end n.course

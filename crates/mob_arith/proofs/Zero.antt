@@ -1,9 +1,6 @@
 -- The number 0.
-use Rattle.std.proofs.Common.{◌≡◌, Bool, false, sym, ◌∙◌, true≢false}
-use Rattle.std.specs.Prelude.{IsTrue, ◌↔◌, pos}
-use Rattle.mob_ratio.specs.Ratio.{Ratio, whole}
-use Rattle.mob_ratio.specs.Order.{same}
-use Rattle.mob_ratio.proofs.Order.{same_exact, same_truth}
+use Rattle.std.{specs.Prelude.{IsTrue, ◌↔◌, pos}, proofs.Common.{◌≡◌, Bool, false, sym, ◌∙◌, true≢false}}
+use Rattle.mob_ratio.{specs.Ratio.{Ratio, whole}, specs.Order.{same}, proofs.Order.{same_exact, same_truth}}
 use Rattle.mob_arith.specs.Sql.Arithmetic.{is_nil}
 
 -- a test with the meaning of `same` is `same`

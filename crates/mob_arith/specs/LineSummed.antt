@@ -1,16 +1,9 @@
 -- Lines satisfy the laws of sums, differences and multiples: each result is a line between the
 -- results at the two ends.
-use Rattle.std.specs.Prelude.{refl, ⊤}
-use Rattle.std.proofs.Common.{sym}
-use Rattle.mob_ratio.specs.Ratio.{Ratio, inverse}
-use Rattle.mob_ratio.proofs.LineAt.{line_at-sum, line_at-scale}
-use Rattle.mob_ratio.proofs.Signs.{line_at-diff}
-use Rattle.mob_slice.specs.Lines.{line_value_of}
-use Rattle.mob_slice.specs.Operands.{steady_value, steady_limit}
-use Rattle.mob_slice.specs.declared.line.Line.{Line}
-use Rattle.mob_slice.specs.declared.steady.Steady.{Steady}
-use Rattle.mob_arith.specs.Operations.{sum_of, difference_of, product_of, quotient_of}
-use Rattle.mob_arith.specs.Summed.{IsSummed, IsTermwise}
+use Rattle.std.{specs.Prelude.{refl, ⊤}, proofs.Common.{sym}}
+use Rattle.mob_ratio.{specs.Ratio.{Ratio, inverse}, proofs.LineAt.{line_at-sum, line_at-scale}, proofs.Signs.{line_at-diff}}
+use Rattle.mob_slice.{specs.Lines.{line_value_of}, specs.Operands.{steady_value, steady_limit}, specs.declared.line.Line.{Line}, specs.declared.steady.Steady.{Steady}}
+use Rattle.mob_arith.{specs.Operations.{sum_of, difference_of, product_of, quotient_of}, specs.Summed.{IsSummed, IsTermwise}}
 
 pub line_summed : IsSummed {C = Line} {B = Ratio} line_value_of (λ c. c.from) (λ c. c.to) (λ a b. ⊤) (λ a b. record { from = a; to = b }) (λ x. x) sum_of difference_of product_of
 line_summed = record {

@@ -1,8 +1,7 @@
 -- The laws of sums, differences and multiples of courses.
 use Rattle.std.specs.Prelude.{◌≡◌, refl}
 use Rattle.mob_ratio.specs.Ratio.{Ratio, ◌+ℚ◌, ◌-ℚ◌, ◌*ℚ◌}
-use Rattle.mob_slice.specs.Operands.{steady_value, steady_limit}
-use Rattle.mob_slice.specs.declared.steady.Steady.{Steady}
+use Rattle.mob_slice.{specs.Operands.{steady_value, steady_limit}, specs.declared.steady.Steady.{Steady}}
 use Rattle.mob_arith.specs.Operations.{sum_of, difference_of, product_of}
 
 -- An operation is computed from the limits: the course between the results on the limits of c and

@@ -2,9 +2,7 @@
 use Rattle.std.specs.Prelude.{List, [], ◌∷◌, ◌++◌}
 use Rattle.mob_ratio.specs.Ratio.{Ratio}
 use Rattle.mob_span.specs.Meets.{PieceOf}
-use Rattle.mob_slice.specs.Sides.{SideOf, side_at, side_parts, at_ends}
-use Rattle.mob_slice.specs.Entries.{Entry}
-use Rattle.mob_slice.specs.declared.formula.Formula.TheVariants.{F1, F2}
+use Rattle.mob_slice.{specs.Sides.{SideOf, side_at, side_parts, at_ends}, specs.Entries.{Entry}, specs.declared.formula.Formula.TheVariants.{F1, F2}}
 
 -- The entries on one piece of an operation that is computed from the limits: F1 of the two operands
 -- at the ends of the piece, then F2 there, whose parts for two values are `parts`.

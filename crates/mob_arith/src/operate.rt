@@ -6,18 +6,18 @@ ghost use Rattle.mob_slice.specs.Sides.{operand_of, has_slices, given_at, piece_
 ghost use Rattle.mob_lift.specs.Given.{IsGiven, on_sides, AreLifted};
 
 use crate::operation::Operation;
+use mob_lift::normal::normal;
+use mob_lift::walks::Pieces;
 use mob_lift::{lift, single};
 use mob_list::fault::Fault;
-use mob_normal::normal;
 use mob_slice::{Course, Formula, Moving, Operand, Piece, Slice, Steady};
-use mob_sync::Pieces;
 use std::alloc::{AllocError, Global};
 
 // The operation on one piece.
 fn on_steps<A: Course, B: Course, O: Operation<A::Base, B::Base>>(
     alloc: Global,
     piece: &Piece<'_, A, B>,
-) -> Result<Vec<Slice<Steady<O::Value>>>, Fault<Formula>>
+) -> Result<Vec<Slice<Steady<O::Base>>>, Fault<Formula>>
     requires left { A.STEADY ≡ true }
     requires right { B.STEADY ≡ true }
     ensures given { IsGiven steady_value steady_limit steady_limit (λ v. v.items) (on_sides A.value_of B.value_of O.result_of (piece_of piece.now)) piece.now.span [] result }
@@ -33,7 +33,7 @@ fn steps_of<A: Course, B: Course, O: Operation<A::Base, B::Base>>(
     alloc: Global,
     a: Operand<'_, A>,
     b: Operand<'_, B>,
-) -> Result<Vec<Slice<Steady<O::Value>>>, Fault<Formula>>
+) -> Result<Vec<Slice<Steady<O::Base>>>, Fault<Formula>>
     requires left { A.STEADY ≡ true }
     requires right { B.STEADY ≡ true }
     requires moving { (has_slices (operand_of a) || has_slices (operand_of b)) ≡ true }
@@ -43,7 +43,7 @@ fn steps_of<A: Course, B: Course, O: Operation<A::Base, B::Base>>(
     lift(
         alloc,
         Pieces::new(a, b),
-        |piece: &Piece<'_, A, B>| -> Result<Vec<Slice<Steady<O::Value>>>, Fault<Formula>>
+        |piece: &Piece<'_, A, B>| -> Result<Vec<Slice<Steady<O::Base>>>, Fault<Formula>>
             requires left { A.STEADY ≡ true }
             requires right { B.STEADY ≡ true }
             ensures given { IsGiven steady_value steady_limit steady_limit (λ v. v.items) (on_sides A.value_of B.value_of O.result_of (piece_of piece.now)) piece.now.span [] result }
@@ -57,7 +57,7 @@ pub fn operate<A: Course, B: Course, O: Operation<A::Base, B::Base>>(
     alloc: Global,
     a: Operand<'_, A>,
     b: Operand<'_, B>,
-) -> Result<Option<Moving<Steady<O::Value>>>, AllocError>
+) -> Result<Option<Moving<Steady<O::Base>>>, AllocError>
     requires left { A.STEADY ≡ true }
     requires right { B.STEADY ≡ true }
     requires moving { (has_slices (operand_of a) || has_slices (operand_of b)) ≡ true }

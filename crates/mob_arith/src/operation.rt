@@ -10,12 +10,12 @@ use std::alloc::{AllocError, Global};
 /// An ordinary operation on two base values. It never overflows.
 pub trait Operation<A, B> {
     /// The type of the result.
-    type Value: BaseValue + Drop;
+    type Base: BaseValue + Drop;
 
-    ghost result_of: { A → B → Self.Value };
+    ghost result_of: { A → B → Self.Base };
 
     /// The result. The only error is a failed allocation.
-    fn apply(alloc: Global, a: &A, b: &B) -> Result<Self::Value, AllocError>
+    fn apply(alloc: Global, a: &A, b: &B) -> Result<Self::Base, AllocError>
         ensures answer { IfOk result (λ z. z ≡ result_of a.now b.now) };
 }
 
@@ -23,7 +23,7 @@ pub trait Operation<A, B> {
 pub(crate) struct Conjunction;
 
 impl Operation<bool, bool> for Conjunction {
-    type Value = bool;
+    type Base = bool;
 
     ghost result_of = { both_hold };
 
@@ -36,7 +36,7 @@ impl Operation<bool, bool> for Conjunction {
 pub(crate) struct Disjunction;
 
 impl Operation<bool, bool> for Disjunction {
-    type Value = bool;
+    type Base = bool;
 
     ghost result_of = { one_holds };
 
@@ -49,7 +49,7 @@ impl Operation<bool, bool> for Disjunction {
 pub(crate) struct Exclusion;
 
 impl Operation<bool, bool> for Exclusion {
-    type Value = bool;
+    type Base = bool;
 
     ghost result_of = { differ };
 
@@ -62,7 +62,7 @@ impl Operation<bool, bool> for Exclusion {
 pub struct Joining;
 
 impl Operation<Text, Text> for Joining {
-    type Value = Text;
+    type Base = Text;
 
     ghost result_of = { text_of };
 

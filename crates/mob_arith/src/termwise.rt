@@ -17,11 +17,11 @@ ghost use Rattle.mob_arith.specs.Termwise.{entries_at_ends};
 
 use crate::summed::Summed;
 use mob_frac::Frac;
+use mob_lift::normal::normal;
+use mob_lift::walks::Pieces;
 use mob_lift::{lift, listed};
 use mob_list::fault::Fault;
-use mob_normal::normal;
 use mob_slice::{Course, Formula, Line, Moving, Operand, Piece, Slice, Steady};
-use mob_sync::Pieces;
 use std::alloc::Global;
 
 /// An operation on the values of two courses that is computed from their limits: its result is a

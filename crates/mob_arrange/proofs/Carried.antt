@@ -1,15 +1,9 @@
 -- An order of the values of rows is an order of the rows.
+use Rattle.std.{specs.List.{filter}, specs.List.Sorted.{IsPermutation, IsSorted, IsSortedBy, IsStable, ties}, specs.Cmp.{IsStrictWeakOrder}, specs.Ordering.{is_lt, ordering_then}}
 use Rattle.std.proofs.Common.{◌≡◌, ◌⊎◌, inl, inr, ℕ, ℤ, zero, suc, ◌+◌, ◌<◌, Bool, true, false, cond, List, [], ◌∷◌, length, map, take, refl, sym, ap, ap₂, subst, ◌∙◌, true≢false, arith}
-use Rattle.std.specs.List.{filter}
-use Rattle.std.specs.List.Sorted.{IsPermutation, IsSorted, IsSortedBy, IsStable, ties}
-use Rattle.std.specs.Cmp.{IsStrictWeakOrder}
-use Rattle.std.specs.Ordering.{is_lt, ordering_then}
-use Rattle.std.proofs.lemmas.List.{get_or-map}
-use Rattle.std.proofs.lemmas.List.Sorted.{IsPermutation-map}
+use Rattle.std.{proofs.lemmas.List.{get_or-map}, proofs.lemmas.List.Sorted.{IsPermutation-map}}
 use Rattle.mob_value.specs.declared.value.Value.{Value}
-use Rattle.mob_arrange.specs.Keyed.{Keyed, row_of_values}
-use Rattle.mob_arrange.specs.Order.{compare_key, first_key, other_keys, compare_keys, compare_rows, IsOrderedByKeys}
-use Rattle.mob_arrange.proofs.Orders.{rows_ranked}
+use Rattle.mob_arrange.{specs.Keyed.{Keyed, row_of_values}, specs.Order.{compare_key, first_key, other_keys, compare_keys, compare_rows, IsOrderedByKeys}, proofs.Orders.{rows_ranked}}
 
 module _ {X Y : Type 0} (f : X → Y) where
   filtered : (p : Y → Bool) (xs : List X) → filter p (map f xs) ≡ map f (filter (λ x. p (f x)) xs)

@@ -1,12 +1,8 @@
 -- Rows are cut and printed.
-use Rattle.std.proofs.Common.{◌≡◌, ℕ, ℤ, Bool, List, [], ◌∷◌, Option, Some, None, map, drop, refl, sym, ap, subst}
-use Rattle.std.proofs.lemmas.List.{take-map}
+use Rattle.std.{proofs.Common.{◌≡◌, ℕ, ℤ, Bool, List, [], ◌∷◌, Option, Some, None, map, drop, refl, sym, ap, subst}, proofs.lemmas.List.{take-map}}
 use Rattle.mob_value.specs.declared.value.Value.{Value}
 use Rattle.mob_literal.specs.Fields.{field_text}
-use Rattle.mob_arrange.specs.Keyed.{Keyed, row_of_values}
-use Rattle.mob_arrange.specs.Order.{IsOrderedByKeys}
-use Rattle.mob_arrange.specs.Rows.{AreDistinct, limited}
-use Rattle.mob_arrange.specs.RowsText.{IsTextOfGiven, IsTextOfArranged}
+use Rattle.mob_arrange.{specs.Keyed.{Keyed, row_of_values}, specs.Order.{IsOrderedByKeys}, specs.Rows.{AreDistinct, limited}, specs.RowsText.{IsTextOfGiven, IsTextOfArranged}}
 
 -- cutting and then printing is printing and then cutting
 pub cut_before : {X Y : Type 0} (f : X → Y) (limit : Option ℕ) (xs : List X) → map f (limited limit xs) ≡ limited limit (map f xs)

@@ -1,17 +1,12 @@
 -- The order of rows is total up to ties.
-use Rattle.std.proofs.Common.{◌≡◌, ℕ, pos, Bool, true, false, List, [], ◌∷◌, refl, ap, ◌∙◌, subst}
-use Rattle.std.specs.Cmp.{IsTotalOrder, nat_cmp_total, bool_cmp_total, on_total, back_total, then_total, IsStrictWeakOrder}
-use Rattle.std.specs.Ordering.{bool_cmp, nat_cmp, ordering_then, then_cmp, on, is_lt}
-use Rattle.std.specs.declared.cmp.Ordering.{Ordering}
-use Rattle.std.specs.declared.cmp.Ordering.TheVariants.{Less, Equal, Greater}
-use Rattle.std.proofs.lemmas.List.MinMax.{ranks_by}
+use Rattle.std.{specs.Cmp.{IsTotalOrder, nat_cmp_total, bool_cmp_total, on_total, back_total, then_total, IsStrictWeakOrder}, specs.Ordering.{bool_cmp, nat_cmp, ordering_then, then_cmp, on, is_lt}}
+use Rattle.std.{specs.declared.cmp.Ordering.{Ordering}, specs.declared.cmp.Ordering.TheVariants.{Less, Equal, Greater}}
+use Rattle.std.{proofs.Common.{◌≡◌, ℕ, pos, Bool, true, false, List, [], ◌∷◌, refl, ap, ◌∙◌, subst}, proofs.lemmas.List.MinMax.{ranks_by}}
 use Rattle.mob_ratio.specs.Ratio.{Ratio, over}
-use Rattle.mob_slice.specs.Ranks.{compare_ratio, compare_bytes}
-use Rattle.mob_slice.specs.RankLaws.{ranking_bytes, ranking_ratio}
+use Rattle.mob_slice.{specs.Ranks.{compare_ratio, compare_bytes}, specs.RankLaws.{ranking_bytes, ranking_ratio}}
 use Rattle.mob_value.specs.declared.value.Value.{Value}
 use Rattle.mob_value.specs.declared.value.Value.TheVariants.{Null, Bool as Truth, Number, Text, Moment, Point, Polygon, Span, SpanSet, Box, MovingBool, MovingInt, MovingFrac, MovingText, MovingPoint}
-use Rattle.mob_arrange.specs.Keyed.{Keyed}
-use Rattle.mob_arrange.specs.Order.{type_rank, compare_values, compare_key, first_key, other_keys, compare_keys, compare_rows}
+use Rattle.mob_arrange.{specs.Keyed.{Keyed}, specs.Order.{type_rank, compare_values, compare_key, first_key, other_keys, compare_keys, compare_rows}}
 
 nothing : Ratio
 nothing = over (pos 0) 1

@@ -1,9 +1,7 @@
 -- The value at a place of a row.
-use Rattle.std.proofs.Common.{◌≡◌, ◌∙◌, refl, sym, ap, ap₂, Bool, ℕ, zero, suc, ◌+◌, ◌<◌, arith, List, [], ◌∷◌, length, get_or, map, drop}
-use Rattle.std.proofs.lemmas.List.{get_or-map, length-map}
+use Rattle.std.{specs.declared.cmp.Ordering.{Ordering}, specs.declared.cmp.Ordering.TheVariants.{Equal}}
+use Rattle.std.{proofs.Common.{◌≡◌, ◌∙◌, refl, sym, ap, ap₂, Bool, ℕ, zero, suc, ◌+◌, ◌<◌, arith, List, [], ◌∷◌, length, get_or, map, drop}, proofs.lemmas.List.{get_or-map, length-map}}
 use Rattle.mob_value.specs.declared.value.Value.{Value}
-use Rattle.std.specs.declared.cmp.Ordering.{Ordering}
-use Rattle.std.specs.declared.cmp.Ordering.TheVariants.{Equal}
 use Rattle.mob_arrange.specs.Order.{compare_key, compare_keys, first_key, other_keys}
 
 -- the first value after so many others

@@ -1,19 +1,11 @@
 -- The rows seen so far, as a set of their texts.
-use Rattle.std.proofs.Common.{◌≡◌, ◌⊎◌, inl, inr, ℕ, ◌+◌, ◌<◌, Bool, true, false, List, [], ◌∷◌, ◌++◌, length, get_or, drop, map, nat_eq, Bor, not, ◌||◌, refl, sym, ap, ap₂, ◌∙◌, subst, append_assoc, append-nil, true≢false, arith}
-use Rattle.std.specs.declared.string.String.{String}
-use Rattle.std.specs.declared.vec.Vec.{Vec}
-use Rattle.std.specs.Bool.{Decides}
-use Rattle.std.specs.List.{Contains, list_any}
-use Rattle.std.specs.Prelude.{if◌then◌else◌, string_bytes}
-use Rattle.std.specs.Cmp.{IsEquivalence}
-use Rattle.std.specs.Cmp.Lexicographic.{pointwise, pointwise_decides, bytes_decides, lists_equiv, nat_list_eq_equiv}
-use Rattle.std.specs.Cmp.Derive.Mapped.{pointwise-map}
-use Rattle.std.proofs.lemmas.Map.Views.{list_any-from_Contains, Contains-from_any}
-use Rattle.std.proofs.lemmas.List.{drop_all, map-append}
+use Rattle.std.{specs.declared.string.String.{String}, specs.declared.vec.Vec.{Vec}, specs.Bool.{Decides}, specs.List.{Contains, list_any}, specs.Prelude.{if◌then◌else◌, string_bytes}}
+use Rattle.std.{specs.Cmp.{IsEquivalence}, specs.Cmp.Lexicographic.{pointwise, pointwise_decides, bytes_decides, lists_equiv, nat_list_eq_equiv}, specs.Cmp.Derive.Mapped.{pointwise-map}}
+use Rattle.std.proofs.Common.{◌≡◌, ◌⊎◌, inl, inr, ℕ, ◌+◌, ◌<◌, Bool, true, false, List, [], ◌∷◌, ◌++◌, length, get_or, drop, map, nat_eq, Bor, not, ◌||◌, refl, sym, ap, ap₂, ◌∙◌, subst, append_assoc}
+use Rattle.std.{proofs.Common.{append-nil, true≢false, arith}, proofs.lemmas.Map.Views.{list_any-from_Contains, Contains-from_any}, proofs.lemmas.List.{drop_all, map-append}}
 use Rattle.mob_list.proofs.Entries.{drop_read}
 use Rattle.indexmap.specs.IndexSet.{insert_key}
-use Rattle.mob_arrange.specs.TextsSeen.{strings_of}
-use Rattle.mob_arrange.specs.Rows.{AreFirst}
+use Rattle.mob_arrange.{specs.TextsSeen.{strings_of}, specs.Rows.{AreFirst}}
 
 -- whether two lists of texts are one
 same_texts : List (List ℕ) → List (List ℕ) → Bool

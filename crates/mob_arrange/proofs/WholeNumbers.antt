@@ -1,13 +1,7 @@
 -- Whole numbers compare like integers.
+use Rattle.std.{specs.Cmp.{int_ranks}, specs.Ordering.{int_cmp, MatchOrdering}, specs.declared.cmp.Ordering.{Ordering}, specs.declared.cmp.Ordering.TheVariants.{Less, Equal, Greater}}
 use Rattle.std.proofs.Common.{◌≡◌, ◌<ℤ◌, ℤ, refl, sym, ap, ◌∙◌, subst, arith}
-use Rattle.std.specs.Cmp.{int_ranks}
-use Rattle.std.specs.Ordering.{int_cmp, MatchOrdering}
-use Rattle.std.specs.declared.cmp.Ordering.{Ordering}
-use Rattle.std.specs.declared.cmp.Ordering.TheVariants.{Less, Equal, Greater}
-use Rattle.mob_ratio.specs.Ratio.{Ratio, over, whole, ◌<ℚ◌}
-use Rattle.mob_ratio.proofs.RatioLemmas.{over-self}
-use Rattle.mob_ratio.proofs.Clear.{whole-over, same_lt}
-use Rattle.mob_ratio.proofs.Order.{lt-before, before-back, before-self}
+use Rattle.mob_ratio.{specs.Ratio.{Ratio, over, whole, ◌<ℚ◌}, proofs.RatioLemmas.{over-self}, proofs.Clear.{whole-over, same_lt}, proofs.Order.{lt-before, before-back, before-self}}
 use Rattle.mob_slice.specs.Ranks.{compare_ratio}
 
 -- a fraction with the denominator 1

@@ -1,8 +1,7 @@
 -- What a row stores about its first value.
 use Rattle.std.specs.Prelude.{◌≡◌, ℤ, negsuc, List}
 use Rattle.mob_ratio.specs.Ratio.{whole}
-use Rattle.mob_value.specs.declared.value.Value.{Value}
-use Rattle.mob_value.specs.declared.value.Value.TheVariants.{Number}
+use Rattle.mob_value.{specs.declared.value.Value.{Value}, specs.declared.value.Value.TheVariants.{Number}}
 use Rattle.mob_arrange.specs.Order.{first_key}
 
 -- the number that stands for no knowledge

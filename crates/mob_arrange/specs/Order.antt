@@ -1,9 +1,6 @@
 -- The order of rows by their keys.
-use Rattle.std.specs.Prelude.{Bool, cond, ℕ, List, [], ◌∷◌}
-use Rattle.std.specs.List.Sorted.{IsPermutation, IsSorted, IsStable}
-use Rattle.std.specs.Ordering.{bool_cmp, nat_cmp, ordering_then}
-use Rattle.std.specs.declared.cmp.Ordering.{Ordering}
-use Rattle.std.specs.declared.cmp.Ordering.TheVariants.{Equal}
+use Rattle.std.{specs.Prelude.{Bool, cond, ℕ, List, [], ◌∷◌}, specs.List.Sorted.{IsPermutation, IsSorted, IsStable}, specs.Ordering.{bool_cmp, nat_cmp, ordering_then}}
+use Rattle.std.{specs.declared.cmp.Ordering.{Ordering}, specs.declared.cmp.Ordering.TheVariants.{Equal}}
 use Rattle.mob_slice.specs.Ranks.{compare_ratio, compare_bytes}
 use Rattle.mob_value.specs.declared.value.Value.{Value}
 use Rattle.mob_value.specs.declared.value.Value.TheVariants.{Null, Bool as Truth, Number, Text, Moment, Point, Polygon, Span, SpanSet, Box, MovingBool, MovingInt, MovingFrac, MovingText, MovingPoint}

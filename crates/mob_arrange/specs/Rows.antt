@@ -1,8 +1,6 @@
 -- The rows of an answer.
-use Rattle.std.specs.Prelude.{◌≡◌, ◌⊎◌, Bool, true, false, ℕ, List, [], ◌∷◌, ◌++◌, map, take, Option, Some, None}
-use Rattle.std.specs.List.{Contains}
-use Rattle.mob_arrange.specs.Keyed.{Keyed}
-use Rattle.mob_arrange.specs.Order.{IsOrderedByKeys}
+use Rattle.std.{specs.Prelude.{◌≡◌, ◌⊎◌, Bool, true, false, ℕ, List, [], ◌∷◌, ◌++◌, map, take, Option, Some, None}, specs.List.{Contains}}
+use Rattle.mob_arrange.{specs.Keyed.{Keyed}, specs.Order.{IsOrderedByKeys}}
 
 -- kept are the entries of xs, in order, without those equal to an earlier one, where those of
 -- `before` come before all

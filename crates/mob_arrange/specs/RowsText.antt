@@ -1,8 +1,7 @@
 -- The text of an answer.
 use Rattle.std.specs.Prelude.{◌≡◌, Bool, ℕ, List, Option}
 use Rattle.mob_records.specs.AnswerText.{answer_text}
-use Rattle.mob_arrange.specs.Keyed.{Keyed}
-use Rattle.mob_arrange.specs.Rows.{AreDistinct, AreArranged, limited}
+use Rattle.mob_arrange.{specs.Keyed.{Keyed}, specs.Rows.{AreDistinct, AreArranged, limited}}
 
 -- the text of these names and of the rows given of sorted rows
 abbrev pub IsTextOfGiven : List (List ℕ) → Bool → Option ℕ → List (List (List ℕ)) → List ℕ → Type 0

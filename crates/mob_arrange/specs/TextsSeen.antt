@@ -1,8 +1,5 @@
 -- The texts that a vector borrows or owns.
-use Rattle.std.specs.Prelude.{ℕ, List, map, string_bytes}
-use Rattle.std.specs.Borrow.{Bor}
-use Rattle.std.specs.declared.string.String.{String}
-use Rattle.std.specs.declared.vec.Vec.{Vec}
+use Rattle.std.{specs.Prelude.{ℕ, List, map, string_bytes}, specs.Borrow.{Bor}, specs.declared.string.String.{String}, specs.declared.vec.Vec.{Vec}}
 
 abbrev pub texts_of : {A : Type 0} → Vec (Bor (List ℕ)) A → List (List ℕ)
 texts_of v = map (λ b. b.now) v.items

@@ -3,7 +3,7 @@ ghost use Rattle.std.specs.Prelude.{◌≡◌, ◌++◌, OnOk, string_bytes};
 ghost use Rattle.mob_literal.specs.Fields.{field_text};
 ghost use Rattle.mob_arrange.specs.FoundValue.{found_value};
 
-use crate::found::Found;
+use crate::found::FoundValue;
 use crate::rows::Row;
 use mob_literal::write_field;
 use mob_records::FieldPrinter;
@@ -12,13 +12,13 @@ use mob_value::Value;
 use std::alloc::AllocError;
 
 // Appends the field of a value.
-fn write_found(found: Found<'_>, epoch: &Epoch, into: &mut String) -> Result<(), AllocError>
+fn write_found(found: FoundValue<'_>, epoch: &Epoch, into: &mut String) -> Result<(), AllocError>
     ensures written { OnOk result (string_bytes into.new ≡ string_bytes into.old ++ field_text epoch.now (found_value found.entry)) }
 {
     match found {
-        Found::Number(number) => write_number(number, into),
-        Found::Value(value) => write_field(value, epoch, into),
-        Found::Nothing => write_field(&Value::Null, epoch, into),
+        FoundValue::Number(number) => write_number(number, into),
+        FoundValue::Value(value) => write_field(value, epoch, into),
+        FoundValue::Nothing => write_field(&Value::Null, epoch, into),
     }
 }
 

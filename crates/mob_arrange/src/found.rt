@@ -5,7 +5,7 @@ use mob_value::Value;
 
 /// A value as a row holds it.
 #[derive(Clone, Copy)]
-pub enum Found<'a> {
+pub enum FoundValue<'a> {
     /// A number.
     Number(&'a Frac),
     /// Any value.

@@ -9,7 +9,7 @@ ghost use Rattle.mob_arrange.specs.RowValues.{row_value};
 ghost use Rattle.mob_arrange.specs.FoundValue.{found_value};
 ghost use Rattle.mob_arrange.specs.Order.{type_rank, compare_values, compare_key, first_key, other_keys, compare_keys, IsOrderedByKeys};
 
-use crate::found::Found;
+use crate::found::FoundValue;
 use crate::listed::{Listed, others};
 use crate::row_values::RowValue;
 use crate::rows::Row;
@@ -158,13 +158,13 @@ fn compare_listed(falls: &[bool], a: &Listed<'_>, b: &Listed<'_>) -> Ordering
     }
 }
 
-fn found_place(found: Found<'_>) -> u8
+fn found_place(found: FoundValue<'_>) -> u8
     ensures place { result ≡ type_rank (found_value found.entry) }
 {
     match found {
-        Found::Number(_) => 1,
-        Found::Value(value) => place(value),
-        Found::Nothing => 14,
+        FoundValue::Number(_) => 1,
+        FoundValue::Value(value) => place(value),
+        FoundValue::Nothing => 14,
     }
 }
 
@@ -188,14 +188,14 @@ fn compare_to_number(a: &Value, b: &Frac) -> Ordering
     }
 }
 
-fn compare_found(a: Found<'_>, b: Found<'_>) -> Ordering
+fn compare_found(a: FoundValue<'_>, b: FoundValue<'_>) -> Ordering
     ensures order { result ≡ compare_values (found_value a.entry) (found_value b.entry) }
 {
     match (a, b) {
-        (Found::Number(a), Found::Number(b)) => compare_numbers(a, b),
-        (Found::Number(a), Found::Value(b)) => compare_number(a, b),
-        (Found::Value(a), Found::Number(b)) => compare_to_number(a, b),
-        (Found::Value(a), Found::Value(b)) => compare(a, b),
+        (FoundValue::Number(a), FoundValue::Number(b)) => compare_numbers(a, b),
+        (FoundValue::Number(a), FoundValue::Value(b)) => compare_number(a, b),
+        (FoundValue::Value(a), FoundValue::Number(b)) => compare_to_number(a, b),
+        (FoundValue::Value(a), FoundValue::Value(b)) => compare(a, b),
         _ => found_place(a).cmp(&found_place(b)),
     }
 }

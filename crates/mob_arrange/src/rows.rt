@@ -4,7 +4,7 @@ ghost use Rattle.mob_arrange.specs.Order.{first_key};
 ghost use Rattle.mob_arrange.specs.RowValues.{row_value};
 ghost use Rattle.mob_arrange.specs.FoundValue.{found_value};
 
-use crate::found::Found;
+use crate::found::FoundValue;
 use crate::listed::Listed;
 use crate::numbers::Numbers;
 use crate::row_values::RowValue;
@@ -56,23 +56,23 @@ fn numbers_of(keys: &[RowValue<'_>], fields: &[RowValue<'_>]) -> Option<Numbers>
 }
 
 // The number at a place.
-fn number_at(numbers: &Numbers, place: usize) -> Found<'_>
+fn number_at(numbers: &Numbers, place: usize) -> FoundValue<'_>
     ensures value { found_value result ≡ first_key (drop place numbers.now) }
 {
     match numbers.get(place) {
-        Some(number) => Found::Number(number),
-        None => Found::Nothing,
+        Some(number) => FoundValue::Number(number),
+        None => FoundValue::Nothing,
     }
 }
 
 // The value at a place.
-fn value_at<'a>(values: &'a [RowValue<'_>], place: usize) -> Found<'a>
+fn value_at<'a>(values: &'a [RowValue<'_>], place: usize) -> FoundValue<'a>
     ensures value { found_value result ≡ first_key (drop place (map row_value values.now)) }
 {
     if place < values.len() {
-        Found::Value(values[place].get())
+        FoundValue::Value(values[place].get())
     } else {
-        Found::Nothing
+        FoundValue::Nothing
     }
 }
 
@@ -105,7 +105,7 @@ impl<'a> Row<'a> {
     }
 
     /// The value at a place from 0.
-    pub fn get(&self, place: usize) -> Found<'_>
+    pub fn get(&self, place: usize) -> FoundValue<'_>
         ensures value { found_value result ≡ first_key (drop place self.now) }
     {
         match &self.form {

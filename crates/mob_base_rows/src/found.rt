@@ -1,9 +1,9 @@
 //! The result of a search.
 ghost use Rattle.std.specs.Prelude.{◌≡◌, ◌<◌};
 
+use mob_list::steps::Steps;
 use mob_rtree::RTree;
 use mob_stbox::StBox;
-use mob_steps::Steps;
 use std::alloc::Global;
 use std::marker::Brand;
 use std::sync::ledger::{Blank, Ledger};

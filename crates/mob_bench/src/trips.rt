@@ -4,13 +4,13 @@ ghost use Rattle.mob_knn.specs.Nearest.{AreOfTrips};
 
 use mob_frac::Frac;
 use mob_knn::{index_of, nearest};
+use mob_list::steps::Steps;
 use mob_near::approach_squared;
 use mob_outside::Source;
 use mob_plane::Point;
 use mob_rtree::RTree;
 use mob_scalar::Epoch;
 use mob_slice::{Moving, Operand, PlaneLine};
-use mob_steps::Steps;
 use mob_trips::{read_trips, split_rows};
 use std::alloc::{AllocError, Global};
 use std::marker::Brand;

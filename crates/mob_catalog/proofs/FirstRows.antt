@@ -1,15 +1,11 @@
 -- The rows of a list put into a table at once.
-use Rattle.std.proofs.Common.{◌≡◌, ◌∙◌, refl, sym, ap, subst, ℕ, zero, suc, arith, ◌+◌, ◌<◌, length, List, [], ◌∷◌, ◌++◌, get_or, set, map, append_assoc, append-nil}
 use Rattle.std.specs.List.{AllByRecursion, AllZip}
+use Rattle.std.proofs.Common.{◌≡◌, ◌∙◌, refl, sym, ap, subst, ℕ, zero, suc, arith, ◌+◌, ◌<◌, length, List, [], ◌∷◌, ◌++◌, get_or, set, map, append_assoc, append-nil}
 use Rattle.std.proofs.lemmas.List.{nil_from_length}
-use Rattle.mob_value.specs.declared.value.Value.{Value}
-use Rattle.mob_value.specs.declared.store.Table.{Table}
-use Rattle.mob_catalog.specs.declared.catalog.TableHead.{TableHead}
-use Rattle.mob_catalog.specs.declared.indexes.TableIndex.{TableIndex}
+use Rattle.mob_value.{specs.declared.value.Value.{Value}, specs.declared.store.Table.{Table}}
+use Rattle.mob_catalog.{specs.declared.catalog.TableHead.{TableHead}, specs.declared.indexes.TableIndex.{TableIndex}}
 use Rattle.mob_catalog.specs.Catalogue.{Catalogue, live_of, rows_put, with_all_rows, with_changed, with_last_row, with_live_row, with_row}
-use Rattle.mob_catalog.specs.Kept.{IsEntered, IsKeptTogether, numbers_from, with_last_rows, with_live_rows}
-use Rattle.mob_catalog.proofs.Changed.{length_changed}
-use Rattle.mob_catalog.proofs.Together.{kept_row}
+use Rattle.mob_catalog.{specs.Kept.{IsEntered, IsKeptTogether, numbers_from, with_last_rows, with_live_rows}, proofs.Changed.{length_changed}, proofs.Together.{kept_row}}
 
 -- one number more
 pub numbers_more : (n count : ℕ) → numbers_from n (count + 1) ≡ numbers_from n count ++ (n + count) ∷ []

@@ -1,14 +1,9 @@
 -- An index that holds the entries of its rows has a box for each of them.
-use Rattle.std.proofs.Common.{List, [], ◌∷◌, ℕ, Option, Some, map}
-use Rattle.std.specs.List.{AllByRecursion}
-use Rattle.std.specs.Prelude.{◌≡◌}
+use Rattle.std.{specs.List.{AllByRecursion}, specs.Prelude.{◌≡◌}, proofs.Common.{List, [], ◌∷◌, ℕ, Option, Some, map}}
 use Rattle.mob_list.proofs.Each.{each_map}
 use Rattle.mob_rtree_nodes.specs.Tree.{EntryOf}
-use Rattle.mob_value.specs.declared.value.Value.{Value}
-use Rattle.mob_value.specs.declared.value.Value.TheVariants.{MovingPoint}
-use Rattle.mob_catalog.specs.Catalogue.{Catalogue, live_rows}
-use Rattle.mob_catalog.specs.Indexes.{AreEntries, HasBoxesOn, HasOwnBox, IndexHolds, OnWay, table_value}
-use Rattle.mob_catalog.specs.declared.indexes.TableIndex.{TableIndex}
+use Rattle.mob_value.{specs.declared.value.Value.{Value}, specs.declared.value.Value.TheVariants.{MovingPoint}}
+use Rattle.mob_catalog.{specs.Catalogue.{Catalogue, live_rows}, specs.Indexes.{AreEntries, HasBoxesOn, HasOwnBox, IndexHolds, OnWay, table_value}, specs.declared.indexes.TableIndex.{TableIndex}}
 
 row_box : (o : Option Value) (row : ℕ) (value : ℕ → Option Value) (rows : List ℕ) (entries : List EntryOf) → ((es : List EntryOf) → AreEntries value rows es → AllByRecursion (λ r. HasOwnBox (value r)) rows)
     → OnWay o (λ b. (rest : List EntryOf) × (entries ≡ (b, row) ∷ rest) × AreEntries value rows rest) (AreEntries value rows entries) → HasOwnBox o × AllByRecursion (λ r. HasOwnBox (value r)) rows

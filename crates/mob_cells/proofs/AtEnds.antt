@@ -1,20 +1,11 @@
 -- The gaps at the ends of a piece, and their entries.
-use Rattle.std.specs.Prelude.{◌≡◌, Bool, true, false, List, ◌++◌, Some, None, refl}
-use Rattle.std.proofs.Common.{ap, sym, ◌∙◌, subst, inl, inr}
+use Rattle.std.{specs.Prelude.{◌≡◌, Bool, true, false, List, ◌++◌, Some, None, refl}, proofs.Common.{ap, sym, ◌∙◌, subst, inl, inr}}
 use Rattle.mob_ratio.specs.Ratio.{Ratio}
 use Rattle.mob_frac.specs.Formula.{AllFit}
-use Rattle.mob_span.specs.Span.{SpanOf, has, has_instant}
-use Rattle.mob_span.specs.Meets.{PieceOf}
-use Rattle.mob_slice.specs.Comparison.{IsComparison, gap_parts, gaps_at}
-use Rattle.mob_slice.specs.Course.{IsCourse}
-use Rattle.mob_slice.specs.Sides.{SideOf, Moves, Stays, side_at, side_parts, at_ends, HoldsSide, HoldsPiece, HasValues}
-use Rattle.mob_slice.specs.declared.comparison.Rel.{Rel}
-use Rattle.mob_slice.specs.Entries.{IsFirst}
-use Rattle.mob_slice.specs.declared.comparison.Gaps.{Gaps}
-use Rattle.mob_slice.specs.declared.formula.Formula.{Formula}
-use Rattle.mob_slice.specs.declared.formula.Formula.TheVariants.{F1, F2}
-use Rattle.mob_slice.specs.declared.slice.Slice.{Slice}
-use Rattle.mob_slice.proofs.Cuts.{all_both, all_first, all_second, cut_is, level_is}
+use Rattle.mob_span.{specs.Span.{SpanOf, has, has_instant}, specs.Meets.{PieceOf}}
+use Rattle.mob_slice.{specs.Comparison.{IsComparison, gap_parts, gaps_at}, specs.Course.{IsCourse}, specs.Sides.{SideOf, Moves, Stays, side_at, side_parts, at_ends, HoldsSide, HoldsPiece, HasValues}}
+use Rattle.mob_slice.{specs.declared.comparison.Rel.{Rel}, specs.Entries.{IsFirst}, specs.declared.comparison.Gaps.{Gaps}, specs.declared.formula.Formula.{Formula}}
+use Rattle.mob_slice.{specs.declared.formula.Formula.TheVariants.{F1, F2}, specs.declared.slice.Slice.{Slice}, proofs.Cuts.{all_both, all_first, all_second, cut_is, level_is}}
 use Rattle.mob_cells.specs.Gaps.{piece_gaps, end_gaps, entries_of_ends}
 
 module _ {C B : Type 0} (value : C → Ratio → Ratio → Ratio → B) (lines : C → Ratio → Ratio → Ratio → List Ratio) (gaps : B → B → Gaps) (p : PieceOf (SideOf C B) (SideOf C B)) where

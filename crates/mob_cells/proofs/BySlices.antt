@@ -1,32 +1,19 @@
 -- A restriction, slice by slice.
-use Rattle.std.specs.Prelude.{◌≡◌, Bool, true, false, cond, ℕ, zero, suc, slice_get, List, [], ◌∷◌, ◌++◌, Option, Some, None, MatchOption, refl}
-use Rattle.std.specs.List.{flat_map}
+use Rattle.std.{specs.Prelude.{◌≡◌, Bool, true, false, cond, ℕ, zero, suc, slice_get, List, [], ◌∷◌, ◌++◌, Option, Some, None, MatchOption, refl}, specs.List.{flat_map}}
 use Rattle.std.proofs.Common.{sym, ◌∙◌, subst, append_assoc, append-nil}
 use Rattle.mob_ratio.specs.Ratio.{Ratio}
-use Rattle.mob_span.specs.Span.{has}
-use Rattle.mob_slice.specs.Slices.{value_at, IsOrdered, IsSound, IsClearOf, OfHead}
-use Rattle.mob_span.specs.Neighbours.{is_clear}
-use Rattle.mob_span.specs.Pieces.{piece_at, PiecesAreClear}
-use Rattle.mob_slice.specs.Cut.{slice_value}
-use Rattle.mob_list.specs.Faults.{OnCause}
-use Rattle.mob_slice.specs.Entries.{Entry, IsFirst}
-use Rattle.mob_slice.specs.declared.slice.Slice.{Slice}
-use Rattle.mob_slice.specs.declared.formula.Formula.{Formula}
-use Rattle.mob_list.specs.declared.fault.Fault.{Fault}
-use Rattle.mob_list.specs.declared.fault.Fault.TheVariants.{Because, NoMemory}
-use Rattle.mob_lifted.specs.OnPiece.{AreKeptOn}
-use Rattle.mob_cells.specs.Restricted.{kept_value}
-use Rattle.mob_cells.specs.Restricted.{where_wanted, AreRestricted}
-use Rattle.mob_lifted.specs.Piecewise.{AreGivenInOrder, IsPiecewise}
-use Rattle.mob_lifted.proofs.Making.{is_lifted}
-use Rattle.mob_lifted.proofs.Options.{none_some, same_some}
-use Rattle.mob_lifted.proofs.Firsts.{first_joined, first_front}
+use Rattle.mob_span.{specs.Span.{has}, specs.Neighbours.{is_clear}, specs.Pieces.{piece_at, PiecesAreClear}}
+use Rattle.mob_slice.{specs.Slices.{value_at, IsRisingInTime, IsSound, IsClearOf, OfHead}, specs.Cut.{slice_value}, specs.Entries.{Entry, IsFirst}, specs.declared.slice.Slice.{Slice}}
+use Rattle.mob_slice.{specs.declared.formula.Formula.{Formula}, specs.OnPiece.{AreKeptOn}, specs.Piecewise.{AreGivenInOrder, IsPiecewise}, proofs.Making.{is_lifted}}
+use Rattle.mob_slice.{proofs.Options.{none_some, same_some}, proofs.JoinedFirsts.{first_joined, first_front}}
+use Rattle.mob_list.{specs.Faults.{OnCause}, specs.declared.fault.Fault.{Fault}, specs.declared.fault.Fault.TheVariants.{Because, NoMemory}}
+use Rattle.mob_cells.specs.Restricted.{kept_value, where_wanted, AreRestricted}
 
 module _ {C B : Type 0} (value : C → Ratio → Ratio → Ratio → B) (start end : C → B) (want : Bool) (holds : Ratio → B → Bool) where
   abbrev pub GivesSlice : Slice C → List (Slice C) → Type 0
   GivesSlice s v = AreKeptOn value start end (λ t. kept_value want (holds t (slice_value value s t)) (slice_value value s t)) s.span v
 
-  clear_parts : (v : List (Slice C)) → IsOrdered start end v → PiecesAreClear (λ s. s.span) v
+  clear_parts : (v : List (Slice C)) → IsRisingInTime start end v → PiecesAreClear (λ s. s.span) v
   clear_parts [] h = tt
   clear_parts (s ∷ v) h = (h.0.some, head s v h.1, clear_parts v h.2)
     where
@@ -49,7 +36,7 @@ module _ {C B : Type 0} (value : C → Ratio → Ratio → Ratio → B) (start e
   pub left_step : (all rest later out out' more : List (Slice C)) (s : Slice C) → rest ≡ s ∷ later → out' ≡ out ++ more → GivesSlice s more → IsLeft all rest out → IsLeft all later out'
   left_step all rest later out out' more s e n g m v k = rw (n, append_assoc out more v) (m (more ++ v) (subst (λ z. AreGivenInOrder (λ v. v) GivesSlice z (more ++ v)) (sym e) (more, v, g, k, refl)))
 
-  pub left_end : (all rest out : List (Slice C)) → rest ≡ [] → IsOrdered start end all → IsLeft all rest out → AreRestricted value start end want holds all out
+  pub left_end : (all rest out : List (Slice C)) → rest ≡ [] → IsRisingInTime start end all → IsLeft all rest out → AreRestricted value start end want holds all out
   left_end all rest out e h m =
       let l : IsPiecewise value start end (λ s. s.span) (λ v. v) GivesSlice all out = is_lifted value start end (λ s. s.span) (λ v. v) GivesSlice (λ p v k g. (g.ordered, g.inside)) all out (rw append-nil at (m [] (rw e refl))) (clear_parts all h) in
       record { ordered = l.ordered; values = λ t. found all t (value_at value out t) (l.at_each t) }
@@ -72,7 +59,7 @@ module _ {A : Type 0} (entries : A → List Entry) where
   pub fitting_end : (all rest : List A) → rest ≡ [] → IsFitting entries all rest → IsFirst (flat_map entries all) None
   fitting_end all rest e m = m.pass None (rw e refl)
 
-pub sound_at : {C B : Type 0} (start end : C → B) (v : List (Slice C)) (i : ℕ) (s : Slice C) → IsOrdered start end v → slice_get v i ≡ Some s → IsSound start end s
+pub sound_at : {C B : Type 0} (start end : C → B) (v : List (Slice C)) (i : ℕ) (s : Slice C) → IsRisingInTime start end v → slice_get v i ≡ Some s → IsSound start end s
 sound_at start end [] i s h e = none_some s e
 sound_at start end (r ∷ v) zero s h e = subst (IsSound start end) (same_some e) h.0
 sound_at start end (r ∷ v) (suc i) s h e = sound_at start end v i s h.2 e

@@ -1,23 +1,11 @@
 -- Comparisons by the signs of the gaps.
-use Rattle.std.specs.Prelude.{◌≡◌, Bool, true, false, cond, ◌&&◌, refl}
-use Rattle.std.specs.List.{AllByRecursion}
+use Rattle.std.{specs.Prelude.{◌≡◌, Bool, true, false, cond, ◌&&◌, refl}, specs.List.{AllByRecursion}, specs.declared.cmp.Ordering.TheVariants.{Less, Equal}, specs.Ordering.{is_eq}}
 use Rattle.std.proofs.Common.{ap, sym, ◌∙◌}
-use Rattle.std.specs.declared.cmp.Ordering.TheVariants.{Less, Equal}
-use Rattle.std.specs.Ordering.{is_eq}
-use Rattle.mob_ratio.specs.Ratio.{Ratio}
-use Rattle.mob_ratio.specs.Order.{before, same}
-use Rattle.mob_ratio.specs.Line.{line_at}
-use Rattle.mob_ratio.specs.Sign.{nil, sign_of}
-use Rattle.mob_ratio.proofs.Signs.{eq_sign}
+use Rattle.mob_ratio.{specs.Ratio.{Ratio}, specs.Order.{before, same}, specs.Line.{line_at}, specs.Sign.{nil, sign_of}, proofs.Signs.{eq_sign}}
 use Rattle.mob_span.specs.Span.{SpanOf}
-use Rattle.mob_slice.specs.Ranks.{holds}
-use Rattle.mob_slice.specs.Comparison.{IsComparison, MayAsk, gaps_at, relates_gaps}
-use Rattle.mob_slice.specs.declared.comparison.Rel.{Rel}
-use Rattle.mob_slice.specs.declared.comparison.Gaps.{Gaps}
+use Rattle.mob_slice.{specs.Ranks.{holds}, specs.Comparison.{IsComparison, MayAsk, gaps_at, relates_gaps}, specs.declared.comparison.Rel.{Rel}, specs.declared.comparison.Gaps.{Gaps}}
 use Rattle.mob_slice.specs.declared.comparison.Gaps.TheVariants.{Constant, One, Two}
-use Rattle.mob_cells.specs.Roots.{IsLevel}
-use Rattle.mob_cells.specs.Cells.{signs_of}
-use Rattle.mob_cells.specs.Gaps.{gap_ends, related_by}
+use Rattle.mob_cells.{specs.Roots.{IsLevel}, specs.Cells.{signs_of}, specs.Gaps.{gap_ends, related_by}}
 
 signs_related : (rel : Rel) (a b : Gaps) (s : SpanOf) (t : Ratio) → related_by rel (signs_of s (gap_ends a b) t) ≡ relates_gaps rel (gaps_at a b s.lower s.upper t)
 signs_related rel Constant b s t = refl

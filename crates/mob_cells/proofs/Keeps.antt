@@ -1,15 +1,8 @@
 -- A line keeps its sign on a cell.
-use Rattle.std.specs.Prelude.{◌≡◌, Bool, true, false, not, ◌&&◌, ◌||◌, refl}
-use Rattle.std.proofs.lemmas.Bool.{and_parts}
-use Rattle.std.proofs.Common.{arith}
-use Rattle.mob_ratio.specs.Ratio.{Ratio}
-use Rattle.mob_ratio.specs.Order.{before, up_to}
-use Rattle.mob_ratio.specs.Line.{line_at}
-use Rattle.mob_ratio.specs.Sign.{sign_of, opposite, root_at, sign_on, IsClearCell}
-use Rattle.mob_ratio.proofs.Order.{before-back, before-trans, before-neither}
-use Rattle.mob_span.specs.Span.{SpanOf, has}
-use Rattle.mob_span.specs.Neighbours.{is_inside}
-use Rattle.mob_ratio.proofs.Signs.{sign_open, sign_point, sign_short}
+use Rattle.std.{specs.Prelude.{◌≡◌, Bool, true, false, not, ◌&&◌, ◌||◌, refl}, proofs.lemmas.Bool.{and_parts}, proofs.Common.{arith}}
+use Rattle.mob_ratio.{specs.Ratio.{Ratio}, specs.Order.{before, up_to}, specs.Line.{line_at}, specs.Sign.{sign_of, opposite, root_at, sign_on, IsClearCell}}
+use Rattle.mob_ratio.{proofs.Order.{before-back, before-trans, before-neither}, proofs.Signs.{sign_open, sign_point, sign_short}}
+use Rattle.mob_span.{specs.Span.{SpanOf, has}, specs.Neighbours.{is_inside}}
 use Rattle.mob_cells.specs.Cells.{is_cell, is_cell_of, NoneWithin}
 
 -- the cells are inside

@@ -1,25 +1,14 @@
 -- Cells, one function at a time.
 use Rattle.std.specs.Prelude.{◌≡◌, ◌⊎◌, Bool, true, false, cond, ◌&&◌, ◌||◌, ℕ, zero, suc, List, [], ◌∷◌, ◌++◌, map, slice_get, length, get_or, ◌<◌, Some, None, MatchOption, refl}
-use Rattle.std.proofs.lemmas.Bool.{and_parts}
-use Rattle.std.specs.List.{AllByRecursion, flat_map}
-use Rattle.std.proofs.Common.{arith, ap, sym, ◌∙◌, subst, true≢false, inl, inr, append_assoc, append-nil, ◌+◌}
-use Rattle.std.proofs.lemmas.Option.{slice_get_read}
-use Rattle.std.specs.declared.cmp.Ordering.{Ordering}
+use Rattle.std.{specs.List.{AllByRecursion, flat_map}, specs.declared.cmp.Ordering.{Ordering}, proofs.lemmas.Bool.{and_parts}}
+use Rattle.std.{proofs.Common.{arith, ap, sym, ◌∙◌, subst, true≢false, inl, inr, append_assoc, append-nil, ◌+◌}, proofs.lemmas.Option.{slice_get_read}}
 use Rattle.mob_list.proofs.Each.{each_both, each_get, each_on}
-use Rattle.mob_ratio.specs.Ratio.{Ratio}
-use Rattle.mob_ratio.specs.Order.{before}
-use Rattle.mob_ratio.specs.Sign.{opposite, root_at, sign_of}
-use Rattle.mob_ratio.proofs.Order.{before-back, before-neither}
-use Rattle.mob_span.specs.Span.{SpanOf, has}
-use Rattle.mob_span.specs.Sets.{in_some}
-use Rattle.mob_span.specs.Neighbours.{is_inside}
-use Rattle.mob_cells.specs.declared.linear.Ends.{Ends}
-use Rattle.mob_cells.specs.declared.signs.Placed.{Placed}
-use Rattle.mob_cells.specs.Roots.{IsLevel, root_of, roots, as_list, function_at}
-use Rattle.mob_cells.specs.Cells.{AreCells, AreCutAt, IsSomeEnd, AreSplit, IsPlaced, IsApart, AreSigned, functions_of, split_at, until, inner, instant_span, beyond, NoneWithin, is_cell, is_cell_of, placed_sign, signs_of}
-use Rattle.mob_lifted.proofs.Options.{none_some, same_some}
-use Rattle.mob_cells.proofs.Keeps.{kept}
-use Rattle.mob_cells.proofs.Zeros.{root_inside}
+use Rattle.mob_ratio.{specs.Ratio.{Ratio}, specs.Order.{before}, specs.Sign.{opposite, root_at, sign_of}, proofs.Order.{before-back, before-neither}}
+use Rattle.mob_span.{specs.Span.{SpanOf, has}, specs.Sets.{in_some}, specs.Neighbours.{is_inside}}
+use Rattle.mob_cells.{specs.declared.linear.Ends.{Ends}, specs.declared.signs.Placed.{Placed}, specs.Roots.{IsLevel, root_of, roots, as_list, function_at}}
+use Rattle.mob_cells.specs.Cells.{AreCells, AreCutAt, IsSomeEnd, AreSplit, IsPlaced, IsApart, AreSigned, functions_of, split_at, until, inner, instant_span, beyond, NoneWithin, is_cell, is_cell_of}
+use Rattle.mob_cells.{specs.Cells.{placed_sign, signs_of}, proofs.Keeps.{kept}, proofs.Zeros.{root_inside}}
+use Rattle.mob_slice.proofs.Options.{none_some, same_some}
 
 -- ---- the instants at which the cells are cut
 abbrev pub HasEnds : (Ratio → Type 0) → SpanOf → Type 0

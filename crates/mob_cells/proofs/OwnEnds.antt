@@ -1,16 +1,9 @@
 -- A slice at the ends of its own span.
-use Rattle.std.specs.Prelude.{◌≡◌, Bool, true, false, List, [], refl}
-use Rattle.std.proofs.Common.{arith, ap, sym, ◌∙◌}
-use Rattle.mob_ratio.specs.Ratio.{Ratio}
-use Rattle.mob_ratio.specs.Order.{before}
-use Rattle.mob_ratio.proofs.Order.{before-neither}
+use Rattle.std.{specs.Prelude.{◌≡◌, Bool, true, false, List, [], refl}, proofs.Common.{arith, ap, sym, ◌∙◌}}
+use Rattle.mob_ratio.{specs.Ratio.{Ratio}, specs.Order.{before}, proofs.Order.{before-neither}}
 use Rattle.mob_frac.specs.Formula.{AllFit}
 use Rattle.mob_span.proofs.SpanLemmas.{some_upto}
-use Rattle.mob_slice.specs.Course.{IsCourse}
-use Rattle.mob_slice.specs.Slices.{IsSound}
-use Rattle.mob_slice.specs.Sides.{at_ends}
-use Rattle.mob_slice.specs.Cut.{slice_value, slice_parts}
-use Rattle.mob_slice.specs.declared.slice.Slice.{Slice}
+use Rattle.mob_slice.{specs.Course.{IsCourse}, specs.Slices.{IsSound}, specs.Sides.{at_ends}, specs.Cut.{slice_value, slice_parts}, specs.declared.slice.Slice.{Slice}}
 
 module _ {C B : Type 0} {steady copies : Bool} {value : C → Ratio → Ratio → Ratio → B} {start end : C → B} {can_make : B → B → Type 0} {make : B → B → C} {continues : C → C → Ratio → Ratio → Ratio → Bool} {parts : C → Ratio → Ratio → Ratio → List Ratio} (laws : IsCourse steady copies value start end can_make make continues parts) where
   -- the values at its own ends are stored, not computed

@@ -1,19 +1,14 @@
 -- Functions with their roots, and the cells of a span that is cut at the roots.
+use Rattle.std.{specs.Prelude.{true, Contains, MatchOption}, specs.List.{AllByRecursion}}
 use Rattle.std.proofs.Common.{◌≡◌, List, [], ◌∷◌, ◌++◌, Option, Some, None, refl, sym, ap, ap₂, subst, ◌∙◌, append_assoc, append-nil}
-use Rattle.std.specs.Prelude.{true, Contains, MatchOption}
-use Rattle.std.specs.List.{AllByRecursion}
 use Rattle.std.proofs.lemmas.List.Elements.{Contains-append_left, Contains-append_right}
-use Rattle.mob_list.proofs.Each.{each_more}
-use Rattle.mob_list.proofs.Entries.{first_in}
+use Rattle.mob_list.{proofs.Each.{each_more}, proofs.Entries.{first_in}}
 use Rattle.mob_ratio.specs.Ratio.{Ratio}
 use Rattle.mob_frac.specs.Formula.{AllFit}
 use Rattle.mob_span.specs.Span.{SpanOf, has_instant}
 use Rattle.mob_slice.proofs.Cuts.{all_both, all_first, all_second}
-use Rattle.mob_cells.specs.declared.linear.Ends.{Ends}
-use Rattle.mob_cells.specs.declared.signs.Placed.{Placed}
-use Rattle.mob_cells.specs.Roots.{IsLevel, root_parts, root_of, roots, roots_parts, as_list}
-use Rattle.mob_cells.specs.Cells.{AreSigned, IsPlaced, IsApart, NoneWithin, functions_of, placed_roots, split_all, start_cells}
-use Rattle.mob_cells.proofs.Splits.{start_are}
+use Rattle.mob_cells.{specs.declared.linear.Ends.{Ends}, specs.declared.signs.Placed.{Placed}, specs.Roots.{IsLevel, root_parts, root_of, roots, roots_parts, as_list}}
+use Rattle.mob_cells.{specs.Cells.{AreSigned, IsPlaced, IsApart, NoneWithin, functions_of, placed_roots, split_all, start_cells}, proofs.Splits.{start_are}}
 use Rattle.mob_cells.proofs.Walking.{all_split, all_self, only_cuts}
 
 -- ---- the loop over the functions

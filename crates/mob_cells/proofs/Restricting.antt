@@ -1,35 +1,14 @@
 -- The parts kept on each cell, and on all of them.
 use Rattle.std.specs.Prelude.{◌≡◌, Bool, true, false, cond, ◌||◌, ℕ, List, [], ◌∷◌, ◌++◌, slice_get, Option, Some, None, MatchOption, Result, Ok, Err, MatchResult, refl}
-use Rattle.std.specs.List.{AllByRecursion, flat_map}
-use Rattle.std.proofs.Common.{ap, sym, ◌∙◌, subst, true≢false, inl, inr, append_assoc, append-nil}
-use Rattle.std.specs.declared.cmp.Ordering.{Ordering}
-use Rattle.mob_list.proofs.Each.{each_get}
-use Rattle.mob_list.proofs.Entries.{each_of_all}
+use Rattle.std.{specs.List.{AllByRecursion, flat_map}, specs.declared.cmp.Ordering.{Ordering}, proofs.Common.{ap, sym, ◌∙◌, subst, true≢false, inl, inr, append_assoc, append-nil}}
+use Rattle.mob_list.{specs.Faults.{OnCause}, specs.declared.fault.Fault.{Fault}, specs.declared.fault.Fault.TheVariants.{Because, NoMemory}, proofs.Each.{each_get}, proofs.Entries.{each_of_all}}
 use Rattle.mob_ratio.specs.Ratio.{Ratio}
 use Rattle.mob_frac.specs.Formula.{AllFit}
-use Rattle.mob_span.specs.Span.{SpanOf, has}
-use Rattle.mob_span.specs.Neighbours.{is_inside}
-use Rattle.mob_span.specs.Sets.{in_some}
-use Rattle.mob_slice.specs.Slices.{value_at}
-use Rattle.mob_span.specs.Pieces.{piece_at}
-use Rattle.mob_span.specs.Flags.{same_bool}
-use Rattle.mob_span.proofs.Insides.{inside-trans}
-use Rattle.mob_slice.specs.Pieces.{AreInside}
-use Rattle.mob_slice.specs.Sides.{HasValues, at_ends}
-use Rattle.mob_list.specs.Faults.{OnCause}
-use Rattle.mob_slice.specs.Entries.{IsFirst, IsPartFault}
-use Rattle.mob_slice.specs.declared.slice.Slice.{Slice}
-use Rattle.mob_slice.specs.declared.formula.Formula.TheVariants.{F1}
-use Rattle.mob_list.specs.declared.fault.Fault.{Fault}
-use Rattle.mob_list.specs.declared.fault.Fault.TheVariants.{Because, NoMemory}
-use Rattle.mob_slice.proofs.Cuts.{all_both, all_first, all_second}
-use Rattle.mob_cells.specs.Cells.{AreCells, AreCutAt, IsCut, IsSomeEnd}
-use Rattle.mob_lifted.specs.OnPiece.{AreKeptOn}
-use Rattle.mob_cells.specs.Restricted.{kept_value}
-use Rattle.mob_lifted.specs.Piecewise.{AreGivenInOrder, IsPiecewise}
-use Rattle.mob_lifted.proofs.Making.{is_lifted}
-use Rattle.mob_lifted.proofs.OnOnePiece.{one_kept}
-use Rattle.mob_slice.specs.declared.formula.Formula.{Formula}
+use Rattle.mob_span.{specs.Span.{SpanOf, has}, specs.Neighbours.{is_inside}, specs.Sets.{in_some}, specs.Pieces.{piece_at}, specs.Flags.{same_bool}, proofs.Insides.{inside-trans}}
+use Rattle.mob_slice.{specs.Slices.{value_at}, specs.Pieces.{AreInside}, specs.Sides.{HasValues, at_ends}, specs.Entries.{IsFirst, IsPartFault}, specs.declared.slice.Slice.{Slice}}
+use Rattle.mob_slice.{specs.declared.formula.Formula.TheVariants.{F1}, specs.OnPiece.{AreKeptOn}, specs.Piecewise.{AreGivenInOrder, IsPiecewise}, specs.declared.formula.Formula.{Formula}}
+use Rattle.mob_slice.{proofs.Cuts.{all_both, all_first, all_second}, proofs.Making.{is_lifted}, proofs.OnOnePiece.{one_kept}}
+use Rattle.mob_cells.{specs.Cells.{AreCells, AreCutAt, IsCut, IsSomeEnd}, specs.Restricted.{kept_value}}
 
 -- ---- one cell
 module _ {C B : Type 0} (value : C → Ratio → Ratio → Ratio → B) (start end : C → B) where

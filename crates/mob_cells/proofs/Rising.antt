@@ -1,25 +1,12 @@
 -- Sorted instants of a span.
-use Rattle.std.proofs.Common.{◌≡◌, ℕ, Bool, true, false, true≢false, List, [], ◌∷◌, arith, subst, cond, ◌<◌, ◌+◌, suc, length, get_or, Some, None, refl}
-use Rattle.std.specs.Prelude.{Contains}
-use Rattle.std.specs.List.{AllByRecursion}
-use Rattle.std.specs.List.Sorted.{IsSortedBy}
-use Rattle.std.specs.Ordering.{is_lt}
-use Rattle.std.specs.declared.cmp.Ordering.TheVariants.{Less, Equal, Greater}
-use Rattle.std.proofs.lemmas.List.Sorted.{sorted_far}
+use Rattle.std.{specs.Prelude.{Contains}, specs.List.{AllByRecursion}, specs.List.Sorted.{IsSortedBy}, specs.Ordering.{is_lt}, specs.declared.cmp.Ordering.TheVariants.{Less, Equal, Greater}}
+use Rattle.std.{proofs.Common.{◌≡◌, ℕ, Bool, true, false, true≢false, List, [], ◌∷◌, arith, subst, cond, ◌<◌, ◌+◌, suc, length, get_or, Some, None, refl}, proofs.lemmas.List.Sorted.{sorted_far}}
 use Rattle.std.proofs.lemmas.List.MinMax.{ranks_by}
-use Rattle.mob_list.proofs.Each.{each_both}
-use Rattle.mob_list.proofs.Entries.{each_of_all, first_in}
-use Rattle.mob_ratio.specs.Ratio.{Ratio}
-use Rattle.mob_ratio.specs.Order.{before, up_to}
-use Rattle.mob_ratio.specs.Sign.{opposite, root_at}
-use Rattle.mob_ratio.proofs.Order.{before-weak}
+use Rattle.mob_list.{proofs.Each.{each_both}, proofs.Entries.{each_of_all, first_in}}
+use Rattle.mob_ratio.{specs.Ratio.{Ratio}, specs.Order.{before, up_to}, specs.Sign.{opposite, root_at}, proofs.Order.{before-weak}}
 use Rattle.mob_span.specs.Span.{SpanOf}
-use Rattle.mob_slice.specs.Ranks.{compare_ratio}
-use Rattle.mob_slice.specs.RankLaws.{ranking_ratio}
-use Rattle.mob_cells.specs.declared.linear.Ends.{Ends}
-use Rattle.mob_cells.specs.Roots.{IsLevel, root_of, roots, as_list}
-use Rattle.mob_cells.specs.Cells.{IsRisingFrom}
-use Rattle.mob_cells.proofs.Zeros.{one_root}
+use Rattle.mob_slice.{specs.Ranks.{compare_ratio}, specs.RankLaws.{ranking_ratio}}
+use Rattle.mob_cells.{specs.declared.linear.Ends.{Ends}, specs.Roots.{IsLevel, root_of, roots, as_list}, specs.Cells.{IsRisingFrom}, proofs.Zeros.{one_root}}
 
 -- ---- sorted instants rise
 -- no instant is before x

@@ -1,15 +1,9 @@
 -- The sign on a cell, in the form that the search uses.
-use Rattle.std.specs.Prelude.{◌≡◌, Bool, true, false, cond, ◌↔◌, IsTrue, Some, None, refl}
-use Rattle.std.proofs.Common.{sym, ◌∙◌, true≢false, Equal}
-use Rattle.std.proofs.lemmas.Bool.{false_from_ne_true}
-use Rattle.mob_ratio.specs.Ratio.{Ratio}
-use Rattle.mob_ratio.specs.Order.{before, same}
-use Rattle.mob_ratio.specs.Sign.{nil, sign_of, opposite, root_at, sign_on}
-use Rattle.mob_ratio.proofs.Order.{same_exact}
+use Rattle.std.{specs.Prelude.{◌≡◌, Bool, true, false, cond, ◌↔◌, IsTrue, Some, None, refl}, proofs.Common.{sym, ◌∙◌, true≢false, Equal}, proofs.lemmas.Bool.{false_from_ne_true}}
+use Rattle.mob_ratio.{specs.Ratio.{Ratio}, specs.Order.{before, same}, specs.Sign.{nil, sign_of, opposite, root_at, sign_on}, proofs.Order.{same_exact}}
 use Rattle.mob_span.specs.Span.{SpanOf}
-use Rattle.mob_lifted.proofs.Options.{none_some, same_some}
-use Rattle.mob_cells.specs.Roots.{root_of}
-use Rattle.mob_cells.specs.declared.linear.Ends.{Ends}
+use Rattle.mob_slice.proofs.Options.{none_some, same_some}
+use Rattle.mob_cells.{specs.Roots.{root_of}, specs.declared.linear.Ends.{Ends}}
 
 some_by : (f0 f1 l u r a b : Ratio) (o : Bool) → opposite f0 f1 ≡ o → cond o (Some (root_at f0 f1 l u)) None ≡ Some r → sign_on f0 f1 l u a b ≡ cond (before a r) (sign_of f0) (cond (before r b) (sign_of f1) Equal)
 unfolding sign_on

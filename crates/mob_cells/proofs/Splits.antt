@@ -1,16 +1,9 @@
 -- Cutting the cells at an instant.
-use Rattle.std.specs.Prelude.{◌≡◌, Bool, true, false, cond, not, ◌&&◌, ◌||◌, List, [], ◌∷◌, ◌++◌, refl}
-use Rattle.std.proofs.lemmas.Bool.{and_from, and_parts}
-use Rattle.std.specs.List.{AllByRecursion}
+use Rattle.std.{specs.Prelude.{◌≡◌, Bool, true, false, cond, not, ◌&&◌, ◌||◌, List, [], ◌∷◌, ◌++◌, refl}, specs.List.{AllByRecursion}, proofs.lemmas.Bool.{and_from, and_parts}}
 use Rattle.std.proofs.Common.{arith, ap, ◌∙◌}
-use Rattle.mob_ratio.specs.Ratio.{Ratio}
-use Rattle.mob_ratio.specs.Order.{before, up_to}
-use Rattle.mob_ratio.proofs.Order.{before-self, before-back, before-trans, before-neither, before-up_to, up_to-before}
-use Rattle.mob_span.specs.Span.{SpanOf, has, has_instant}
-use Rattle.mob_span.specs.Neighbours.{is_clear, is_inside}
-use Rattle.mob_span.specs.Sets.{in_some}
+use Rattle.mob_ratio.{specs.Ratio.{Ratio}, specs.Order.{before, up_to}, proofs.Order.{before-self, before-back, before-trans, before-neither, before-up_to, up_to-before}}
+use Rattle.mob_span.{specs.Span.{SpanOf, has, has_instant}, specs.Neighbours.{is_clear, is_inside}, specs.Sets.{in_some}, specs.Pieces.{PiecesAreClear}}
 use Rattle.mob_slice.specs.Slices.{OfHead}
-use Rattle.mob_span.specs.Pieces.{PiecesAreClear}
 use Rattle.mob_cells.specs.Cells.{instant_span, inner, until, beyond, split_at, start_cells, is_cell, is_cell_of, AreSplit, NoneWithin}
 
 -- ---- one cell

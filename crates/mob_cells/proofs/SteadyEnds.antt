@@ -1,18 +1,11 @@
 -- The gaps of steady courses have no formula.
-use Rattle.std.specs.Prelude.{◌≡◌, Bool, true, List, [], ◌++◌, None, refl}
-use Rattle.std.proofs.Common.{ap, inl}
+use Rattle.std.{specs.Prelude.{◌≡◌, Bool, true, List, [], ◌++◌, None, refl}, proofs.Common.{ap, inl}}
 use Rattle.mob_ratio.specs.Ratio.{Ratio}
 use Rattle.mob_frac.specs.Formula.{AllFit}
 use Rattle.mob_span.specs.Meets.{PieceOf}
-use Rattle.mob_slice.specs.Course.{IsCourse}
-use Rattle.mob_slice.specs.Comparison.{IsComparison, gap_parts}
-use Rattle.mob_slice.specs.Sides.{SideOf, Moves, Stays, side_at, side_parts, at_ends}
-use Rattle.mob_slice.specs.Entries.{IsFirst}
-use Rattle.mob_slice.specs.declared.comparison.Rel.{Rel}
-use Rattle.mob_slice.specs.declared.comparison.Gaps.{Gaps}
-use Rattle.mob_slice.specs.declared.comparison.Gaps.TheVariants.{Constant}
-use Rattle.mob_cells.specs.Gaps.{piece_gaps, entries_of_ends}
-use Rattle.mob_cells.proofs.GapSigns.{no_gaps}
+use Rattle.mob_slice.{specs.Course.{IsCourse}, specs.Comparison.{IsComparison, gap_parts}, specs.Sides.{SideOf, Moves, Stays, side_at, side_parts, at_ends}, specs.Entries.{IsFirst}}
+use Rattle.mob_slice.{specs.declared.comparison.Rel.{Rel}, specs.declared.comparison.Gaps.{Gaps}, specs.declared.comparison.Gaps.TheVariants.{Constant}}
+use Rattle.mob_cells.{specs.Gaps.{piece_gaps, entries_of_ends}, proofs.GapSigns.{no_gaps}}
 
 none_by : (xs ys : List Ratio) → xs ≡ [] → ys ≡ [] → xs ++ ys ≡ []
 none_by xs ys e f = rw (e, f) refl

@@ -1,16 +1,9 @@
 -- Lemmas on roots.
-use Rattle.std.specs.Prelude.{◌≡◌, Bool, true, false, refl}
-use Rattle.std.proofs.Common.{ap, sym, ◌∙◌, true≢false, inl, inr}
-use Rattle.std.specs.declared.cmp.Ordering.TheVariants.{Less, Equal, Greater}
-use Rattle.mob_ratio.specs.Ratio.{Ratio}
-use Rattle.mob_ratio.specs.Order.{before}
-use Rattle.mob_ratio.specs.Line.{line_at}
-use Rattle.mob_ratio.specs.Sign.{nil, opposite, root_at, sign_of, IsRoot}
-use Rattle.mob_ratio.proofs.Order.{before-neither}
+use Rattle.std.{specs.Prelude.{◌≡◌, Bool, true, false, refl}, specs.declared.cmp.Ordering.TheVariants.{Less, Equal, Greater}, proofs.Common.{ap, sym, ◌∙◌, true≢false, inl, inr}}
+use Rattle.mob_ratio.{specs.Ratio.{Ratio}, specs.Order.{before}, specs.Line.{line_at}, specs.Sign.{nil, opposite, root_at, sign_of, IsRoot}, proofs.Order.{before-neither}}
 use Rattle.mob_ratio.proofs.Signs.{root_holds, opposite_cases, sign_below, sign_above, sign_nil, opposite-self}
 use Rattle.mob_span.specs.Span.{SpanOf, has}
-use Rattle.mob_cells.specs.declared.linear.Ends.{Ends}
-use Rattle.mob_cells.specs.Roots.{IsLevel, IsOneRoot}
+use Rattle.mob_cells.{specs.declared.linear.Ends.{Ends}, specs.Roots.{IsLevel, IsOneRoot}}
 
 pub long_of : (s : SpanOf) (f : Ends) → IsLevel s f → opposite f.at_lower f.at_upper ≡ true → (b : Bool) → before s.lower s.upper ≡ b → before s.lower s.upper ≡ true
 long_of s f l o true e = e

@@ -1,18 +1,9 @@
 -- Cells: spans on which linear functions keep their signs.
-use Rattle.std.specs.Prelude.{◌≡◌, ◌⊎◌, ℤ, pos, negsuc, Bool, true, false, cond, not, ◌&&◌, ◌||◌, List, [], ◌∷◌, ◌++◌, map, Contains, MatchOption}
-use Rattle.std.specs.List.{AllByRecursion, flat_map}
-use Rattle.std.specs.declared.cmp.Ordering.{Ordering}
-use Rattle.std.specs.declared.cmp.Ordering.TheVariants.{Less, Equal, Greater}
-use Rattle.mob_ratio.specs.Ratio.{Ratio}
-use Rattle.mob_ratio.specs.Order.{before, up_to}
-use Rattle.mob_ratio.specs.Sign.{sign_on, sign_of}
-use Rattle.mob_span.specs.Span.{SpanOf, has}
-use Rattle.mob_span.specs.Neighbours.{is_inside}
-use Rattle.mob_span.specs.Sets.{in_some}
-use Rattle.mob_span.specs.Pieces.{PiecesAreClear}
-use Rattle.mob_cells.specs.declared.linear.Ends.{Ends}
-use Rattle.mob_cells.specs.declared.signs.Placed.{Placed}
-use Rattle.mob_cells.specs.Roots.{function_at, IsLevel, as_list, root_of, roots}
+use Rattle.std.{specs.Prelude.{◌≡◌, ◌⊎◌, ℤ, pos, negsuc, Bool, true, false, cond, not, ◌&&◌, ◌||◌, List, [], ◌∷◌, ◌++◌, map, Contains, MatchOption}, specs.List.{AllByRecursion, flat_map}}
+use Rattle.std.{specs.declared.cmp.Ordering.{Ordering}, specs.declared.cmp.Ordering.TheVariants.{Less, Equal, Greater}}
+use Rattle.mob_ratio.{specs.Ratio.{Ratio}, specs.Order.{before, up_to}, specs.Sign.{sign_on, sign_of}}
+use Rattle.mob_span.{specs.Span.{SpanOf, has}, specs.Neighbours.{is_inside}, specs.Sets.{in_some}, specs.Pieces.{PiecesAreClear}}
+use Rattle.mob_cells.{specs.declared.linear.Ends.{Ends}, specs.declared.signs.Placed.{Placed}, specs.Roots.{function_at, IsLevel, as_list, root_of, roots}}
 
 -- ---- definitions for callers
 

@@ -1,13 +1,11 @@
 -- The places of tokens, proved along the text.
 use Rattle.std.specs.Prelude.{IfSome}
-use Rattle.std.proofs.Common.{◌≡◌, ◌<◌, ◌≤◌, ◌+◌, ◌-◌, ◌∙◌, ℕ, zero, suc, List, [], ◌∷◌, ◌++◌, length, drop, length-drop, Bool, true, false, cond, Option, Some, None, Result, Ok, Err, refl, sym, ap, subst, arith}
-use Rattle.mob_chars.specs.declared.token.TokenKind.{TokenKind}
-use Rattle.mob_chars.specs.declared.token.Token.{Token}
-use Rattle.mob_language.specs.Language.{is_blank}
-use Rattle.mob_chars.specs.Scan.{begins_comment, comment_length, gap_length}
+use Rattle.std.proofs.Common.{◌≡◌, ◌<◌, ◌≤◌, ◌+◌, ◌-◌, ◌∙◌, ℕ, zero, suc, List, [], ◌∷◌, ◌++◌, length, drop, length-drop, Bool, true, false, cond, Option, Some, None, Result, Ok, Err, refl, sym, ap}
+use Rattle.std.proofs.Common.{subst, arith}
+use Rattle.mob_chars.{specs.declared.token.TokenKind.{TokenKind}, specs.declared.token.Token.{Token}, specs.Scan.{begins_comment, comment_length, gap_length}}
 use Rattle.mob_chars.specs.Tokens.{token_at, token, end_at, before_others, from_place, tokens_from, tokens_of}
-use Rattle.mob_chars.specs.Layout.{Leads, here, blank, comment, next, BeginsNone, InOrder, TokensAreLaid, FaultsAreStuck, TokensAreInOrder}
-use Rattle.mob_chars.proofs.Sizes.{token_within, gap_upto}
+use Rattle.mob_chars.{specs.Layout.{Leads, here, blank, comment, next, BeginsNone, InTextOrder, TokensAreLaid, FaultsAreStuck, TokensAreInOrder}, proofs.Sizes.{token_within, gap_upto}}
+use Rattle.mob_language.specs.Language.{is_blank}
 
 -- the tokens from a place on lead to the end, or to a place at which none begins
 abbrev pub Says : ℕ → List ℕ → Result (List Token) ℕ → Type 0
@@ -71,11 +69,11 @@ pub are_stuck : FaultsAreStuck
 are_stuck text place h = let P : Result (List Token) ℕ → Type 0 = Says 0 text in let x : Says 0 text (Err place) = subst P h (whole text) in
     record { before = x.0; rest = x.1; leads = x.2; none_begins = x.3 }
 
-sooner : (p q e : ℕ) (ts : List Token) → p ≤ q → InOrder q e ts → InOrder p e ts
+sooner : (p q e : ℕ) (ts : List Token) → p ≤ q → InTextOrder q e ts → InTextOrder p e ts
 sooner p q e [] h k = omega (arith, k)
 sooner p q e (t ∷ ts) h k = (omega (arith, k.0), k.1, k.2)
 
-ordered : (p : ℕ) (l : List ℕ) (ts : List Token) (q : ℕ) (m : List ℕ) (us : List Token) (e : ℕ) → Leads p l ts q m → InOrder q e us → InOrder p e (ts ++ us)
+ordered : (p : ℕ) (l : List ℕ) (ts : List Token) (q : ℕ) (m : List ℕ) (us : List Token) (e : ℕ) → Leads p l ts q m → InTextOrder q e us → InTextOrder p e (ts ++ us)
 ordered _ _ _ _ _ us e here h = h
 ordered p _ ts q m us e (blank {l = l} is way) h = sooner p (p + 1) e (ts ++ us) (omega arith) (ordered (p + 1) l ts q m us e way h)
 ordered p l ts q m us e (comment is way) h = sooner p (p + comment_length l) e (ts ++ us) (omega arith) (ordered (p + comment_length l) (drop (comment_length l) l) ts q m us e way h)
@@ -84,5 +82,5 @@ ordered p l _ q m us e (next {n = n} {ts = ts} no_gap is way) h = (omega arith, 
 pub are_in_order : TokensAreInOrder
 are_in_order text ts h =
     let x = are_laid text ts h in
-    let P : List Token → Type 0 = InOrder 0 (length text) in
+    let P : List Token → Type 0 = InTextOrder 0 (length text) in
     subst P (sym x.parts) (ordered 0 text x.all (length text) [] (end_at (length text) ∷ []) (length text) x.leads (omega arith, omega arith, omega arith))

@@ -1,8 +1,6 @@
 -- If longer signs come first, the first sign at the front of a text is the longest.
-use Rattle.std.specs.Prelude.{nat_eq, ◌&&◌, IfSome}
-use Rattle.std.specs.List.{starts_with}
-use Rattle.std.proofs.Common.{◌≡◌, ◌≤◌, ◌<◌, ◌∙◌, inl, inr, ℕ, List, [], ◌∷◌, length, Bool, true, cond, Option, Some, None, refl, sym, ap, subst, arith}
-use Rattle.std.proofs.Math.Dec.{leb}
+use Rattle.std.{specs.Prelude.{nat_eq, ◌&&◌, IfSome}, specs.List.{starts_with}}
+use Rattle.std.{proofs.Common.{◌≡◌, ◌≤◌, ◌<◌, ◌∙◌, inl, inr, ℕ, List, [], ◌∷◌, length, Bool, true, cond, Option, Some, None, refl, sym, ap, subst, arith}, proofs.Math.Dec.{leb}}
 use Rattle.std.proofs.lemmas.Bool.{leb-true, cases_Bool, and_parts}
 use Rattle.mob_chars.specs.Signs.{longer, longest_sign, first_sign}
 

@@ -1,9 +1,7 @@
 -- Strings, a byte at a time.
 use Rattle.std.specs.Prelude.{option_map, ◌==◌}
-use Rattle.std.proofs.Common.{◌≡◌, ◌≢◌, ◌<◌, ◌+◌, ◌∙◌, ℕ, List, [], ◌∷◌, length, drop, get_or, false, cond, Option, Some, None, refl, sym, ap, arith, add_assoc}
-use Rattle.std.proofs.lemmas.List.{drop_more}
-use Rattle.std.proofs.lemmas.Bool.Decides.{eqb_tells}
-use Rattle.std.proofs.Common.{inl, inr}
+use Rattle.std.proofs.Common.{◌≡◌, ◌≢◌, ◌<◌, ◌+◌, ◌∙◌, ℕ, List, [], ◌∷◌, length, drop, get_or, false, cond, Option, Some, None, refl, sym, ap, arith, add_assoc, inl, inr}
+use Rattle.std.{proofs.lemmas.List.{drop_more}, proofs.lemmas.Bool.Decides.{eqb_tells}}
 use Rattle.mob_chars.specs.Scan.{quoted_length}
 
 unequal : (b k : ℕ) → b ≢ k → (b == k) ≡ false

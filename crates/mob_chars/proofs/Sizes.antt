@@ -1,17 +1,12 @@
 -- Each gap and each token lies within the text, and each token has at least one byte.
-use Rattle.std.specs.Prelude.{◌==◌, IfSome, option_map, take_while, not}
+use Rattle.std.{specs.Prelude.{◌==◌, IfSome, option_map, take_while, not}, specs.List.{prefix_len}}
 use Rattle.std.proofs.Common.{◌≡◌, ◌<◌, ◌≤◌, ◌+◌, ◌∙◌, inl, inr, ℕ, zero, suc, List, [], ◌∷◌, length, drop, length-drop, Bool, true, false, cond, Option, Some, None, refl, sym, ap, subst, arith}
-use Rattle.std.specs.List.{prefix_len}
-use Rattle.std.proofs.lemmas.List.{length-take}
-use Rattle.std.proofs.lemmas.List.Sums.{take_while-cons}
-use Rattle.std.proofs.lemmas.Bool.{cases_Bool, or_left}
-use Rattle.mob_chars.specs.declared.token.TokenKind.{TokenKind}
-use Rattle.mob_chars.specs.declared.token.TokenKind.TheVariants.{Word, Number, Str, Sign}
-use Rattle.mob_language.specs.Language.{is_blank, is_digit, is_number_sign, is_exponent_letter}
-use Rattle.mob_chars.specs.Scan.{is_letter, is_word, is_point, is_quote, begins_digit, begins_number, word_length, digits_length, fraction_length, mantissa_length, with_digits, power_length, exponent_length, number_length, quoted_length, string_length, begins_comment, comment_length, gap_length}
-use Rattle.mob_chars.specs.Signs.{signs, sign_length}
-use Rattle.mob_chars.specs.Tokens.{token_at}
+use Rattle.std.{proofs.lemmas.List.{length-take}, proofs.lemmas.List.Sums.{take_while-cons}, proofs.lemmas.Bool.{cases_Bool, or_left}}
+use Rattle.mob_chars.{specs.declared.token.TokenKind.{TokenKind}, specs.declared.token.TokenKind.TheVariants.{Word, Number, Str, Sign}}
+use Rattle.mob_chars.specs.Scan.{is_letter, is_word, is_point, is_quote, begins_digit, begins_number, word_length, digits_length, fraction_length, mantissa_length, with_digits, power_length}
+use Rattle.mob_chars.{specs.Scan.{exponent_length, number_length, quoted_length, string_length, begins_comment, comment_length, gap_length}, specs.Signs.{signs, sign_length}, specs.Tokens.{token_at}}
 use Rattle.mob_chars.proofs.Longest.{first_is_longest, first_fits}
+use Rattle.mob_language.specs.Language.{is_blank, is_digit, is_number_sign, is_exponent_letter}
 
 abbrev pub Within : ℕ → Option ℕ → Type 0
 Within m o = IfSome o (λ n. (0 < n) × (n ≤ m))

@@ -1,9 +1,7 @@
 -- The tokens found so far, and the remaining ones.
 use Rattle.std.proofs.Common.{◌≡◌, ◌<◌, ◌≤◌, ◌+◌, ◌-◌, ◌∙◌, ℕ, zero, suc, List, [], ◌∷◌, ◌++◌, length, take, drop, length-drop, get_or, Some, None, Result, Ok, Err, refl, sym, ap, arith, append_assoc}
 use Rattle.std.proofs.lemmas.List.{drop_more, drop_all, take_all, drop-drop}
-use Rattle.mob_chars.specs.declared.token.TokenKind.{TokenKind}
-use Rattle.mob_chars.specs.declared.token.Token.{Token}
-use Rattle.mob_chars.specs.Scan.{gap_length}
+use Rattle.mob_chars.{specs.declared.token.TokenKind.{TokenKind}, specs.declared.token.Token.{Token}, specs.Scan.{gap_length}}
 use Rattle.mob_chars.specs.Tokens.{token_at, token, end_at, before_others, from_place, tokens_from}
 
 abbrev pub before : List Token → Result (List Token) ℕ → Result (List Token) ℕ

@@ -1,10 +1,8 @@
 -- How tokens lie in their text: in order, with only blanks and comments between them.
 use Rattle.std.specs.Prelude.{◌≡◌, ◌+◌, ◌<◌, ◌≤◌, ◌++◌, ℕ, List, [], ◌∷◌, length, drop, true, Some, None, Ok, Err}
-use Rattle.mob_chars.specs.declared.token.TokenKind.{TokenKind}
-use Rattle.mob_chars.specs.declared.token.Token.{Token}
-use Rattle.mob_language.specs.Language.{is_blank}
-use Rattle.mob_chars.specs.Scan.{begins_comment, comment_length, gap_length}
+use Rattle.mob_chars.{specs.declared.token.TokenKind.{TokenKind}, specs.declared.token.Token.{Token}, specs.Scan.{begins_comment, comment_length, gap_length}}
 use Rattle.mob_chars.specs.Tokens.{token_at, token, end_at, tokens_of}
+use Rattle.mob_language.specs.Language.{is_blank}
 
 -- `Leads p l ts q m`: the tokens ts lead from the place p, at which the rest of the text is l, to
 -- the place q, at which it is m. Blanks and comments may be before, between and after them.
@@ -38,9 +36,9 @@ pub record IsStuck (text : List ℕ) (place : ℕ) : Type 0 where
 
 -- Between the places p and e the tokens are in order: each begins at or after the end of the one
 -- before.
-abbrev pub InOrder : ℕ → ℕ → List Token → Type 0
-InOrder p e [] = p ≤ e
-InOrder p e (t ∷ ts) = (p ≤ t.from) × (t.from ≤ t.to) × InOrder t.to e ts
+abbrev pub InTextOrder : ℕ → ℕ → List Token → Type 0
+InTextOrder p e [] = p ≤ e
+InTextOrder p e (t ∷ ts) = (p ≤ t.from) × (t.from ≤ t.to) × InTextOrder t.to e ts
 
 -- the tokens of a text lie in it as `IsLaid` says
 abbrev pub TokensAreLaid : Type 0
@@ -52,4 +50,4 @@ FaultsAreStuck = (text : List ℕ) (place : ℕ) → tokens_of text ≡ Err plac
 
 -- the tokens of a text are in order and do not overlap
 abbrev pub TokensAreInOrder : Type 0
-TokensAreInOrder = (text : List ℕ) (ts : List Token) → tokens_of text ≡ Ok ts → InOrder 0 (length text) ts
+TokensAreInOrder = (text : List ℕ) (ts : List Token) → tokens_of text ≡ Ok ts → InTextOrder 0 (length text) ts

@@ -1,6 +1,5 @@
 -- The signs of the language.
-use Rattle.std.specs.Prelude.{ℕ, List, [], ◌∷◌, length, cond, max, nat_eq, Option, Some, None, codes}
-use Rattle.std.specs.List.{starts_with}
+use Rattle.std.{specs.Prelude.{ℕ, List, [], ◌∷◌, length, cond, max, nat_eq, Option, Some, None, codes}, specs.List.{starts_with}}
 
 -- the signs, those of three characters first, then those of two and of one
 abbrev pub signs : List (List ℕ)

@@ -1,12 +1,8 @@
 -- The tokens of a text.
 use Rattle.std.specs.Prelude.{◌≡◌, ◌+◌, ◌-◌, ℕ, zero, suc, List, [], ◌∷◌, cond, Option, Some, None, option_map, Result, Ok, Err}
-use Rattle.mob_chars.specs.declared.token.TokenKind.{TokenKind}
-use Rattle.mob_chars.specs.declared.token.TokenKind.TheVariants.{Word, Number, Str, Sign, End}
-use Rattle.mob_chars.specs.declared.token.Token.{Token}
-use Rattle.mob_list.specs.declared.fault.Fault.{Fault}
-use Rattle.mob_list.specs.declared.fault.Fault.TheVariants.{Because, NoMemory}
-use Rattle.mob_chars.specs.Scan.{is_letter, is_quote, begins_number, word_length, number_length, string_length, gap_length}
-use Rattle.mob_chars.specs.Signs.{sign_length}
+use Rattle.mob_chars.{specs.declared.token.TokenKind.{TokenKind}, specs.declared.token.TokenKind.TheVariants.{Word, Number, Str, Sign, End}, specs.declared.token.Token.{Token}}
+use Rattle.mob_chars.{specs.Scan.{is_letter, is_quote, begins_number, word_length, number_length, string_length, gap_length}, specs.Signs.{sign_length}}
+use Rattle.mob_list.{specs.declared.fault.Fault.{Fault}, specs.declared.fault.Fault.TheVariants.{Because, NoMemory}}
 
 -- The kind and the length of the token at the front of a text. A letter begins a word; a digit, or
 -- a point and a digit, a number; a quote a string; everything else is the longest sign. None if

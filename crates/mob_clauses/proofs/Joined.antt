@@ -1,19 +1,11 @@
 -- The conditions of ON, one after another.
-use Rattle.std.proofs.Common.{◌≡◌, ◌∙◌, ◌<◌, ◌+◌, ◌-◌, refl, sym, ap, ℕ, zero, suc, List, [], ◌∷◌, ◌++◌, length, map, take, drop, get_or, Option, Result, Ok}
-use Rattle.std.specs.Prelude.{option_map, slice_range}
+use Rattle.std.{specs.Prelude.{option_map, slice_range}, proofs.Common.{◌≡◌, ◌∙◌, ◌<◌, ◌+◌, ◌-◌, refl, sym, ap, ℕ, zero, suc, List, [], ◌∷◌, ◌++◌, length, map, take, drop, get_or, Option, Result, Ok}}
 use Rattle.std.proofs.lemmas.List.{drop_more}
-use Rattle.mob_ast.specs.declared.statement.FromTable.{FromTable}
-use Rattle.mob_ast.specs.Trees.{tree_of, from_of}
-use Rattle.mob_typed.specs.declared.typed.ConstText.{ConstText}
-use Rattle.mob_typed.specs.Trees.{TypedTree}
-use Rattle.mob_scope.specs.declared.scope.ScopeTable.{ScopeTable}
+use Rattle.mob_ast.{specs.declared.statement.FromTable.{FromTable}, specs.Trees.{tree_of, from_of}}
+use Rattle.mob_typed.{specs.declared.typed.ConstText.{ConstText}, specs.Trees.{TypedTree}}
+use Rattle.mob_scope.{specs.declared.scope.ScopeTable.{ScopeTable}, specs.Answers.{StopsTyping}, specs.declared.fault.Mistake.{Mistake}, specs.Scopes.{ScopeParts, source_of, sources_of}}
 use Rattle.mob_list.specs.declared.fault.Fault.{Fault}
-use Rattle.mob_scope.specs.Answers.{StopsTyping}
-use Rattle.mob_scope.specs.declared.fault.Mistake.{Mistake}
-use Rattle.mob_expression.specs.Steps.{one_more}
-use Rattle.mob_scope.specs.Scopes.{ScopeParts, source_of, sources_of}
-use Rattle.mob_expression.proofs.Behind.{behind, none_behind, more_behind, fails_behind}
-use Rattle.mob_expression.proofs.Wrongs.{fails_along}
+use Rattle.mob_expression.{specs.Steps.{one_more}, proofs.Behind.{behind, none_behind, more_behind, fails_behind}, proofs.Wrongs.{fails_along}}
 use Rattle.mob_clauses.specs.Conditions.{condition, source_start, seen_by_on, joins_from}
 
 map_drop : {A B : Type 0} (f : A → B) (n : ℕ) (xs : List A) → map f (drop n xs) ≡ drop n (map f xs)

@@ -1,15 +1,9 @@
 -- A text of 1 to 18 digits is read as its number.
-use Rattle.std.proofs.Common.{◌≡◌, ◌∙◌, ◌<◌, ◌≤◌, ◌^◌, ◌&&◌, refl, sym, ap, subst, ℕ, List, [], ◌∷◌, Bool, true, false, length, Some, None, Result, Ok, Err, cond, arith, lit<}
-use Rattle.std.specs.Prelude.{nat_le}
-use Rattle.std.specs.List.{list_all}
-use Rattle.std.specs.Char.{is_ascii_digit, digit_value}
-use Rattle.std.specs.Result.{result_ok}
+use Rattle.std.{specs.Prelude.{nat_le}, specs.List.{list_all}, specs.Char.{is_ascii_digit, digit_value}, specs.Result.{result_ok}}
 use Rattle.std.specs.Str.Parse.{AllDigits, IsNumeral, digits_value, ParsesUnsigned, without_leading_plus}
-use Rattle.std.proofs.lemmas.Bool.{and_parts, leb-true}
-use Rattle.std.proofs.lemmas.Bool.Decides.{nat_tests}
-use Rattle.std.proofs.lemmas.Int.Digits.{digits_value-lt}
-use Rattle.std.proofs.lemmas.Str.Parse.{digit_at, without_leading_plus_none}
-use Rattle.std.proofs.Math.Nat.{pow-le-pow_right}
+use Rattle.std.proofs.Common.{◌≡◌, ◌∙◌, ◌<◌, ◌≤◌, ◌^◌, ◌&&◌, refl, sym, ap, subst, ℕ, List, [], ◌∷◌, Bool, true, false, length, Some, None, Result, Ok, Err, cond, arith, lit<}
+use Rattle.std.{proofs.lemmas.Bool.{and_parts, leb-true}, proofs.lemmas.Bool.Decides.{nat_tests}, proofs.lemmas.Int.Digits.{digits_value-lt}}
+use Rattle.std.{proofs.lemmas.Str.Parse.{digit_at, without_leading_plus_none}, proofs.Math.Nat.{pow-le-pow_right}}
 use Rattle.mob_clauses.specs.Keys.{is_limit, limit_value}
 
 digit_small : (c : ℕ) → is_ascii_digit c ≡ true → digit_value c < 10

@@ -1,18 +1,11 @@
 -- The columns of a select list, one item after another, and those of GROUP BY.
-use Rattle.std.proofs.Common.{◌≡◌, ◌∙◌, ◌<◌, ◌+◌, sym, ap, ℕ, List, [], ◌∷◌, length, map, drop, get_or, ◌++◌, ◌≤◌, Option, Result, Ok}
-use Rattle.std.proofs.lemmas.List.{drop_more, drop_all}
-use Rattle.mob_ast.specs.declared.expression.Expr.{Expr}
-use Rattle.mob_ast.specs.declared.statement.Item.{Item}
-use Rattle.mob_ast.specs.Trees.{tree_of, item_of}
-use Rattle.mob_typed.specs.Trees.{TypedTree}
-use Rattle.mob_typed.specs.declared.typed.ConstText.{ConstText}
+use Rattle.std.{proofs.Common.{◌≡◌, ◌∙◌, ◌<◌, ◌+◌, sym, ap, ℕ, List, [], ◌∷◌, length, map, drop, get_or, ◌++◌, ◌≤◌, Option, Result, Ok}, proofs.lemmas.List.{drop_more, drop_all}}
+use Rattle.mob_ast.{specs.declared.expression.Expr.{Expr}, specs.declared.statement.Item.{Item}, specs.Trees.{tree_of, item_of}}
+use Rattle.mob_typed.{specs.Trees.{TypedTree}, specs.declared.typed.ConstText.{ConstText}}
 use Rattle.mob_list.specs.declared.fault.Fault.{Fault}
-use Rattle.mob_scope.specs.Answers.{◌>>=◌, StopsTyping}
-use Rattle.mob_scope.specs.declared.fault.Mistake.{Mistake}
-use Rattle.mob_scope.specs.Scopes.{ScopeParts}
+use Rattle.mob_scope.{specs.Answers.{◌>>=◌, StopsTyping}, specs.declared.fault.Mistake.{Mistake}, specs.Scopes.{ScopeParts}}
 use Rattle.mob_expression.proofs.Wrongs.{fails_along, fails_bind}
-use Rattle.mob_clauses.specs.Keys.{typed_group, with_groups}
-use Rattle.mob_clauses.specs.Outputs.{ColumnNumbers, OutputLists, with_item, with_items}
+use Rattle.mob_clauses.{specs.Keys.{typed_group, with_groups}, specs.Outputs.{ColumnNumbers, OutputLists, with_item, with_items}}
 
 -- the columns of a select list, if the items before this position are typed
 module _ (s : ScopeParts) (g : Option (List ColumnNumbers)) (items : List Item) (i : ℕ) (o : OutputLists) (cs : List ConstText) (whole : Result (OutputLists × List ConstText) Mistake)

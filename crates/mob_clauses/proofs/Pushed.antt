@@ -1,16 +1,10 @@
 -- The columns that are listed so far.
-use Rattle.std.proofs.Common.{◌≡◌, ◌∙◌, ◌≤◌, length, append-nil, ap, ℕ, ◌+◌, List, [], ◌∷◌, drop, sym, ◌++◌, append_assoc, Some, Result, Ok}
-use Rattle.std.specs.Prelude.{slice_get}
-use Rattle.std.proofs.lemmas.List.{drop_all}
+use Rattle.std.{specs.Prelude.{slice_get}, proofs.Common.{◌≡◌, ◌∙◌, ◌≤◌, length, append-nil, ap, ℕ, ◌+◌, List, [], ◌∷◌, drop, sym, ◌++◌, append_assoc, Some, Result, Ok}, proofs.lemmas.List.{drop_all}}
 use Rattle.mob_operators.specs.declared.operator.Op.TheVariants.{Column}
 use Rattle.mob_ast.specs.declared.types.SqlType.{SqlType}
-use Rattle.mob_typed.specs.Statements.{ColumnList}
-use Rattle.mob_typed.specs.Trees.{typed, none}
-use Rattle.mob_typed.specs.Selects.{Output}
-use Rattle.mob_list.specs.declared.fault.Fault.{Fault}
-use Rattle.mob_list.specs.declared.fault.Fault.TheVariants.{Because, NoMemory}
-use Rattle.mob_scope.specs.Answers.{StopsTyping}
-use Rattle.mob_scope.specs.declared.fault.Mistake.{Mistake}
+use Rattle.mob_typed.{specs.Statements.{ColumnList}, specs.Trees.{typed, none}, specs.Selects.{Output}}
+use Rattle.mob_list.{specs.declared.fault.Fault.{Fault}, specs.declared.fault.Fault.TheVariants.{Because, NoMemory}}
+use Rattle.mob_scope.{specs.Answers.{StopsTyping}, specs.declared.fault.Mistake.{Mistake}}
 use Rattle.mob_expression.proofs.Lists.{drop_at}
 use Rattle.mob_clauses.specs.Outputs.{columns_of_table}
 

@@ -1,18 +1,12 @@
 -- The clauses of a SELECT after its tables of FROM, in written order: the select list, ON, WHERE,
 -- GROUP BY, ORDER BY and LIMIT.
 use Rattle.std.specs.Prelude.{ℕ, List, [], ◌∷◌, Bool, false, Option, None, map, option_map, Ok}
-use Rattle.mob_ast.specs.declared.types.Word.{Word}
-use Rattle.mob_ast.specs.Trees.{Tree, SelectParts}
-use Rattle.mob_typed.specs.Trees.{TypedTree, typed_of}
-use Rattle.mob_typed.specs.Selects.{TypedSelectParts, key_seen}
-use Rattle.mob_scope.specs.Answers.{◌>>=◌}
-use Rattle.mob_expression.specs.Steps.{TypingStep}
-use Rattle.mob_scope.specs.Scopes.{ScopeTableParts, ScopeParts}
-use Rattle.mob_clauses.specs.Conditions.{condition, typed_joins}
-use Rattle.mob_clauses.specs.Outputs.{ColumnNumbers, is_grouped, grouping, OutputLists, with_items, no_outputs}
-use Rattle.mob_clauses.specs.Keys.{with_groups, key_item, typed_keys, limit_of}
-use Rattle.mob_clauses.specs.declared.clauses.Tables.{Tables}
-use Rattle.mob_clauses.specs.declared.clauses.Conditions.{Conditions as ConditionsOf}
+use Rattle.mob_ast.{specs.declared.types.Word.{Word}, specs.Trees.{Tree, SelectParts}}
+use Rattle.mob_typed.{specs.Trees.{TypedTree, typed_of}, specs.Selects.{TypedSelectParts, key_seen}}
+use Rattle.mob_scope.{specs.Answers.{◌>>=◌}, specs.Scopes.{ScopeTableParts, ScopeParts}}
+use Rattle.mob_expression.specs.Steps.{TypingTurn}
+use Rattle.mob_clauses.{specs.Conditions.{condition, typed_joins}, specs.Outputs.{ColumnNumbers, is_grouped, grouping, OutputLists, with_items, no_outputs}}
+use Rattle.mob_clauses.{specs.Keys.{with_groups, key_item, typed_keys, limit_of}, specs.declared.clauses.Tables.{Tables}, specs.declared.clauses.Conditions.{Conditions as ConditionsOf}}
 use Rattle.mob_clauses.specs.declared.clauses.Arrangement.{Arrangement}
 
 -- the tables of FROM with their names or aliases
@@ -27,7 +21,7 @@ pub record ConditionParts : Type 0 where
   pub joins : List (Option TypedTree)
   pub cond : Option TypedTree
 
-abbrev pub typed_conditions : ScopeParts → SelectParts → TypingStep ConditionParts
+abbrev pub typed_conditions : ScopeParts → SelectParts → TypingTurn ConditionParts
 typed_conditions scope s cs = typed_joins scope s.from cs >>= λ j. condition scope s.cond j.1 >>= λ c. Ok (record { joins = j.0; cond = c.0 }, c.1)
 
 -- GROUP BY, ORDER BY and LIMIT
@@ -37,7 +31,7 @@ pub record ArrangementParts : Type 0 where
   pub key_items : List (Option ℕ)
   pub limit : Option ℕ
 
-abbrev pub typed_arrangement : ScopeParts → Option (List ColumnNumbers) → OutputLists → SelectParts → TypingStep ArrangementParts
+abbrev pub typed_arrangement : ScopeParts → Option (List ColumnNumbers) → OutputLists → SelectParts → TypingTurn ArrangementParts
 typed_arrangement scope g o s cs = with_groups scope [] s.groups >>= λ gs. typed_keys scope g o s.keys cs >>= λ k. limit_of s.limit >>= λ l. Ok (record { groups = gs; keys = k.0; key_items = map (key_item o) s.keys; limit = l }, k.1)
 
 -- the typed SELECT of its clauses
@@ -58,7 +52,7 @@ select_made t s grouped o c r = record {
 }
 
 -- The typed SELECT over these tables of FROM, or the first mistake.
-abbrev pub typed_clauses : ScopeParts → SelectParts → TypingStep TypedSelectParts
+abbrev pub typed_clauses : ScopeParts → SelectParts → TypingTurn TypedSelectParts
 typed_clauses scope s cs = do
   o ← with_items scope (grouping (is_grouped s) scope s.groups) no_outputs s.items cs
   c ← typed_conditions scope s o.1

@@ -1,29 +1,17 @@
 -- The columns of GROUP BY, the keys of ORDER BY and the number of LIMIT.
-use Rattle.std.specs.Prelude.{◌&&◌, not, ℕ, List, [], ◌∷◌, ◌++◌, Bool, Option, Some, None, Result, Ok, length, slice_get, option_map, option_and_then, nat_le, if◌then◌else◌}
-use Rattle.std.specs.List.{list_all}
-use Rattle.std.specs.Char.{is_ascii_digit}
-use Rattle.std.specs.Str.Parse.{digits_value}
-use Rattle.mob_ast.specs.declared.types.Word.{Word}
-use Rattle.mob_ast.specs.declared.types.SqlType.{SqlType}
+use Rattle.std.{specs.Prelude.{◌&&◌, not, ℕ, List, [], ◌∷◌, ◌++◌, Bool, Option, Some, None, Result, Ok, length, slice_get, option_map, option_and_then, nat_le, if◌then◌else◌}, specs.List.{list_all}}
+use Rattle.std.{specs.Char.{is_ascii_digit}, specs.Str.Parse.{digits_value}}
+use Rattle.mob_ast.{specs.declared.types.Word.{Word}, specs.declared.types.SqlType.{SqlType}, specs.declared.expression.Node.{Node}, specs.Trees.{Tree, tree, KeyParts}}
+use Rattle.mob_operators.specs.Lookup.{has_type}
+use Rattle.mob_typed.{specs.declared.typed.Agg.{Agg}, specs.Trees.{TypedTree, typed, none, type_of}}
+use Rattle.mob_scope.{specs.declared.scope.Found.{Found}, specs.Answers.{refuse, ◌>>=◌, unless, found}, specs.declared.fault.Mistake.{Mistake}, specs.Names.{entry_from}, specs.Scopes.{ScopeParts}}
+use Rattle.mob_scope.specs.Columns.{column_named}
+use Rattle.mob_expression.{specs.Steps.{TypingTurn, one_more}, specs.Expressions.{typed_expression}}
+use Rattle.mob_clauses.{specs.Conditions.{tree_place}, specs.Outputs.{ColumnNumbers, OutputLists, is_ungrouped}}
 use Rattle.mob_ast.specs.declared.types.SqlType.TheVariants as sql
 use Rattle.mob_ast.specs.declared.refusal.Kind.TheVariants as kind
-use Rattle.mob_ast.specs.declared.expression.Node.{Node}
 use Rattle.mob_ast.specs.declared.expression.Node.TheVariants as node
-use Rattle.mob_ast.specs.Trees.{Tree, tree, KeyParts}
 use Rattle.mob_operators.specs.declared.operator.Op.TheVariants as op
-use Rattle.mob_operators.specs.Lookup.{has_type}
-use Rattle.mob_typed.specs.declared.typed.Agg.{Agg}
-use Rattle.mob_typed.specs.Trees.{TypedTree, typed, none, type_of}
-use Rattle.mob_scope.specs.declared.scope.Found.{Found}
-use Rattle.mob_scope.specs.Answers.{refuse, ◌>>=◌, unless, found}
-use Rattle.mob_scope.specs.declared.fault.Mistake.{Mistake}
-use Rattle.mob_expression.specs.Steps.{TypingStep, one_more}
-use Rattle.mob_scope.specs.Names.{entry_from}
-use Rattle.mob_scope.specs.Scopes.{ScopeParts}
-use Rattle.mob_scope.specs.Columns.{column_named}
-use Rattle.mob_expression.specs.Expressions.{typed_expression}
-use Rattle.mob_clauses.specs.Conditions.{tree_place}
-use Rattle.mob_clauses.specs.Outputs.{ColumnNumbers, OutputLists, is_ungrouped}
 
 -- a key, or a column of GROUP BY, has one of these types
 abbrev pub is_key : SqlType → Bool
@@ -70,18 +58,18 @@ key_item o k = option_map (λ x. x.0) (aliased o k.value)
 
 -- A key that means a column of the answer is that column. In a grouped SELECT any other key is a
 -- column of GROUP BY. A key is typed first and then checked.
-abbrev pub plain_key : ScopeParts → Option (List ColumnNumbers) → Tree → TypingStep TypedTree
+abbrev pub plain_key : ScopeParts → Option (List ColumnNumbers) → Tree → TypingTurn TypedTree
 plain_key s g t cs = typed_expression s t cs >>= λ r. unless (not (is_key (type_of r.0))) kind.NoSuchOperator (tree_place t) >>= λ _. unless (is_ungrouped g r.0) kind.NoSuchOperator (tree_place t) >>= λ _. Ok r
 
-abbrev pub key_value : ScopeParts → Option (List ColumnNumbers) → Tree → Option (ℕ × (TypedTree × SqlType)) → TypingStep TypedTree
+abbrev pub key_value : ScopeParts → Option (List ColumnNumbers) → Tree → Option (ℕ × (TypedTree × SqlType)) → TypingTurn TypedTree
 key_value s g t None cs = plain_key s g t cs
 key_value s g t (Some x) cs = unless (not (is_key x.1.1)) kind.NoSuchOperator (tree_place t) >>= λ _. Ok (x.1.0, cs)
 
-abbrev pub typed_key : ScopeParts → Option (List ColumnNumbers) → OutputLists → KeyParts → TypingStep (TypedTree × Bool)
+abbrev pub typed_key : ScopeParts → Option (List ColumnNumbers) → OutputLists → KeyParts → TypingTurn (TypedTree × Bool)
 typed_key s g o k cs = key_value s g k.value (aliased o k.value) cs >>= λ r. Ok ((r.0, k.descending), r.1)
 
 -- the keys in order
-abbrev pub typed_keys : ScopeParts → Option (List ColumnNumbers) → OutputLists → List KeyParts → TypingStep (List (TypedTree × Bool))
+abbrev pub typed_keys : ScopeParts → Option (List ColumnNumbers) → OutputLists → List KeyParts → TypingTurn (List (TypedTree × Bool))
 typed_keys s g o [] cs = Ok ([], cs)
 typed_keys s g o (k ∷ ks) cs = one_more (typed_key s g o k) (typed_keys s g o ks) cs
 

@@ -1,29 +1,18 @@
 -- The columns of the answer: the select list of a SELECT, which may be grouped.
 use Rattle.std.specs.Prelude.{◌==◌, ◌&&◌, ◌||◌, not, ◌+◌, ℕ, List, [], ◌∷◌, ◌++◌, Bool, true, false, Option, Some, None, Result, Ok, Err, codes, length, map, decimal, if◌then◌else◌}
 use Rattle.std.specs.List.{list_any, flat_map}
-use Rattle.mob_ast.specs.declared.types.Word.{Word}
+use Rattle.mob_ast.{specs.declared.types.Word.{Word}, specs.declared.expression.Node.{Node}, specs.Trees.{Tree, tree, Trees, ItemParts, every, one, count_all, SelectParts}}
+use Rattle.mob_operators.{specs.declared.aggregate.AggKind.TheVariants.{CountAll}, specs.Aggregates.{is_aggregate, aggregate_row}}
+use Rattle.mob_typed.{specs.declared.typed.Agg.{Agg}, specs.declared.typed.TExpr.{TExpr}, specs.Trees.{TypedTree, typed, none, typed_of, type_of}, specs.Selects.{Output, output_of}}
+use Rattle.mob_typed.specs.Statements.{ColumnList}
+use Rattle.mob_scope.{specs.declared.scope.Found.{Found}, specs.Answers.{◌>>=◌, unless, found}, specs.declared.fault.Mistake.{Mistake}, specs.Scopes.{ScopeTableParts, ScopeParts}}
+use Rattle.mob_scope.specs.Columns.{column_named}
+use Rattle.mob_expression.{specs.Steps.{TypingTurn}, specs.Expressions.{typed_expression, typed_operands}}
+use Rattle.mob_clauses.{specs.Conditions.{tree_place}, specs.declared.outputs.Outputs.{Outputs}}
 use Rattle.mob_ast.specs.declared.types.SqlType.TheVariants as sql
 use Rattle.mob_ast.specs.declared.refusal.Kind.TheVariants as kind
-use Rattle.mob_ast.specs.declared.expression.Node.{Node}
 use Rattle.mob_ast.specs.declared.expression.Node.TheVariants as node
-use Rattle.mob_ast.specs.Trees.{Tree, tree, Trees, ItemParts, every, one, count_all, SelectParts}
 use Rattle.mob_operators.specs.declared.operator.Op.TheVariants as op
-use Rattle.mob_operators.specs.declared.aggregate.AggKind.TheVariants.{CountAll}
-use Rattle.mob_operators.specs.Aggregates.{is_aggregate, aggregate_row}
-use Rattle.mob_typed.specs.declared.typed.Agg.{Agg}
-use Rattle.mob_typed.specs.declared.typed.TExpr.{TExpr}
-use Rattle.mob_typed.specs.Trees.{TypedTree, typed, none, typed_of, type_of}
-use Rattle.mob_typed.specs.Selects.{Output, output_of}
-use Rattle.mob_typed.specs.Statements.{ColumnList}
-use Rattle.mob_scope.specs.declared.scope.Found.{Found}
-use Rattle.mob_scope.specs.Answers.{◌>>=◌, unless, found}
-use Rattle.mob_scope.specs.declared.fault.Mistake.{Mistake}
-use Rattle.mob_expression.specs.Steps.{TypingStep}
-use Rattle.mob_scope.specs.Scopes.{ScopeTableParts, ScopeParts}
-use Rattle.mob_scope.specs.Columns.{column_named}
-use Rattle.mob_expression.specs.Expressions.{typed_expression, typed_operands}
-use Rattle.mob_clauses.specs.Conditions.{tree_place}
-use Rattle.mob_clauses.specs.declared.outputs.Outputs.{Outputs}
 
 -- whether an expression is a call of an aggregate
 abbrev pub is_aggregate_call : Tree → Bool
@@ -135,14 +124,14 @@ lone_operand _ = None
 abbrev pub aggregated : List ℕ → ℕ → List TypedTree → Result Value Mistake
 aggregated f p ts = found kind.NoSuchOperator p (lone_operand ts) >>= λ t. found kind.NoSuchOperator p (aggregate_row f (type_of t)) >>= λ a. Ok (t, Some (record { kind = a.0; ty = a.1; place = p }))
 
-abbrev pub aggregate_value : ScopeParts → List ℕ → ℕ → Trees → TypingStep Value
+abbrev pub aggregate_value : ScopeParts → List ℕ → ℕ → Trees → TypingTurn Value
 aggregate_value s f p args cs = typed_operands s args cs >>= λ r. aggregated f p r.0 >>= λ v. Ok (v, r.1)
 
 -- in a grouped SELECT an expression without an aggregate is a column of GROUP BY
-abbrev pub plain_value : ScopeParts → Option (List ColumnNumbers) → Tree → TypingStep Value
+abbrev pub plain_value : ScopeParts → Option (List ColumnNumbers) → Tree → TypingTurn Value
 plain_value s g t cs = typed_expression s t cs >>= λ r. unless (is_ungrouped g r.0) kind.NoSuchOperator (tree_place t) >>= λ _. Ok ((r.0, None), r.1)
 
-abbrev pub item_value : ScopeParts → Option (List ColumnNumbers) → Tree → TypingStep Value
+abbrev pub item_value : ScopeParts → Option (List ColumnNumbers) → Tree → TypingTurn Value
 item_value s g (tree (node.Call f) p args) cs = if is_aggregate f then aggregate_value s f p args cs else plain_value s g (tree (node.Call f) p args) cs
 item_value s g t cs = plain_value s g t cs
 
@@ -162,12 +151,12 @@ abbrev pub with_every : ScopeParts → Option (List ColumnNumbers) → OutputLis
 with_every s g o p = unless (length s.from == 0) kind.UnknownName p >>= λ _. unless (any_ungrouped g (all_outputs 0 s.from p)) kind.NoSuchOperator p >>= λ _. Ok (with_all o (all_outputs 0 s.from p))
 
 -- an entry of the select list
-abbrev pub with_item : ScopeParts → Option (List ColumnNumbers) → OutputLists → ItemParts → TypingStep OutputLists
+abbrev pub with_item : ScopeParts → Option (List ColumnNumbers) → OutputLists → ItemParts → TypingTurn OutputLists
 with_item s g o (every p) cs = with_every s g o p >>= λ r. Ok (r, cs)
 with_item s g o (one t a) cs = item_value s g t cs >>= λ r. Ok (with_output o r.0 (output_name a t (length o.columns)) a, r.1)
 with_item s g o (count_all p a) cs = Ok (with_output o (counting p) (count_name a (length o.columns)) a, cs)
 
-abbrev pub with_items : ScopeParts → Option (List ColumnNumbers) → OutputLists → List ItemParts → TypingStep OutputLists
+abbrev pub with_items : ScopeParts → Option (List ColumnNumbers) → OutputLists → List ItemParts → TypingTurn OutputLists
 with_items s g o [] cs = Ok (o, cs)
 with_items s g o (i ∷ is) cs = with_item s g o i cs >>= λ r. with_items s g r.0 is r.1
 

@@ -1,34 +1,14 @@
 -- A moving point and edges: its tally by their signs says whether it is inside.
-use Rattle.std.specs.Prelude.{◌≡◌, Bool, true, List, [], ◌∷◌, map, None, Result, Ok, Err, MatchResult, refl}
-use Rattle.std.specs.List.{AllByRecursion}
-use Rattle.std.proofs.Common.{ap, sym, ◌∙◌}
-use Rattle.mob_ratio.specs.Ratio.{Ratio, ◌-ℚ◌}
-use Rattle.mob_ratio.specs.Line.{line_at}
-use Rattle.mob_ratio.specs.Sign.{sign_of}
+use Rattle.std.{specs.Prelude.{◌≡◌, Bool, true, List, [], ◌∷◌, map, None, Result, Ok, Err, MatchResult, refl}, specs.List.{AllByRecursion}, proofs.Common.{ap, sym, ◌∙◌}}
+use Rattle.mob_ratio.{specs.Ratio.{Ratio, ◌-ℚ◌}, specs.Line.{line_at}, specs.Sign.{sign_of}}
 use Rattle.mob_span.specs.Span.{has}
-use Rattle.mob_plane.specs.declared.point.Point.{Point}
-use Rattle.mob_plane.specs.EdgeWise.{signs_at, signs_to}
-use Rattle.mob_plane.specs.declared.edges.Tally.{Tally}
-use Rattle.mob_plane.proofs.TurnsAlong.{turn-line, line_at-from}
-use Rattle.mob_slice.specs.Slices.{IsSound}
-use Rattle.mob_slice.specs.Cut.{slice_value}
-use Rattle.mob_slice.specs.Lines.{plane_value_of}
-use Rattle.mob_slice.specs.Entries.{Entry, IsFirst}
-use Rattle.mob_slice.specs.declared.slice.Slice.{Slice}
-use Rattle.mob_slice.specs.declared.line.PlaneLine.{PlaneLine}
-use Rattle.mob_list.specs.declared.fault.Fault.{Fault}
-use Rattle.mob_list.specs.declared.fault.Fault.TheVariants.{NoMemory}
-use Rattle.mob_lifted.specs.OnPiece.{AreKeptOn, IsKeptBy}
+use Rattle.mob_plane.{specs.declared.point.Point.{Point}, specs.EdgeWise.{signs_at, signs_to}, specs.declared.edges.Tally.{Tally}, proofs.TurnsAlong.{turn-line, line_at-from}}
+use Rattle.mob_slice.{specs.Slices.{IsSound}, specs.Cut.{slice_value}, specs.Lines.{plane_value_of}, specs.Entries.{Entry, IsFirst}, specs.declared.slice.Slice.{Slice}}
+use Rattle.mob_slice.{specs.declared.line.PlaneLine.{PlaneLine}, specs.OnPiece.{AreKeptOn, IsKeptBy}, specs.declared.formula.Formula.{Formula}, proofs.OnOnePiece.{kept_same}}
+use Rattle.mob_list.{specs.declared.fault.Fault.{Fault}, specs.declared.fault.Fault.TheVariants.{NoMemory}}
 use Rattle.mob_cells.specs.Restricted.{kept_value}
-use Rattle.mob_lifted.proofs.OnOnePiece.{kept_same}
-use Rattle.mob_clip.specs.declared.roots.EdgePlaced.{EdgePlaced}
-use Rattle.mob_clip.specs.Roots.{placed_edge, IsPlacedEdge}
-use Rattle.mob_clip.specs.Signs.{signs_on, edge_tally, tally_all}
-use Rattle.mob_clip.specs.Pieces.{is_known_in}
-use Rattle.mob_clip.specs.Polygons.{is_inside_edges}
-use Rattle.mob_clip.proofs.Knowing.{known_inside}
-use Rattle.mob_clip.proofs.Judging.{are_placed, level_ways, ways, placed_same}
-use Rattle.mob_slice.specs.declared.formula.Formula.{Formula}
+use Rattle.mob_clip.{specs.declared.roots.EdgePlaced.{EdgePlaced}, specs.Roots.{placed_edge, IsPlacedEdge}, specs.Signs.{signs_on, edge_tally, tally_all}, specs.Pieces.{is_known_in}}
+use Rattle.mob_clip.{specs.Polygons.{is_inside_edges}, proofs.Knowing.{known_inside}, proofs.Judging.{are_placed, level_ways, ways, placed_same}}
 
 from_sign : (x0 x1 a l u t : Ratio) → sign_of (line_at (x0 -ℚ a) (x1 -ℚ a) l u t) ≡ sign_of (line_at x0 x1 l u t -ℚ a)
 from_sign x0 x1 a l u t = ap sign_of (sym (line_at-from x0 x1 a l u t))

@@ -1,18 +1,9 @@
 -- The sign of a linear function at an instant, from the instant at which it changes.
-use Rattle.std.specs.Prelude.{◌≡◌, Bool, true, false, cond, not, ◌&&◌, ◌||◌, Some, None, refl}
-use Rattle.std.proofs.Common.{arith, ap, sym, ◌∙◌, true≢false}
-use Rattle.std.specs.declared.cmp.Ordering.{Ordering}
-use Rattle.std.specs.declared.cmp.Ordering.TheVariants.{Less, Equal, Greater}
-use Rattle.std.specs.Ordering.{is_eq}
-use Rattle.mob_ratio.specs.Ratio.{Ratio}
-use Rattle.mob_ratio.specs.Order.{before, same}
-use Rattle.mob_ratio.specs.Sign.{nil, sign_of, opposite, root_at, sign_on}
-use Rattle.mob_ratio.proofs.Order.{before-self, before-back, before-neither}
+use Rattle.std.{specs.Prelude.{◌≡◌, Bool, true, false, cond, not, ◌&&◌, ◌||◌, Some, None, refl}, specs.declared.cmp.Ordering.{Ordering}, specs.declared.cmp.Ordering.TheVariants.{Less, Equal, Greater}}
+use Rattle.std.{specs.Ordering.{is_eq}, proofs.Common.{arith, ap, sym, ◌∙◌, true≢false}}
+use Rattle.mob_ratio.{specs.Ratio.{Ratio}, specs.Order.{before, same}, specs.Sign.{nil, sign_of, opposite, root_at, sign_on}, proofs.Order.{before-self, before-back, before-neither}}
 use Rattle.mob_span.specs.Span.{SpanOf, has}
-use Rattle.mob_cells.specs.declared.linear.Ends.{Ends}
-use Rattle.mob_cells.specs.Roots.{IsLevel, root_of, function_at}
-use Rattle.mob_cells.specs.Cells.{instant_span, is_cell_of, NoneWithin}
-use Rattle.mob_cells.proofs.Keeps.{kept}
+use Rattle.mob_cells.{specs.declared.linear.Ends.{Ends}, specs.Roots.{IsLevel, root_of, function_at}, specs.Cells.{instant_span, is_cell_of, NoneWithin}, proofs.Keeps.{kept}}
 use Rattle.mob_cells.proofs.SignsAt.{first_side, second_side, no_side}
 use Rattle.mob_clip.specs.Signs.{changing_at, changing_sign, ends_change}
 

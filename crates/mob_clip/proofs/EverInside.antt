@@ -1,17 +1,10 @@
 -- When part of a moving point is inside a polygon.
-use Rattle.std.specs.Prelude.{◌≡◌, Bool, true, false, List, [], ◌∷◌, Option, Some, None, refl}
-use Rattle.std.proofs.Common.{ap, sym, ◌∙◌}
+use Rattle.std.{specs.Prelude.{◌≡◌, Bool, true, false, List, [], ◌∷◌, Option, Some, None, refl}, proofs.Common.{ap, sym, ◌∙◌}}
 use Rattle.mob_ratio.specs.Ratio.{Ratio}
 use Rattle.mob_span.proofs.SpanLemmas.{some_instant}
-use Rattle.mob_plane.specs.declared.point.Point.{Point}
-use Rattle.mob_plane.specs.Rings.{all_edges}
-use Rattle.mob_plane.specs.Membership.{inside}
-use Rattle.mob_plane.proofs.BySigns.{inside_signs}
-use Rattle.mob_slice.specs.Slices.{value_at, IsNormal}
-use Rattle.mob_slice.specs.Lines.{plane_value_of, plane_continued}
-use Rattle.mob_slice.specs.declared.slice.Slice.{Slice}
-use Rattle.mob_slice.specs.declared.line.PlaneLine.{PlaneLine}
-use Rattle.mob_lifted.proofs.Options.{none_some}
+use Rattle.mob_plane.{specs.declared.point.Point.{Point}, specs.Rings.{all_edges}, specs.Membership.{inside}, proofs.BySigns.{inside_signs}}
+use Rattle.mob_slice.{specs.Slices.{value_at, IsNormal}, specs.Lines.{plane_value_of, plane_continued}, specs.declared.slice.Slice.{Slice}, specs.declared.line.PlaneLine.{PlaneLine}}
+use Rattle.mob_slice.proofs.Options.{none_some}
 use Rattle.mob_cells.specs.Restricted.{kept_value, where_wanted, IsRestricted}
 use Rattle.mob_clip.specs.Polygons.{is_inside_edges, IsEverInside}
 

@@ -1,18 +1,10 @@
 -- Worked examples of the definitions. Each holds by computing.
 use Rattle.std.specs.Prelude.{◌≡◌, Bool, true, false, pos, negsuc, List, [], ◌∷◌, Some, refl}
-use Rattle.mob_ratio.specs.Gcd.{gcd, gcd_steps}
-use Rattle.mob_ratio.specs.Lowest.{in_lowest_terms}
-use Rattle.mob_ratio.specs.Ratio.{over, whole, turned, inverse, ◌+ℚ◌, ◌*ℚ◌, neg_ℚ}
-use Rattle.mob_ratio.specs.Order.{before, same}
-use Rattle.mob_ratio.specs.Line.{line_at, line_value}
-use Rattle.mob_ratio.specs.Sign.{opposite, root_at, sign_of}
-use Rattle.mob_slice.specs.declared.slice.Slice.{Slice}
-use Rattle.mob_slice.specs.declared.line.PlaneLine.{PlaneLine}
-use Rattle.mob_slice.specs.declared.formula.Formula.TheVariants.{F1, F2, F3}
+use Rattle.mob_ratio.{specs.Gcd.{gcd, gcd_steps}, specs.Lowest.{in_lowest_terms}, specs.Ratio.{over, whole, turned, inverse, ◌+ℚ◌, ◌*ℚ◌, neg_ℚ}, specs.Order.{before, same}}
+use Rattle.mob_ratio.{specs.Line.{line_at, line_value}, specs.Sign.{opposite, root_at, sign_of}}
+use Rattle.mob_slice.{specs.declared.slice.Slice.{Slice}, specs.declared.line.PlaneLine.{PlaneLine}, specs.declared.formula.Formula.TheVariants.{F1, F2, F3}}
 use Rattle.mob_stbox.specs.Boxes.{BoxOf, in_box}
-use Rattle.mob_clip.specs.declared.steps.Change.{Change}
-use Rattle.mob_clip.specs.Steps.{step_at}
-use Rattle.mob_clip.specs.Boxes.{entries_of_box}
+use Rattle.mob_clip.{specs.declared.timeline.Change.{Change}, specs.Timelines.{step_at}, specs.Boxes.{entries_of_box}}
 
 -- a value that is true only at 2
 abbrev touch : List (Change Bool)

@@ -1,39 +1,16 @@
 -- A moving point and a rectangle.
-use Rattle.std.specs.Prelude.{◌≡◌, Bool, false, not, ◌&&◌, List, ◌++◌, Some, Result, refl}
-use Rattle.std.specs.List.{AllByRecursion}
-use Rattle.std.proofs.Common.{ap, sym, ◌∙◌, subst, inl, inr}
-use Rattle.std.specs.Ordering.{is_lt, is_gt}
-use Rattle.mob_ratio.specs.Ratio.{Ratio, ◌-ℚ◌}
-use Rattle.mob_ratio.specs.Order.{before, up_to}
-use Rattle.mob_ratio.specs.Line.{line_at}
-use Rattle.mob_ratio.specs.Sign.{sign_of}
-use Rattle.mob_ratio.proofs.Order.{before-back}
-use Rattle.mob_plane.proofs.TurnsAlong.{line_at-from}
-use Rattle.mob_ratio.proofs.Signs.{sign-diff, lt_cond, gt_cond}
+use Rattle.std.{specs.Prelude.{◌≡◌, Bool, false, not, ◌&&◌, List, ◌++◌, Some, Result, refl}, specs.List.{AllByRecursion}, specs.Ordering.{is_lt, is_gt}, proofs.Common.{ap, sym, ◌∙◌, subst, inl, inr}}
+use Rattle.mob_ratio.{specs.Ratio.{Ratio, ◌-ℚ◌}, specs.Order.{before, up_to}, specs.Line.{line_at}, specs.Sign.{sign_of}, proofs.Order.{before-back}, proofs.Signs.{sign-diff, lt_cond, gt_cond}}
+use Rattle.mob_plane.{specs.declared.point.Point.{Point}, proofs.TurnsAlong.{line_at-from}}
 use Rattle.mob_frac.specs.Formula.{AllFit}
 use Rattle.mob_span.specs.Span.{SpanOf}
-use Rattle.mob_slice.specs.declared.formula.Formula.TheVariants.{F2}
-use Rattle.mob_slice.specs.Sides.{at_ends, HasValues}
-use Rattle.mob_slice.specs.Cut.{slice_value}
-use Rattle.mob_slice.specs.Lines.{plane_value_of, plane_parts_of}
-use Rattle.mob_list.specs.Faults.{OnCause}
-use Rattle.mob_slice.specs.Entries.{IsFirst, IsPartFault}
-use Rattle.mob_slice.specs.declared.slice.Slice.{Slice}
-use Rattle.mob_plane.specs.declared.point.Point.{Point}
-use Rattle.mob_slice.specs.declared.line.PlaneLine.{PlaneLine}
-use Rattle.mob_list.specs.declared.fault.Fault.{Fault}
-use Rattle.mob_list.specs.declared.fault.Fault.TheVariants.{Because, NoMemory}
-use Rattle.mob_cells.specs.declared.linear.Ends.{Ends}
-use Rattle.mob_cells.specs.Roots.{IsLevel}
-use Rattle.mob_cells.specs.Cells.{signs_of}
-use Rattle.mob_lifted.specs.OnPiece.{IsKeptBy}
-use Rattle.mob_cells.specs.Kept.{entries_of_cuts}
-use Rattle.mob_cells.specs.Restricted.{kept_value}
-use Rattle.mob_lifted.proofs.OnOnePiece.{kept_behind}
-use Rattle.mob_stbox.specs.declared.area.Area.{Area}
-use Rattle.mob_stbox.specs.Areas.{in_area}
+use Rattle.mob_slice.{specs.declared.formula.Formula.TheVariants.{F2}, specs.Sides.{at_ends, HasValues}, specs.Cut.{slice_value}, specs.Lines.{plane_value_of, plane_parts_of}}
+use Rattle.mob_slice.{specs.Entries.{IsFirst, IsPartFault}, specs.declared.slice.Slice.{Slice}, specs.declared.line.PlaneLine.{PlaneLine}, specs.OnPiece.{IsKeptBy}}
+use Rattle.mob_slice.{specs.declared.formula.Formula.{Formula}, proofs.OnOnePiece.{kept_behind}}
+use Rattle.mob_list.{specs.Faults.{OnCause}, specs.declared.fault.Fault.{Fault}, specs.declared.fault.Fault.TheVariants.{Because, NoMemory}}
+use Rattle.mob_cells.{specs.declared.linear.Ends.{Ends}, specs.Roots.{IsLevel}, specs.Cells.{signs_of}, specs.Kept.{entries_of_cuts}, specs.Restricted.{kept_value}}
+use Rattle.mob_stbox.{specs.declared.area.Area.{Area}, specs.Areas.{in_area}}
 use Rattle.mob_clip.specs.Areas.{in_area_by, area_parts, area_ends, entries_of_area}
-use Rattle.mob_slice.specs.declared.formula.Formula.{Formula}
 
 lt_sign : (x y : Ratio) → is_lt (sign_of (x -ℚ y)) ≡ before x y
 lt_sign x y = ap is_lt (sym (sign-diff x y)) ∙ lt_cond (before x y) (before y x)

@@ -1,43 +1,18 @@
 -- A slice and the time of a box.
-use Rattle.std.specs.Prelude.{◌≡◌, Bool, true, false, cond, not, ◌&&◌, ◌||◌, List, [], ◌∷◌, ◌++◌, Option, Some, None, MatchOption, Result, Ok, Err, MatchResult, refl}
-use Rattle.std.proofs.lemmas.Bool.{and_parts}
+use Rattle.std.{specs.Prelude.{◌≡◌, Bool, true, false, cond, not, ◌&&◌, ◌||◌, List, [], ◌∷◌, ◌++◌, Option, Some, None, MatchOption, Result, Ok, Err, MatchResult, refl}, proofs.lemmas.Bool.{and_parts}}
 use Rattle.std.proofs.Common.{arith, ap, sym, ◌∙◌, subst, inl, inr, true≢false, append_assoc, append-nil}
-use Rattle.mob_ratio.specs.Ratio.{Ratio}
-use Rattle.mob_ratio.specs.Order.{before, up_to}
-use Rattle.mob_ratio.proofs.Order.{before-self, before-back, before-trans, before-neither}
+use Rattle.mob_ratio.{specs.Ratio.{Ratio}, specs.Order.{before, up_to}, proofs.Order.{before-self, before-back, before-trans, before-neither}}
 use Rattle.mob_frac.specs.Formula.{AllFit}
-use Rattle.mob_span.specs.Span.{SpanOf, has, has_instant}
-use Rattle.mob_span.specs.Meet.{meet_of}
-use Rattle.mob_span.specs.Neighbours.{is_clear, is_inside}
-use Rattle.mob_span.proofs.SpanLemmas.{no_instant, meet_has, meet_none}
+use Rattle.mob_span.{specs.Span.{SpanOf, has, has_instant}, specs.Meet.{meet_of}, specs.Neighbours.{is_clear, is_inside}, specs.Flags.{same_bool}, proofs.SpanLemmas.{no_instant, meet_has, meet_none}}
 use Rattle.mob_span.proofs.Insides.{meet_left, clear_has, inside_has, low_inside, high_inside}
-use Rattle.mob_span.specs.Flags.{same_bool}
-use Rattle.mob_slice.specs.Slices.{IsSound}
-use Rattle.mob_slice.specs.Look.{IsLookFault}
-use Rattle.mob_slice.specs.Sides.{at_ends, HasValues}
-use Rattle.mob_slice.specs.Cut.{slice_value, slice_parts}
-use Rattle.mob_slice.specs.Lines.{plane_value_of, plane_parts_of}
-use Rattle.mob_slice.specs.PlaneLaws.{plane_laws}
-use Rattle.mob_list.specs.Faults.{OnCause}
-use Rattle.mob_slice.specs.Entries.{IsFirst}
-use Rattle.mob_slice.specs.declared.slice.Slice.{Slice}
+use Rattle.mob_slice.{specs.Slices.{IsSound}, specs.Look.{IsLookFault}, specs.Sides.{at_ends, HasValues}, specs.Cut.{slice_value, slice_parts}, specs.Lines.{plane_value_of, plane_parts_of}}
+use Rattle.mob_slice.{specs.PlaneLaws.{plane_laws}, specs.Entries.{IsFirst}, specs.declared.slice.Slice.{Slice}, specs.declared.line.PlaneLine.{PlaneLine}, specs.declared.formula.Formula.{Formula}}
+use Rattle.mob_slice.{specs.OnPiece.{AreKeptOn, IsKeptBy}, specs.Piecewise.{AreGivenInOrder}, proofs.Cuts.{all_both, all_first, all_second}, proofs.OnOnePiece.{kept_same, kept_behind}}
+use Rattle.mob_list.{specs.Faults.{OnCause}, specs.declared.fault.Fault.{Fault}, specs.declared.fault.Fault.TheVariants.{Because, NoMemory}}
 use Rattle.mob_plane.specs.declared.point.Point.{Point}
-use Rattle.mob_slice.specs.declared.line.PlaneLine.{PlaneLine}
-use Rattle.mob_slice.specs.declared.formula.Formula.{Formula}
-use Rattle.mob_list.specs.declared.fault.Fault.{Fault}
-use Rattle.mob_list.specs.declared.fault.Fault.TheVariants.{Because, NoMemory}
-use Rattle.mob_slice.proofs.Cuts.{all_both, all_first, all_second}
-use Rattle.mob_cells.specs.Cells.{AreCells}
-use Rattle.mob_lifted.specs.OnPiece.{AreKeptOn, IsKeptBy}
-use Rattle.mob_cells.specs.Restricted.{kept_value}
-use Rattle.mob_lifted.specs.Piecewise.{AreGivenInOrder}
-use Rattle.mob_cells.proofs.Restricting.{all_kept}
-use Rattle.mob_lifted.proofs.OnOnePiece.{kept_same, kept_behind}
-use Rattle.mob_cells.proofs.OwnEnds.{start_value, end_value}
-use Rattle.mob_stbox.specs.declared.area.Area.{Area}
-use Rattle.mob_stbox.specs.Boxes.{BoxOf, in_space, in_time, in_box}
-use Rattle.mob_clip.specs.Boxes.{entries_of_space, entries_in_time, entries_of_box, AreAround, front_span, back_span}
-use Rattle.mob_clip.specs.Pieces.{some_span, AreAllOrNothing}
+use Rattle.mob_cells.{specs.Cells.{AreCells}, specs.Restricted.{kept_value}, proofs.Restricting.{all_kept}, proofs.OwnEnds.{start_value, end_value}}
+use Rattle.mob_stbox.{specs.declared.area.Area.{Area}, specs.Boxes.{BoxOf, in_space, in_time, in_box}}
+use Rattle.mob_clip.{specs.Boxes.{entries_of_space, entries_in_time, entries_of_box, AreAround, front_span, back_span}, specs.Pieces.{some_span, AreAllOrNothing}}
 
 -- ---- a span and a part of it
 -- the two ends of a span, each by itself

@@ -1,49 +1,27 @@
 -- The entries of a restriction by edges, stage by stage.
-use Rattle.std.specs.Prelude.{◌≡◌, Bool, true, false, cond, List, [], ◌∷◌, ◌++◌, map, Option, Some, None, MatchOption, refl}
-use Rattle.std.specs.List.{AllByRecursion, flat_map}
-use Rattle.std.proofs.Common.{ap, sym, ◌∙◌, subst, inl, inr}
-use Rattle.std.proofs.lemmas.List.Concat.{flat_map-append}
-use Rattle.mob_ratio.specs.Ratio.{Ratio, ◌-ℚ◌}
-use Rattle.mob_ratio.specs.Sign.{opposite, root_at}
+use Rattle.std.{specs.Prelude.{◌≡◌, Bool, true, false, cond, List, [], ◌∷◌, ◌++◌, map, Option, Some, None, MatchOption, refl}, specs.List.{AllByRecursion, flat_map}}
+use Rattle.std.{proofs.Common.{ap, sym, ◌∙◌, subst, inl, inr}, proofs.lemmas.List.Concat.{flat_map-append}}
+use Rattle.mob_ratio.{specs.Ratio.{Ratio, ◌-ℚ◌}, specs.Sign.{opposite, root_at}}
 use Rattle.mob_frac.specs.Formula.{AllFit}
-use Rattle.mob_span.specs.Span.{SpanOf}
-use Rattle.mob_span.proofs.SpanLemmas.{has_upto_lower, has_upto_upper}
-use Rattle.mob_plane.specs.declared.point.Point.{Point}
-use Rattle.mob_plane.specs.Turns.{turn, turn_parts, turns_parts}
-use Rattle.mob_slice.specs.Slices.{IsSound}
-use Rattle.mob_slice.specs.Sides.{at_ends}
-use Rattle.mob_slice.specs.Cut.{slice_value, slice_parts}
-use Rattle.mob_slice.specs.Lines.{plane_value_of, plane_parts_of}
-use Rattle.mob_slice.specs.PlaneLaws.{plane_laws}
-use Rattle.mob_list.specs.Faults.{OnCause}
-use Rattle.mob_slice.specs.Entries.{IsFirst, IsPartFault}
-use Rattle.mob_slice.specs.declared.slice.Slice.{Slice}
-use Rattle.mob_slice.specs.declared.line.PlaneLine.{PlaneLine}
-use Rattle.mob_slice.specs.declared.formula.Formula.TheVariants.{F1, F2, F3, F4}
-use Rattle.mob_list.specs.declared.fault.Fault.{Fault}
-use Rattle.mob_list.specs.declared.fault.Fault.TheVariants.{Because, NoMemory}
-use Rattle.mob_slice.proofs.Cuts.{all_both, all_first, all_second}
-use Rattle.mob_cells.specs.declared.linear.Ends.{Ends}
-use Rattle.mob_cells.specs.declared.signs.Placed.{Placed}
-use Rattle.mob_cells.specs.Roots.{IsLevel, root_of, root_parts, roots_parts, roots, as_list}
-use Rattle.mob_cells.specs.Cells.{IsPlaced}
-use Rattle.mob_cells.proofs.Zeros.{root_inside}
-use Rattle.mob_cells.proofs.OwnEnds.{start_value, end_value}
-use Rattle.mob_list.proofs.Each.{each_both, each_map}
-use Rattle.mob_clip.specs.declared.sides.Beside.{Beside}
-use Rattle.mob_clip.specs.declared.sides.EdgeEnds.{EdgeEnds}
-use Rattle.mob_clip.specs.declared.roots.EdgePlaced.{EdgePlaced}
+use Rattle.mob_span.{specs.Span.{SpanOf}, proofs.SpanLemmas.{has_upto_lower, has_upto_upper}}
+use Rattle.mob_plane.{specs.declared.point.Point.{Point}, specs.Turns.{turn, turn_parts, turns_parts}}
+use Rattle.mob_slice.{specs.Slices.{IsSound}, specs.Sides.{at_ends}, specs.Cut.{slice_value, slice_parts}, specs.Lines.{plane_value_of, plane_parts_of}, specs.PlaneLaws.{plane_laws}}
+use Rattle.mob_slice.{specs.Entries.{IsFirst, IsPartFault}, specs.declared.slice.Slice.{Slice}, specs.declared.line.PlaneLine.{PlaneLine}, specs.declared.formula.Formula.TheVariants.{F1, F2, F3, F4}}
+use Rattle.mob_slice.{specs.declared.formula.Formula.{Formula}, proofs.Cuts.{all_both, all_first, all_second}}
+use Rattle.mob_list.{specs.Faults.{OnCause}, specs.declared.fault.Fault.{Fault}, specs.declared.fault.Fault.TheVariants.{Because, NoMemory}, proofs.Each.{each_both, each_map}}
+use Rattle.mob_cells.{specs.declared.linear.Ends.{Ends}, specs.declared.signs.Placed.{Placed}, specs.Roots.{IsLevel, root_of, root_parts, roots_parts, roots, as_list}, specs.Cells.{IsPlaced}}
+use Rattle.mob_cells.{proofs.Zeros.{root_inside}, proofs.OwnEnds.{start_value, end_value}}
+use Rattle.mob_clip.{specs.declared.sides.BesideEdge.{BesideEdge}, specs.declared.sides.EdgeEnds.{EdgeEnds}, specs.declared.roots.EdgePlaced.{EdgePlaced}}
 use Rattle.mob_clip.specs.Sides.{beside, beside_parts, point_parts, with_turn, turning_parts, IsBeside}
 use Rattle.mob_clip.specs.Roots.{place_edge, placed_edge, listed_ends, edge_roots, IsBetweenEnds, IsPlacedEdge, CutsFit}
 use Rattle.mob_clip.specs.Polygons.{edge_parts, edges_parts, edge_ends, edges_ends, entries_of_edges}
-use Rattle.mob_slice.specs.declared.formula.Formula.{Formula}
 
 -- ---- the differences to the first end of each edge
 known_each : (p q : Point) (es : List (Point × Point)) → AllFit (flat_map (beside_parts p q) es) → AllByRecursion (IsBeside p q) (map (beside p q) es)
 known_each p q [] h = tt
 known_each p q (e ∷ es) h = ((refl, all_first (point_parts p q e.0) (point_parts p q e.1) (all_first (beside_parts p q e) (flat_map (beside_parts p q) es) h)), known_each p q es (all_second (beside_parts p q e) (flat_map (beside_parts p q) es) h))
 
-pub all_known : (p q : Point) (es : List (Point × Point)) (bs : List Beside) → bs ≡ map (beside p q) es → AllFit (flat_map (beside_parts p q) es) → AllByRecursion (IsBeside p q) bs
+pub all_known : (p q : Point) (es : List (Point × Point)) (bs : List BesideEdge) → bs ≡ map (beside p q) es → AllFit (flat_map (beside_parts p q) es) → AllByRecursion (IsBeside p q) bs
 all_known p q es bs e h = rw e (known_each p q es h)
 
 -- ---- parts of three formulas over one list
@@ -216,7 +194,7 @@ module _ (es : List (Point × Point)) (s : Slice PlaneLine) (sound : IsSound (λ
   besides_fail (Because f) h = inr (λ a. h.1 (fit_besides a), ap Some h.0)
   besides_fail NoMemory h = tt
 
-  module _ (bs : List Beside) (e : bs ≡ map (beside p q) es) where
+  module _ (bs : List BesideEdge) (e : bs ≡ map (beside p q) es) where
     pub are_ways : (gs : List EdgeEnds) → gs ≡ map (with_turn p q) bs → gs ≡ ways
     are_ways gs k = k ∙ ap (map (with_turn p q)) e
 

@@ -1,14 +1,9 @@
 -- Lists made from others, part by part.
-use Rattle.mob_slice.specs.Entries.{IsPartFault}
-use Rattle.std.specs.Prelude.{◌≡◌, List, [], ◌∷◌, ◌++◌, map}
-use Rattle.std.specs.List.{flat_map}
-use Rattle.std.proofs.Common.{ap, sym, ◌∙◌, subst, append_assoc, append-nil}
+use Rattle.mob_slice.{specs.Entries.{IsPartFault}, specs.declared.formula.Formula.{Formula}, proofs.Cuts.{all_both, all_first, all_second}}
+use Rattle.std.{specs.Prelude.{◌≡◌, List, [], ◌∷◌, ◌++◌, map}, specs.List.{flat_map}, proofs.Common.{ap, sym, ◌∙◌, subst, append_assoc, append-nil}}
 use Rattle.mob_ratio.specs.Ratio.{Ratio}
 use Rattle.mob_frac.specs.Formula.{AllFit}
-use Rattle.mob_slice.specs.declared.formula.Formula.{Formula}
-use Rattle.mob_list.specs.declared.fault.Fault.{Fault}
-use Rattle.mob_list.specs.declared.fault.Fault.TheVariants.{Because, NoMemory}
-use Rattle.mob_slice.proofs.Cuts.{all_both, all_first, all_second}
+use Rattle.mob_list.{specs.declared.fault.Fault.{Fault}, specs.declared.fault.Fault.TheVariants.{Because, NoMemory}}
 
 -- the parts of a list fit if those of the rest do
 pub record IsChecking {A : Type 0} (parts : A → List Ratio) (all rest : List A) : Type 0 where

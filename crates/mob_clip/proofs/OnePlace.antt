@@ -1,21 +1,13 @@
 -- The operators on boxes and polygons have one value.
 use Rattle.std.proofs.Common.{◌≡◌, Bool, sym, ap, ◌∙◌, true}
-use Rattle.mob_slice.specs.Slices.{value_at}
-use Rattle.mob_value.specs.declared.value.Value.{Value}
-use Rattle.mob_slice.specs.Lines.{plane_value_of}
+use Rattle.mob_slice.{specs.Slices.{value_at}, specs.Lines.{plane_value_of}, specs.CourseOf.{plane_course}}
+use Rattle.mob_value.{specs.declared.value.Value.{Value}, specs.declared.value.Value.TheVariants.{MovingPoint, Polygon, Box, Null}, specs.ValueBoxes.{OnBox}, specs.Truths.{IsTruthOf}}
+use Rattle.mob_value.{proofs.ValueBoxes.{one_value_box}, proofs.OneValue.{or_null_once, says_once, Once, on_box_once}}
 use Rattle.mob_cells.specs.Restricted.{where_wanted}
-use Rattle.mob_slice.specs.CourseOf.{plane_course}
-use Rattle.mob_value.specs.declared.value.Value.TheVariants.{MovingPoint, Polygon, Box, Null}
 use Rattle.mob_plane.specs.Membership.{inside}
 use Rattle.mob_stbox.specs.Boxes.{in_box, BoxesMeet}
-use Rattle.mob_value.specs.ValueBoxes.{OnBox}
-use Rattle.mob_value.proofs.ValueBoxes.{one_value_box}
-use Rattle.mob_value.specs.Truths.{IsTruthOf}
-use Rattle.mob_normal.proofs.ByCourse.{one_of_points}
-use Rattle.mob_value.proofs.OneValue.{or_null_once, says_once, Once, on_box_once}
-use Rattle.mob_clip.specs.Sql.Boxes.{IsBoxRestriction, IsStBox, IsExpansion, moved_outward, IsOverlap}
-use Rattle.mob_clip.specs.Sql.Polygons.{IsPolygonRestriction, IsIntersecting}
-use Rattle.mob_clip.specs.Polygons.{IsEverInside}
+use Rattle.mob_lift.proofs.ByCourse.{one_of_points}
+use Rattle.mob_clip.{specs.Sql.Boxes.{IsBoxRestriction, IsStBox, IsExpansion, moved_outward, IsOverlap}, specs.Sql.Polygons.{IsPolygonRestriction, IsIntersecting}, specs.Polygons.{IsEverInside}}
 
 pub stbox_once : (a : Value) → Once (IsStBox a)
 stbox_once (MovingPoint a) v w h k = h.2 ∙ ap Box (one_value_box a h.0 k.0 h.1 k.1) ∙ sym k.2

@@ -1,20 +1,11 @@
 -- With the boxes that it is given, the code computes the operators on boxes.
-use Rattle.std.proofs.Common.{◌≡◌, true, [], Option, Some, None, Result, Ok, Err, ap, sym, subst, refl}
-use Rattle.std.specs.Prelude.{MatchOption}
-use Rattle.std.proofs.lemmas.Option.{same_Some}
+use Rattle.std.{specs.Prelude.{MatchOption}, proofs.Common.{◌≡◌, true, [], Option, Some, None, Result, Ok, Err, ap, sym, subst, refl}, proofs.lemmas.Option.{same_Some}}
 use Rattle.mob_stbox.specs.Boxes.{BoxOf, BoxesMeet}
-use Rattle.mob_slice.specs.Entries.{IsFirst}
-use Rattle.mob_list.specs.declared.fault.Fault.{Fault}
-use Rattle.mob_list.specs.declared.fault.Fault.TheVariants.{Because, NoMemory}
-use Rattle.mob_value.specs.ValueBoxes.{HasBox, IsBoxOf, OnBox}
-use Rattle.mob_value.specs.declared.value.Value.{Value}
-use Rattle.mob_value.specs.declared.value.Value.TheVariants.{Null, Box, MovingPoint}
-use Rattle.mob_value.proofs.ValueBoxes.{on_box}
-use Rattle.mob_clip.specs.Sql.Boxes.{IsOverlap, IsExpansion, moved_outward}
-use Rattle.mob_clip.specs.Sql.Entries.{OnExpansion, entries_outward}
-use Rattle.mob_value.specs.Truths.{IsTruthOf}
-use Rattle.mob_value.specs.Outcomes.{IsOutcome}
-use Rattle.mob_slice.specs.declared.formula.Formula.{Formula}
+use Rattle.mob_slice.{specs.Entries.{IsFirst}, specs.declared.formula.Formula.{Formula}}
+use Rattle.mob_list.{specs.declared.fault.Fault.{Fault}, specs.declared.fault.Fault.TheVariants.{Because, NoMemory}}
+use Rattle.mob_value.{specs.ValueBoxes.{HasBox, IsBoxOf, OnBox}, specs.declared.value.Value.{Value}, specs.declared.value.Value.TheVariants.{Null, Box, MovingPoint}, specs.Truths.{IsTruthOf}}
+use Rattle.mob_value.{specs.Outcomes.{IsOutcome}, proofs.ValueBoxes.{on_box}}
+use Rattle.mob_clip.{specs.Sql.Boxes.{IsOverlap, IsExpansion, moved_outward}, specs.Sql.Entries.{OnExpansion, entries_outward}}
 
 -- `found` is the result of a call for the box of a
 abbrev pub IsGivenBox : Value → Option BoxOf → Type 0

@@ -1,37 +1,18 @@
 -- The kept parts of a slice, from its start to the position of a walk.
 use Rattle.std.specs.Prelude.{◌≡◌, Bool, true, false, cond, not, ◌&&◌, ◌||◌, List, [], ◌∷◌, ◌++◌, Option, Some, None, IfSome, MatchOption, Result, Ok, Err, MatchResult, refl}
-use Rattle.std.proofs.lemmas.Bool.{and_parts}
-use Rattle.std.specs.List.{AllByRecursion}
-use Rattle.std.proofs.Common.{arith, ap, sym, ◌∙◌, subst, true≢false, append-nil}
-use Rattle.mob_ratio.specs.Ratio.{Ratio}
-use Rattle.mob_ratio.specs.Order.{before, up_to}
-use Rattle.mob_ratio.proofs.Order.{before-self, before-back, before-trans, before-neither}
+use Rattle.std.{specs.List.{AllByRecursion}, proofs.lemmas.Bool.{and_parts}, proofs.Common.{arith, ap, sym, ◌∙◌, subst, true≢false, append-nil}}
+use Rattle.mob_ratio.{specs.Ratio.{Ratio}, specs.Order.{before, up_to}, proofs.Order.{before-self, before-back, before-trans, before-neither}}
 use Rattle.mob_frac.specs.Formula.{AllFit}
-use Rattle.mob_span.specs.Span.{SpanOf, has, has_instant}
-use Rattle.mob_span.specs.Neighbours.{is_clear, is_inside}
-use Rattle.mob_span.proofs.SpanLemmas.{no_instant}
+use Rattle.mob_span.{specs.Span.{SpanOf, has, has_instant}, specs.Neighbours.{is_clear, is_inside}, specs.Flags.{same_bool}, proofs.SpanLemmas.{no_instant}}
 use Rattle.mob_span.proofs.Insides.{clear_inside, inside_clear, clear_has, inside_has, inside_self, inside-trans}
-use Rattle.mob_span.specs.Flags.{same_bool}
-use Rattle.mob_plane.specs.declared.point.Point.{Point}
-use Rattle.mob_slice.specs.Slices.{value_at, IsOrdered, IsSound, IsClearOf, OfHead}
-use Rattle.mob_slice.specs.Pieces.{AreInside}
-use Rattle.mob_slice.specs.Sides.{at_ends}
-use Rattle.mob_slice.specs.Cut.{slice_value, slice_parts}
-use Rattle.mob_slice.specs.Lines.{plane_value_of, plane_parts_of}
-use Rattle.mob_slice.specs.declared.slice.Slice.{Slice}
-use Rattle.mob_slice.specs.declared.line.PlaneLine.{PlaneLine}
-use Rattle.mob_list.specs.declared.fault.Fault.{Fault}
-use Rattle.mob_list.specs.declared.fault.Fault.TheVariants.{NoMemory}
-use Rattle.mob_slice.proofs.Cuts.{all_both, all_first, all_second}
-use Rattle.mob_lifted.specs.OnPiece.{AreKeptOn}
-use Rattle.mob_lifted.proofs.OnOnePiece.{kept_same}
+use Rattle.mob_plane.{specs.declared.point.Point.{Point}, specs.declared.edges.Tally.{Tally}}
+use Rattle.mob_slice.{specs.Slices.{value_at, IsRisingInTime, IsSound, IsClearOf, OfHead}, specs.Pieces.{AreInside}, specs.Sides.{at_ends}, specs.Cut.{slice_value, slice_parts}}
+use Rattle.mob_slice.{specs.Lines.{plane_value_of, plane_parts_of}, specs.declared.slice.Slice.{Slice}, specs.declared.line.PlaneLine.{PlaneLine}, specs.OnPiece.{AreKeptOn}}
+use Rattle.mob_slice.{specs.declared.formula.Formula.{Formula}, proofs.Cuts.{all_both, all_first, all_second}, proofs.OnOnePiece.{kept_same}}
+use Rattle.mob_list.{specs.declared.fault.Fault.{Fault}, specs.declared.fault.Fault.TheVariants.{NoMemory}}
 use Rattle.mob_cells.specs.Restricted.{kept_value}
-use Rattle.mob_plane.specs.declared.edges.Tally.{Tally}
-use Rattle.mob_clip.specs.declared.steps.Change.{Change}
-use Rattle.mob_clip.specs.declared.steps.Steps.{Steps}
-use Rattle.mob_clip.specs.Steps.{step_at, steps_at, ChangesFit}
+use Rattle.mob_clip.{specs.declared.timeline.Change.{Change}, specs.declared.timeline.Timeline.{Timeline}, specs.Timelines.{step_at, timeline_at, ChangesFit}}
 use Rattle.mob_clip.specs.Pieces.{is_known_in, some_span, left_span, right_span, left_piece, right_piece, IsOnSlice, AreAllOrNothing}
-use Rattle.mob_slice.specs.declared.formula.Formula.{Formula}
 
 -- ---- a span before and after an instant
 -- t is before r, or is r if it is included
@@ -79,7 +60,7 @@ sides_clear c r i h = by (before c.upper r) refl (before r c.lower) refl
 abbrev pub AllBefore : SpanOf → List (Slice PlaneLine) → Type 0
 AllBefore c out = AllByRecursion (λ x. is_clear x.span c ≡ true) out
 
-order_joined : (c : SpanOf) (out v : List (Slice PlaneLine)) → IsOrdered (λ k. k.from) (λ k. k.to) out → AllBefore c out → AreInside c v → IsOrdered (λ k. k.from) (λ k. k.to) v → IsOrdered (λ k. k.from) (λ k. k.to) (out ++ v)
+order_joined : (c : SpanOf) (out v : List (Slice PlaneLine)) → IsRisingInTime (λ k. k.from) (λ k. k.to) out → AllBefore c out → AreInside c v → IsRisingInTime (λ k. k.from) (λ k. k.to) v → IsRisingInTime (λ k. k.from) (λ k. k.to) (out ++ v)
 order_joined c [] v h a i k = k
 order_joined c (x ∷ out) v h a i k = (h.0, head out h.1, order_joined c out v h.2 a.1 i k)
   where
@@ -183,7 +164,7 @@ module _ (s : Slice PlaneLine) where
   -- the slices have the values f at each instant of s that is not in the piece, and come before the
   -- piece
   pub record IsLeft (f : Ratio → Option Point) (rest : Option SpanOf) (out : List (Slice PlaneLine)) : Type 0 where
-    pub ordered : IsOrdered (λ k. k.from) (λ k. k.to) out
+    pub ordered : IsRisingInTime (λ k. k.from) (λ k. k.to) out
     pub inside : AreInside s.span out
     pub ahead : MatchOption rest (Unit {0}) (λ c. (has_instant c ≡ true) × AllBefore c out)
     pub holds : IsOnSlice s rest
@@ -244,20 +225,20 @@ module _ (s : Slice PlaneLine) where
         at t i false e = value_front out v t (no_value c v t h.inside e) ∙ m.values t i e
 
 -- ---- along a walk
-module _ (s : Slice PlaneLine) (want : Bool) (steps : Steps Tally) where
+module _ (s : Slice PlaneLine) (want : Bool) (steps : Timeline Tally) where
   abbrev pub wanted : Ratio → Option Point
-  wanted t = kept_value want (is_known_in (steps_at steps t)) (slice_value plane_value_of s t)
+  wanted t = kept_value want (is_known_in (timeline_at steps t)) (slice_value plane_value_of s t)
 
   -- the parts kept so far, and the tally on the rest
   pub record IsPassing (rest : Option SpanOf) (now : Tally) (later : List (Change Tally)) (out : List (Slice PlaneLine)) : Type 0 where
     pub left : IsLeft s wanted rest out
-    pub same : (t : Ratio) → has_piece rest t ≡ true → steps_at steps t ≡ step_at now later t
+    pub same : (t : Ratio) → has_piece rest t ≡ true → timeline_at steps t ≡ step_at now later t
     pub fits : ChangesFit (slice_parts plane_parts_of s) later
 
   pub passing_start : IsSound (λ k. k.from) (λ k. k.to) s → AllFit (at_ends (slice_parts plane_parts_of s) s.span) → ChangesFit (slice_parts plane_parts_of s) steps.changes.items → IsPassing (Some s.span) steps.first steps.changes.items []
   passing_start h k l = record { left = left_start s wanted h k; same = λ t i. refl; fits = l }
 
-  keeps_is : (keeps : Bool) (tally : Tally) (t : Ratio) → keeps ≡ same_bool want (is_known_in tally) → steps_at steps t ≡ tally → cond keeps (Some (slice_value plane_value_of s t)) None ≡ wanted t
+  keeps_is : (keeps : Bool) (tally : Tally) (t : Ratio) → keeps ≡ same_bool want (is_known_in tally) → timeline_at steps t ≡ tally → cond keeps (Some (slice_value plane_value_of s t)) None ≡ wanted t
   keeps_is keeps tally t e h = ap (λ b. cond b (Some (slice_value plane_value_of s t)) None) (e ∙ ap (λ z. same_bool want (is_known_in z)) (sym h))
 
   left_of : (rest : Option SpanOf) (r : Ratio) (i : Bool) (t : Ratio) → has_piece (left_piece rest r i) t ≡ true → (has_piece rest t ≡ true) × (is_left r i t ≡ true)
@@ -284,7 +265,7 @@ module _ (s : Slice PlaneLine) (want : Bool) (steps : Steps Tally) where
       → IsPassing rest now later out → IsPassing rest'' c.behind later' out''
   passing_step rest rest' rest'' now later later' c front there out out' out'' v w e kf rf nf hf kt rt nt ht m =
       let fits = subst (ChangesFit (slice_parts plane_parts_of s)) e m.fits in
-      let same : (t : Ratio) → has_piece rest t ≡ true → steps_at steps t ≡ step_at now (c ∷ later') t = λ t i. m.same t i ∙ ap (λ z. step_at now z t) e in
+      let same : (t : Ratio) → has_piece rest t ≡ true → timeline_at steps t ≡ step_at now (c ∷ later') t = λ t i. m.same t i ∙ ap (λ z. step_at now z t) e in
       let in_rest : (t : Ratio) → has_piece rest' t ≡ true → (has_piece rest t ≡ true) × (not (is_left c.at false t) ≡ true) = λ t i. right_of rest c.at false t (sym (ap (λ z. has_piece z t) rf) ∙ i) in
       let first = passed s wanted rest rest' c.at false front out out' v fits.0 rf nf hf (λ t i. let q = left_of rest c.at false t i in keeps_is front now t kf (same t q.0 ∙ rw (is_front c.at t q.1) refl)) m.left in
       record {

@@ -1,14 +1,9 @@
 -- The merge of two walks.
-use Rattle.std.specs.Prelude.{◌≡◌, Bool, true, false, cond, ℕ, List, [], ◌∷◌, ◌++◌, drop, refl}
-use Rattle.std.proofs.Common.{arith, ap, sym, ◌∙◌, subst, append_assoc, append-nil}
-use Rattle.mob_ratio.specs.Ratio.{Ratio}
-use Rattle.mob_ratio.specs.Order.{before}
-use Rattle.mob_ratio.proofs.Order.{before-back, before-trans, before-neither}
+use Rattle.std.{specs.Prelude.{◌≡◌, Bool, true, false, cond, ℕ, List, [], ◌∷◌, ◌++◌, drop, refl}, proofs.Common.{arith, ap, sym, ◌∙◌, subst, append_assoc, append-nil}}
+use Rattle.mob_ratio.{specs.Ratio.{Ratio}, specs.Order.{before}, proofs.Order.{before-back, before-trans, before-neither}}
 use Rattle.mob_frac.specs.Formula.{AllFit}
-use Rattle.mob_clip.specs.declared.steps.Change.{Change}
-use Rattle.mob_clip.specs.declared.steps.Met.{Met}
-use Rattle.mob_clip.specs.declared.steps.Steps.{Steps}
-use Rattle.mob_clip.specs.Steps.{step_at, steps_at, ChangesFit, IsNextChange}
+use Rattle.mob_clip.{specs.declared.timeline.Change.{Change}, specs.declared.timeline.MetChange.{MetChange}, specs.declared.timeline.Timeline.{Timeline}}
+use Rattle.mob_clip.specs.Timelines.{step_at, timeline_at, ChangesFit, IsNextChange}
 
 -- t is not after x, which is before y
 in_front : (t x y : Ratio) → before x t ≡ false → before x y ≡ true → before t y ≡ true
@@ -66,20 +61,20 @@ module _ {T : Type 0} (mix : T → T → T) where
       by rest t k false true = k
       by rest t k false false = refl
 
-  pub left_met : (f g : T) (xs ys : List (Change T)) (i j k n : ℕ) (x y : Change T) (m : Met T) → drop i xs ≡ x ∷ drop k xs → drop j ys ≡ y ∷ drop n ys → before x.at y.at ≡ true → m ≡ record { change = record { at = x.at; there = mix x.there g; behind = mix x.behind g }; left = x.behind; right = g; i = k; j = j } → IsNextChange mix f g (drop i xs) (drop j ys) m.change m.left m.right (drop m.i xs) (drop m.j ys)
+  pub left_met : (f g : T) (xs ys : List (Change T)) (i j k n : ℕ) (x y : Change T) (m : MetChange T) → drop i xs ≡ x ∷ drop k xs → drop j ys ≡ y ∷ drop n ys → before x.at y.at ≡ true → m ≡ record { change = record { at = x.at; there = mix x.there g; behind = mix x.behind g }; left = x.behind; right = g; i = k; j = j } → IsNextChange mix f g (drop i xs) (drop j ys) m.change m.left m.right (drop m.i xs) (drop m.j ys)
   left_met f g xs ys i j k n x y m e d h q = rw (q, e, d) (met_left f g x (drop k xs) (y ∷ drop n ys) h)
 
-  pub right_met : (f g : T) (xs ys : List (Change T)) (i j k n : ℕ) (x y : Change T) (m : Met T) → drop i xs ≡ x ∷ drop k xs → drop j ys ≡ y ∷ drop n ys → before y.at x.at ≡ true → m ≡ record { change = record { at = y.at; there = mix f y.there; behind = mix f y.behind }; left = f; right = y.behind; i = i; j = n } → IsNextChange mix f g (drop i xs) (drop j ys) m.change m.left m.right (drop m.i xs) (drop m.j ys)
+  pub right_met : (f g : T) (xs ys : List (Change T)) (i j k n : ℕ) (x y : Change T) (m : MetChange T) → drop i xs ≡ x ∷ drop k xs → drop j ys ≡ y ∷ drop n ys → before y.at x.at ≡ true → m ≡ record { change = record { at = y.at; there = mix f y.there; behind = mix f y.behind }; left = f; right = y.behind; i = i; j = n } → IsNextChange mix f g (drop i xs) (drop j ys) m.change m.left m.right (drop m.i xs) (drop m.j ys)
   right_met f g xs ys i j k n x y m e d h q = rw (q, e, d) (met_right f g (x ∷ drop k xs) y (drop n ys) h)
 
-  pub both_met : (f g : T) (xs ys : List (Change T)) (i j k n : ℕ) (x y : Change T) (m : Met T) → drop i xs ≡ x ∷ drop k xs → drop j ys ≡ y ∷ drop n ys → before x.at y.at ≡ false → before y.at x.at ≡ false → m ≡ record { change = record { at = x.at; there = mix x.there y.there; behind = mix x.behind y.behind }; left = x.behind; right = y.behind; i = k; j = n } → IsNextChange mix f g (drop i xs) (drop j ys) m.change m.left m.right (drop m.i xs) (drop m.j ys)
+  pub both_met : (f g : T) (xs ys : List (Change T)) (i j k n : ℕ) (x y : Change T) (m : MetChange T) → drop i xs ≡ x ∷ drop k xs → drop j ys ≡ y ∷ drop n ys → before x.at y.at ≡ false → before y.at x.at ≡ false → m ≡ record { change = record { at = x.at; there = mix x.there y.there; behind = mix x.behind y.behind }; left = x.behind; right = y.behind; i = k; j = n } → IsNextChange mix f g (drop i xs) (drop j ys) m.change m.left m.right (drop m.i xs) (drop m.j ys)
   both_met f g xs ys i j k n x y m e d a b q = rw (q, e, d) (met_both f g x (drop k xs) y (drop n ys) (before-neither x.at y.at a b))
 
   -- the other walk has ended
-  pub left_alone : (f g : T) (xs ys : List (Change T)) (i j k : ℕ) (x : Change T) (m : Met T) → drop i xs ≡ x ∷ drop k xs → drop j ys ≡ [] → m ≡ record { change = record { at = x.at; there = mix x.there g; behind = mix x.behind g }; left = x.behind; right = g; i = k; j = j } → IsNextChange mix f g (drop i xs) (drop j ys) m.change m.left m.right (drop m.i xs) (drop m.j ys)
+  pub left_alone : (f g : T) (xs ys : List (Change T)) (i j k : ℕ) (x : Change T) (m : MetChange T) → drop i xs ≡ x ∷ drop k xs → drop j ys ≡ [] → m ≡ record { change = record { at = x.at; there = mix x.there g; behind = mix x.behind g }; left = x.behind; right = g; i = k; j = j } → IsNextChange mix f g (drop i xs) (drop j ys) m.change m.left m.right (drop m.i xs) (drop m.j ys)
   left_alone f g xs ys i j k x m e d q = rw (q, e, d) (met_left f g x (drop k xs) [] tt)
 
-  pub right_alone : (f g : T) (xs ys : List (Change T)) (i j n : ℕ) (y : Change T) (m : Met T) → drop i xs ≡ [] → drop j ys ≡ y ∷ drop n ys → m ≡ record { change = record { at = y.at; there = mix f y.there; behind = mix f y.behind }; left = f; right = y.behind; i = i; j = n } → IsNextChange mix f g (drop i xs) (drop j ys) m.change m.left m.right (drop m.i xs) (drop m.j ys)
+  pub right_alone : (f g : T) (xs ys : List (Change T)) (i j n : ℕ) (y : Change T) (m : MetChange T) → drop i xs ≡ [] → drop j ys ≡ y ∷ drop n ys → m ≡ record { change = record { at = y.at; there = mix f y.there; behind = mix f y.behind }; left = f; right = y.behind; i = i; j = n } → IsNextChange mix f g (drop i xs) (drop j ys) m.change m.left m.right (drop m.i xs) (drop m.j ys)
   right_alone f g xs ys i j n y m e d q = rw (q, e, d) (met_right f g [] y (drop n ys) tt)
 
   -- the merge so far, and the rest of both walks
@@ -103,8 +98,8 @@ module _ {T : Type 0} (mix : T → T → T) where
   pub merging_fit : (f0 g0 : T) (all all' : List (Change T)) (f g : T) (xs ys out : List (Change T)) → IsMerging f0 g0 all all' f g xs ys out → (parts : Ratio → List Ratio) → ChangesFit parts all → ChangesFit parts all' → ChangesFit parts out
   merging_fit f0 g0 all all' f g xs ys out h parts k l = (h.fit parts k l).0
 
-  pub merged_values : (a b : Steps T) (first f g : T) (xs ys xs' ys' out : List (Change T)) → first ≡ mix a.first b.first → xs ≡ a.changes.items → ys ≡ b.changes.items → xs' ≡ [] → ys' ≡ [] → IsMerging a.first b.first xs ys f g xs' ys' out → (t : Ratio) → step_at first out t ≡ mix (steps_at a t) (steps_at b t)
-  merged_values a b first f g xs ys xs' ys' out e k l m n h t = ap (λ z. step_at z out t) e ∙ merging_end a.first b.first xs ys f g xs' ys' out m n h t ∙ ap (λ z. mix (step_at a.first z t) (step_at b.first ys t)) k ∙ ap (λ z. mix (steps_at a t) (step_at b.first z t)) l
+  pub merged_values : (a b : Timeline T) (first f g : T) (xs ys xs' ys' out : List (Change T)) → first ≡ mix a.first b.first → xs ≡ a.changes.items → ys ≡ b.changes.items → xs' ≡ [] → ys' ≡ [] → IsMerging a.first b.first xs ys f g xs' ys' out → (t : Ratio) → step_at first out t ≡ mix (timeline_at a t) (timeline_at b t)
+  merged_values a b first f g xs ys xs' ys' out e k l m n h t = ap (λ z. step_at z out t) e ∙ merging_end a.first b.first xs ys f g xs' ys' out m n h t ∙ ap (λ z. mix (step_at a.first z t) (step_at b.first ys t)) k ∙ ap (λ z. mix (timeline_at a t) (step_at b.first z t)) l
 
-  pub merged_fit : (a b : Steps T) (f g : T) (xs ys xs' ys' out : List (Change T)) → xs ≡ a.changes.items → ys ≡ b.changes.items → IsMerging a.first b.first xs ys f g xs' ys' out → (parts : Ratio → List Ratio) → ChangesFit parts a.changes.items → ChangesFit parts b.changes.items → ChangesFit parts out
+  pub merged_fit : (a b : Timeline T) (f g : T) (xs ys xs' ys' out : List (Change T)) → xs ≡ a.changes.items → ys ≡ b.changes.items → IsMerging a.first b.first xs ys f g xs' ys' out → (parts : Ratio → List Ratio) → ChangesFit parts a.changes.items → ChangesFit parts b.changes.items → ChangesFit parts out
   merged_fit a b f g xs ys xs' ys' out k l h parts p q = merging_fit a.first b.first xs ys f g xs' ys' out h parts (subst (ChangesFit parts) (sym k) p) (subst (ChangesFit parts) (sym l) q)

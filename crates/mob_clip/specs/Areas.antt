@@ -1,19 +1,11 @@
 -- Rectangles: membership by the signs of the differences to the sides.
-use Rattle.std.specs.Prelude.{Bool, false, not, ◌&&◌, List, [], ◌∷◌}
-use Rattle.std.specs.declared.cmp.Ordering.{Ordering}
-use Rattle.std.specs.Ordering.{is_lt, is_gt}
+use Rattle.std.{specs.Prelude.{Bool, false, not, ◌&&◌, List, [], ◌∷◌}, specs.declared.cmp.Ordering.{Ordering}, specs.Ordering.{is_lt, is_gt}}
 use Rattle.mob_ratio.specs.Ratio.{Ratio, ◌-ℚ◌}
 use Rattle.mob_span.specs.Span.{SpanOf}
-use Rattle.mob_slice.specs.Sides.{at_ends}
-use Rattle.mob_slice.specs.Cut.{slice_value}
-use Rattle.mob_slice.specs.Lines.{plane_value_of, plane_parts_of}
-use Rattle.mob_slice.specs.Entries.{Entry}
-use Rattle.mob_slice.specs.declared.slice.Slice.{Slice}
+use Rattle.mob_slice.{specs.Sides.{at_ends}, specs.Cut.{slice_value}, specs.Lines.{plane_value_of, plane_parts_of}, specs.Entries.{Entry}, specs.declared.slice.Slice.{Slice}}
+use Rattle.mob_slice.{specs.declared.line.PlaneLine.{PlaneLine}, specs.declared.formula.Formula.TheVariants.{F2}}
 use Rattle.mob_plane.specs.declared.point.Point.{Point}
-use Rattle.mob_slice.specs.declared.line.PlaneLine.{PlaneLine}
-use Rattle.mob_slice.specs.declared.formula.Formula.TheVariants.{F2}
-use Rattle.mob_cells.specs.declared.linear.Ends.{Ends}
-use Rattle.mob_cells.specs.Kept.{entries_of_cuts}
+use Rattle.mob_cells.{specs.declared.linear.Ends.{Ends}, specs.Kept.{entries_of_cuts}}
 use Rattle.mob_stbox.specs.declared.area.Area.{Area}
 use Rattle.mob_clip.specs.declared.areas.Sides.{Sides}
 

@@ -1,19 +1,10 @@
 -- The formulas of a restriction by a box, and the parts around its time.
 use Rattle.std.specs.Prelude.{◌≡◌, Bool, false, not, cond, List, [], ◌∷◌, ◌++◌, Option, Some, None}
-use Rattle.mob_span.specs.Span.{SpanOf, has_instant}
-use Rattle.mob_span.specs.Meet.{meet_of}
-use Rattle.mob_span.specs.Flags.{same_bool}
-use Rattle.mob_slice.specs.Sides.{at_ends}
-use Rattle.mob_slice.specs.Cut.{slice_parts}
-use Rattle.mob_slice.specs.Lines.{plane_parts_of}
-use Rattle.mob_slice.specs.Entries.{Entry}
-use Rattle.mob_slice.specs.declared.slice.Slice.{Slice}
-use Rattle.mob_slice.specs.declared.line.PlaneLine.{PlaneLine}
-use Rattle.mob_slice.specs.declared.formula.Formula.TheVariants.{F1}
-use Rattle.mob_stbox.specs.Boxes.{BoxOf}
-use Rattle.mob_clip.specs.Pieces.{some_span, AreAllOrNothing}
-use Rattle.mob_clip.specs.Areas.{entries_of_area}
-use Rattle.mob_stbox.specs.declared.area.Area.{Area}
+use Rattle.mob_span.{specs.Span.{SpanOf, has_instant}, specs.Meet.{meet_of}, specs.Flags.{same_bool}}
+use Rattle.mob_slice.{specs.Sides.{at_ends}, specs.Cut.{slice_parts}, specs.Lines.{plane_parts_of}, specs.Entries.{Entry}, specs.declared.slice.Slice.{Slice}}
+use Rattle.mob_slice.{specs.declared.line.PlaneLine.{PlaneLine}, specs.declared.formula.Formula.TheVariants.{F1}}
+use Rattle.mob_stbox.{specs.Boxes.{BoxOf}, specs.declared.area.Area.{Area}}
+use Rattle.mob_clip.{specs.Pieces.{some_span, AreAllOrNothing}, specs.Areas.{entries_of_area}}
 
 -- the entries of space on the piece r of a slice; a box without space has none
 abbrev pub entries_of_space : Option Area → Slice PlaneLine → SpanOf → List Entry

@@ -4,7 +4,7 @@ pub mod Polygons
 pub mod Sides
 pub mod Known
 pub mod Roots
-pub mod Steps
+pub mod Timelines
 pub mod Signs
 pub mod Pieces
 pub mod Sql

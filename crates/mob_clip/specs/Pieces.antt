@@ -1,24 +1,14 @@
 -- The parts of a slice kept on pieces of its span, and the parts of a piece before and after an
 -- instant.
-use Rattle.std.specs.Prelude.{◌≡◌, Bool, true, cond, not, ◌||◌, ◌&&◌, ◌++◌, List, [], Option, Some, None, MatchOption, Result, Vec}
-use Rattle.std.specs.declared.alloc.Global.{Global}
-use Rattle.mob_ratio.specs.Ratio.{Ratio}
-use Rattle.mob_ratio.specs.Order.{before}
+use Rattle.std.{specs.Prelude.{◌≡◌, Bool, true, cond, not, ◌||◌, ◌&&◌, ◌++◌, List, [], Option, Some, None, MatchOption, Result, Vec}, specs.declared.alloc.Global.{Global}}
+use Rattle.mob_ratio.{specs.Ratio.{Ratio}, specs.Order.{before}}
 use Rattle.mob_frac.specs.Formula.{AllFit}
-use Rattle.mob_span.specs.Span.{SpanOf, has_instant}
-use Rattle.mob_span.specs.Neighbours.{is_inside}
-use Rattle.mob_slice.specs.Sides.{at_ends}
-use Rattle.mob_slice.specs.Cut.{slice_value, slice_parts}
-use Rattle.mob_slice.specs.Lines.{plane_value_of, plane_parts_of}
-use Rattle.mob_slice.specs.Entries.{Entry}
+use Rattle.mob_span.{specs.Span.{SpanOf, has_instant}, specs.Neighbours.{is_inside}}
+use Rattle.mob_slice.{specs.Sides.{at_ends}, specs.Cut.{slice_value, slice_parts}, specs.Lines.{plane_value_of, plane_parts_of}, specs.Entries.{Entry}, specs.declared.slice.Slice.{Slice}}
+use Rattle.mob_slice.{specs.declared.line.PlaneLine.{PlaneLine}, specs.OnPiece.{AreKeptOn, IsKeptBy}, specs.declared.formula.Formula.{Formula}}
 use Rattle.mob_list.specs.declared.fault.Fault.{Fault}
-use Rattle.mob_slice.specs.declared.slice.Slice.{Slice}
-use Rattle.mob_slice.specs.declared.line.PlaneLine.{PlaneLine}
-use Rattle.mob_lifted.specs.OnPiece.{AreKeptOn, IsKeptBy}
 use Rattle.mob_cells.specs.Restricted.{kept_where}
-use Rattle.mob_plane.specs.declared.point.Point.{Point}
-use Rattle.mob_plane.specs.declared.edges.Tally.{Tally}
-use Rattle.mob_slice.specs.declared.formula.Formula.{Formula}
+use Rattle.mob_plane.{specs.declared.point.Point.{Point}, specs.declared.edges.Tally.{Tally}}
 
 -- the point is inside the polygon, by its tally
 abbrev pub is_known_in : Tally → Bool

@@ -1,22 +1,10 @@
 -- The formulas of a restriction by a polygon, and whether a moving point is ever inside one.
-use Rattle.std.specs.Prelude.{◌≡◌, Bool, true, List, [], ◌∷◌, Some}
-use Rattle.std.specs.List.{flat_map}
+use Rattle.std.{specs.Prelude.{◌≡◌, Bool, true, List, [], ◌∷◌, Some}, specs.List.{flat_map}}
 use Rattle.mob_ratio.specs.Ratio.{Ratio, ◌-ℚ◌}
-use Rattle.mob_plane.specs.declared.point.Point.{Point}
-use Rattle.mob_plane.specs.Turns.{turn, turns_parts}
-use Rattle.mob_plane.specs.Rings.{all_edges}
-use Rattle.mob_plane.specs.Membership.{inside}
-use Rattle.mob_plane.specs.EdgeWise.{inside_by, signs_to}
-use Rattle.mob_slice.specs.Slices.{value_at}
-use Rattle.mob_slice.specs.Sides.{at_ends}
-use Rattle.mob_slice.specs.Cut.{slice_value}
-use Rattle.mob_slice.specs.Lines.{plane_value_of, plane_parts_of}
-use Rattle.mob_slice.specs.Entries.{Entry}
-use Rattle.mob_slice.specs.declared.slice.Slice.{Slice}
-use Rattle.mob_slice.specs.declared.line.PlaneLine.{PlaneLine}
-use Rattle.mob_slice.specs.declared.formula.Formula.TheVariants.{F2, F4}
-use Rattle.mob_cells.specs.declared.linear.Ends.{Ends}
-use Rattle.mob_cells.specs.Kept.{entries_of_cuts}
+use Rattle.mob_plane.{specs.declared.point.Point.{Point}, specs.Turns.{turn, turns_parts}, specs.Rings.{all_edges}, specs.Membership.{inside}, specs.EdgeWise.{inside_by, signs_to}}
+use Rattle.mob_slice.{specs.Slices.{value_at}, specs.Sides.{at_ends}, specs.Cut.{slice_value}, specs.Lines.{plane_value_of, plane_parts_of}, specs.Entries.{Entry}, specs.declared.slice.Slice.{Slice}}
+use Rattle.mob_slice.{specs.declared.line.PlaneLine.{PlaneLine}, specs.declared.formula.Formula.TheVariants.{F2, F4}}
+use Rattle.mob_cells.{specs.declared.linear.Ends.{Ends}, specs.Kept.{entries_of_cuts}}
 
 -- F2: the differences of p to the two ends of an edge, by coordinate
 abbrev pub edge_parts : Point → Point × Point → List Ratio

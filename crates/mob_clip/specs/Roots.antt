@@ -1,24 +1,12 @@
 -- The functions of an edge on a slice, each with its root.
-use Rattle.std.specs.Prelude.{◌≡◌, true, List, [], ◌∷◌, map, None, MatchOption}
-use Rattle.std.specs.List.{AllByRecursion, flat_map}
-use Rattle.mob_ratio.specs.Ratio.{Ratio}
-use Rattle.mob_ratio.specs.Order.{up_to}
+use Rattle.std.{specs.Prelude.{◌≡◌, true, List, [], ◌∷◌, map, None, MatchOption}, specs.List.{AllByRecursion, flat_map}}
+use Rattle.mob_ratio.{specs.Ratio.{Ratio}, specs.Order.{up_to}}
 use Rattle.mob_frac.specs.Formula.{AllFit}
 use Rattle.mob_span.specs.Span.{SpanOf}
 use Rattle.mob_plane.specs.declared.point.Point.{Point}
-use Rattle.mob_slice.specs.Cut.{slice_parts}
-use Rattle.mob_slice.specs.Lines.{plane_parts_of}
-use Rattle.mob_slice.specs.Entries.{IsFirst}
-use Rattle.mob_slice.specs.declared.slice.Slice.{Slice}
-use Rattle.mob_slice.specs.declared.line.PlaneLine.{PlaneLine}
-use Rattle.mob_cells.specs.declared.linear.Ends.{Ends}
-use Rattle.mob_cells.specs.declared.signs.Placed.{Placed}
-use Rattle.mob_cells.specs.Roots.{root_of, as_list}
-use Rattle.mob_cells.specs.Cells.{IsPlaced}
-use Rattle.mob_clip.specs.declared.sides.EdgeEnds.{EdgeEnds}
-use Rattle.mob_clip.specs.declared.roots.EdgePlaced.{EdgePlaced}
-use Rattle.mob_clip.specs.Polygons.{entries_of_edges}
-use Rattle.mob_clip.specs.Sides.{beside, with_turn}
+use Rattle.mob_slice.{specs.Cut.{slice_parts}, specs.Lines.{plane_parts_of}, specs.Entries.{IsFirst}, specs.declared.slice.Slice.{Slice}, specs.declared.line.PlaneLine.{PlaneLine}}
+use Rattle.mob_cells.{specs.declared.linear.Ends.{Ends}, specs.declared.signs.Placed.{Placed}, specs.Roots.{root_of, as_list}, specs.Cells.{IsPlaced}}
+use Rattle.mob_clip.{specs.declared.sides.EdgeEnds.{EdgeEnds}, specs.declared.roots.EdgePlaced.{EdgePlaced}, specs.Polygons.{entries_of_edges}, specs.Sides.{beside, with_turn}}
 
 abbrev pub listed_ends : EdgeEnds → List Ends
 listed_ends g = g.turn ∷ g.x_a ∷ g.x_b ∷ g.y_a ∷ g.y_b ∷ []

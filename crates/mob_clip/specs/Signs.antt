@@ -1,23 +1,13 @@
 -- Signs that change, and the tally of a point by the signs of edges.
-use Rattle.std.specs.Prelude.{false, cond, ◌||◌, List, [], ◌∷◌, Option, Some, None, MatchOption}
-use Rattle.std.specs.declared.cmp.Ordering.{Ordering}
+use Rattle.std.{specs.Prelude.{false, cond, ◌||◌, List, [], ◌∷◌, Option, Some, None, MatchOption}, specs.declared.cmp.Ordering.{Ordering}}
 use Rattle.std.specs.declared.cmp.Ordering.TheVariants.{Less, Equal, Greater}
-use Rattle.mob_ratio.specs.Ratio.{Ratio}
-use Rattle.mob_ratio.specs.Order.{before}
-use Rattle.mob_ratio.specs.Sign.{sign_of}
+use Rattle.mob_ratio.{specs.Ratio.{Ratio}, specs.Order.{before}, specs.Sign.{sign_of}}
 use Rattle.mob_frac.specs.Formula.{AllFit}
 use Rattle.mob_span.specs.Span.{SpanOf}
-use Rattle.mob_cells.specs.declared.linear.Ends.{Ends}
-use Rattle.mob_cells.specs.Roots.{function_at}
-use Rattle.mob_plane.specs.Membership.{is_one_alone}
-use Rattle.mob_plane.specs.declared.edges.EdgeSigns.{EdgeSigns}
-use Rattle.mob_plane.specs.declared.edges.Tally.{Tally}
-use Rattle.mob_plane.specs.EdgeWise.{with_edge, none_yet}
-use Rattle.mob_clip.specs.declared.membership.SignChange.{SignChange}
-use Rattle.mob_clip.specs.declared.membership.EdgeSign.{EdgeSign}
-use Rattle.mob_clip.specs.declared.membership.EdgeSign.TheVariants.{Turn, XA, XB, YA, YB}
-use Rattle.mob_clip.specs.declared.steps.Change.{Change}
-use Rattle.mob_clip.specs.declared.roots.EdgePlaced.{EdgePlaced}
+use Rattle.mob_cells.{specs.declared.linear.Ends.{Ends}, specs.Roots.{function_at}}
+use Rattle.mob_plane.{specs.Membership.{is_one_alone}, specs.declared.edges.EdgeSigns.{EdgeSigns}, specs.declared.edges.Tally.{Tally}, specs.EdgeWise.{with_edge, none_yet}}
+use Rattle.mob_clip.{specs.declared.membership.SignChange.{SignChange}, specs.declared.membership.EdgeSign.{EdgeSign}, specs.declared.membership.EdgeSign.TheVariants.{Turn, XA, XB, YA, YB}}
+use Rattle.mob_clip.{specs.declared.timeline.Change.{Change}, specs.declared.roots.EdgePlaced.{EdgePlaced}}
 
 -- the sign at the instant t; it is Equal at the instant of the change
 abbrev pub changing_at : Ordering → Option Ratio → Ordering → Ratio → Ordering

@@ -11,7 +11,7 @@ mod polygons;
 mod roots;
 mod sides;
 pub mod sql;
-mod steps;
+mod timeline;
 
 pub use boxes::{at_box, minus_box};
 pub use polygons::{at_polygon, ever_inside, minus_polygon};

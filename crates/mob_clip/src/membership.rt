@@ -9,11 +9,11 @@ ghost use Rattle.mob_span.specs.Span.{has};
 ghost use Rattle.mob_cells.specs.Roots.{function_at};
 ghost use Rattle.mob_cells.specs.Cells.{IsPlaced};
 ghost use Rattle.mob_clip.specs.Roots.{IsPlacedEdge, FitsRoot, CutsFit};
-ghost use Rattle.mob_clip.specs.Steps.{steps_at, ChangesFit, WhereEndsFit};
+ghost use Rattle.mob_clip.specs.Timelines.{timeline_at, ChangesFit, WhereEndsFit};
 ghost use Rattle.mob_clip.specs.Signs.{changing_sign, known_sign, known_signs, one_known, ends_change, tally_both, tally_all, edge_tally, tally_change, signs_on, signs_beside, FitsChange, known_at};
 
 use crate::roots::EdgePlaced;
-use crate::steps::{Change, Mix, Steps, merged};
+use crate::timeline::{Change, Mix, Timeline, merged};
 use mob_cells::{Placed, sign_of};
 use mob_frac::Frac;
 use mob_plane::{EdgeSigns, Tally, with_edge};
@@ -154,13 +154,13 @@ fn one_known(which: EdgeSign, sign: Ordering) -> EdgeSigns
     }
 }
 
-// The sign of one function as steps.
+// The sign of one function as a timeline.
 fn one_sign(
     alloc: Global,
     change: &SignChange,
     which: EdgeSign,
-) -> Result<Steps<EdgeSigns>, AllocError>
-    ensures values { IfOk result (λ s. (t : Ratio) → steps_at s t ≡ one_known which (changing_sign change.now t)) }
+) -> Result<Timeline<EdgeSigns>, AllocError>
+    ensures values { IfOk result (λ s. (t : Ratio) → timeline_at s t ≡ one_known which (changing_sign change.now t)) }
     ensures fit { IfOk result (λ s. (parts : Ratio → List Ratio) → FitsChange parts change.now → ChangesFit parts s.changes.items) }
 {
     let mut changes = Vec::new(alloc);
@@ -171,7 +171,7 @@ fn one_sign(
             behind: one_known(which, change.behind),
         })?;
     }
-    Ok(Steps {
+    Ok(Timeline {
         first: one_known(which, change.first),
         changes,
     })
@@ -185,10 +185,10 @@ fn two_signs(
     first: EdgeSign,
     b: &Placed,
     second: EdgeSign,
-) -> Result<Steps<EdgeSigns>, AllocError>
+) -> Result<Timeline<EdgeSigns>, AllocError>
     requires placed_a { IsPlaced span.now a.now }
     requires placed_b { IsPlaced span.now b.now }
-    ensures values { IfOk result (λ s. (t : Ratio) → has span.now t ≡ true → steps_at s t ≡ known_signs (known_at span.now first a.now.ends t) (known_at span.now second b.now.ends t)) }
+    ensures values { IfOk result (λ s. (t : Ratio) → has span.now t ≡ true → timeline_at s t ≡ known_signs (known_at span.now first a.now.ends t) (known_at span.now second b.now.ends t)) }
     ensures fit { IfOk result (λ s. WhereEndsFit span.now (λ parts. FitsRoot parts a.now → FitsRoot parts b.now → ChangesFit parts s.changes.items)) }
 {
     let left = one_sign(alloc, &change_of(span, a), first)?;
@@ -197,9 +197,9 @@ fn two_signs(
 }
 
 // The signs of the differences to both ends of an edge.
-fn end_signs(alloc: Global, span: &Span, edge: &EdgePlaced) -> Result<Steps<EdgeSigns>, AllocError>
+fn end_signs(alloc: Global, span: &Span, edge: &EdgePlaced) -> Result<Timeline<EdgeSigns>, AllocError>
     requires placed { IsPlacedEdge span.now edge.now }
-    ensures values { IfOk result (λ s. (t : Ratio) → has span.now t ≡ true → steps_at s t ≡ signs_beside span.now t edge.now) }
+    ensures values { IfOk result (λ s. (t : Ratio) → has span.now t ≡ true → timeline_at s t ≡ signs_beside span.now t edge.now) }
     ensures fit { IfOk result (λ s. WhereEndsFit span.now (λ parts. CutsFit parts edge.now → ChangesFit parts s.changes.items)) }
 {
     let xs = two_signs(
@@ -222,9 +222,9 @@ fn end_signs(alloc: Global, span: &Span, edge: &EdgePlaced) -> Result<Steps<Edge
 }
 
 // The signs of an edge.
-fn edge_signs(alloc: Global, span: &Span, edge: &EdgePlaced) -> Result<Steps<EdgeSigns>, AllocError>
+fn edge_signs(alloc: Global, span: &Span, edge: &EdgePlaced) -> Result<Timeline<EdgeSigns>, AllocError>
     requires placed { IsPlacedEdge span.now edge.now }
-    ensures values { IfOk result (λ s. (t : Ratio) → has span.now t ≡ true → steps_at s t ≡ signs_on span.now t edge.now) }
+    ensures values { IfOk result (λ s. (t : Ratio) → has span.now t ≡ true → timeline_at s t ≡ signs_on span.now t edge.now) }
     ensures fit { IfOk result (λ s. WhereEndsFit span.now (λ parts. CutsFit parts edge.now → ChangesFit parts s.changes.items)) }
 {
     let turn = one_sign(alloc, &change_of(span, &edge.turn), EdgeSign::Turn)?;
@@ -245,8 +245,8 @@ fn edge_tally(signs: &EdgeSigns) -> Tally
     )
 }
 
-// The tally of a point by one edge, at each step of the edge's signs.
-fn tallied(alloc: Global, signs: &Steps<EdgeSigns>) -> Result<Steps<Tally>, AllocError>
+// The tally of a point by one edge, at each change of the edge's signs.
+fn tallied(alloc: Global, signs: &Timeline<EdgeSigns>) -> Result<Timeline<Tally>, AllocError>
     ensures tallied { IfOk result (λ s. (s.first ≡ edge_tally signs.now.first) × (s.changes.items ≡ map tally_change signs.now.changes.items)) }
 {
     let mut changes = Vec::new(alloc);
@@ -258,16 +258,16 @@ fn tallied(alloc: Global, signs: &Steps<EdgeSigns>) -> Result<Steps<Tally>, Allo
             behind: edge_tally(&change.behind),
         })?;
     }
-    Ok(Steps {
+    Ok(Timeline {
         first: edge_tally(&signs.first),
         changes,
     })
 }
 
 // The tally of a point by one edge, on a span.
-fn edge_steps(alloc: Global, span: &Span, edge: &EdgePlaced) -> Result<Steps<Tally>, AllocError>
+fn edge_steps(alloc: Global, span: &Span, edge: &EdgePlaced) -> Result<Timeline<Tally>, AllocError>
     requires placed { IsPlacedEdge span.now edge.now }
-    ensures values { IfOk result (λ s. (t : Ratio) → has span.now t ≡ true → steps_at s t ≡ edge_tally (signs_on span.now t edge.now)) }
+    ensures values { IfOk result (λ s. (t : Ratio) → has span.now t ≡ true → timeline_at s t ≡ edge_tally (signs_on span.now t edge.now)) }
     ensures fit { IfOk result (λ s. WhereEndsFit span.now (λ parts. CutsFit parts edge.now → ChangesFit parts s.changes.items)) }
 {
     let signs = edge_signs(alloc, span, edge)?;
@@ -279,9 +279,9 @@ fn each_edge(
     alloc: Global,
     span: &Span,
     edges: &[EdgePlaced],
-) -> Result<Vec<Steps<Tally>>, AllocError>
+) -> Result<Vec<Timeline<Tally>>, AllocError>
     requires placed { AllByRecursion (IsPlacedEdge span.now) edges.now }
-    ensures values { IfOk result (λ v. (t : Ratio) → has span.now t ≡ true → map (λ s. steps_at s t) v.items ≡ map (λ g. edge_tally (signs_on span.now t g)) edges.now) }
+    ensures values { IfOk result (λ v. (t : Ratio) → has span.now t ≡ true → map (λ s. timeline_at s t) v.items ≡ map (λ g. edge_tally (signs_on span.now t g)) edges.now) }
     ensures fit { IfOk result (λ v. WhereEndsFit span.now (λ parts. AllByRecursion (CutsFit parts) edges.now → AllByRecursion (λ s. ChangesFit parts s.changes.items) v.items)) }
 {
     // A method call gives the proof the invariant of a span.
@@ -295,10 +295,10 @@ fn each_edge(
 }
 
 // The tally of no edges.
-fn nothing(alloc: Global) -> Steps<Tally>
+fn nothing(alloc: Global) -> Timeline<Tally>
     ensures nothing { (result.first ≡ tally_all []) × (result.changes.items ≡ []) }
 {
-    Steps {
+    Timeline {
         first: Tally {
             on: false,
             odd: false,
@@ -309,8 +309,8 @@ fn nothing(alloc: Global) -> Steps<Tally>
 
 // The tally of a point by all edges. Halves are merged recursively, so each change is visited once
 // for each level of halves above it.
-fn together(alloc: Global, edges: &[Steps<Tally>]) -> Result<Steps<Tally>, AllocError>
-    ensures values { IfOk result (λ s. (t : Ratio) → steps_at s t ≡ tally_all (map (λ e. steps_at e t) edges.now)) }
+fn together(alloc: Global, edges: &[Timeline<Tally>]) -> Result<Timeline<Tally>, AllocError>
+    ensures values { IfOk result (λ s. (t : Ratio) → timeline_at s t ≡ tally_all (map (λ e. timeline_at e t) edges.now)) }
     ensures fit { IfOk result (λ s. (parts : Ratio → List Ratio) → AllByRecursion (λ e. ChangesFit parts e.changes.items) edges.now → ChangesFit parts s.changes.items) }
 {
     match edges {
@@ -332,9 +332,9 @@ pub fn membership(
     alloc: Global,
     span: &Span,
     edges: &[EdgePlaced],
-) -> Result<Steps<Tally>, AllocError>
+) -> Result<Timeline<Tally>, AllocError>
     requires placed { AllByRecursion (IsPlacedEdge span.now) edges.now }
-    ensures values { IfOk result (λ s. (t : Ratio) → has span.now t ≡ true → steps_at s t ≡ tally_all (map (λ g. edge_tally (signs_on span.now t g)) edges.now)) }
+    ensures values { IfOk result (λ s. (t : Ratio) → has span.now t ≡ true → timeline_at s t ≡ tally_all (map (λ g. edge_tally (signs_on span.now t g)) edges.now)) }
     ensures fit { IfOk result (λ s. WhereEndsFit span.now (λ parts. AllByRecursion (CutsFit parts) edges.now → ChangesFit parts s.changes.items)) }
 {
     let each = each_edge(alloc, span, edges)?;

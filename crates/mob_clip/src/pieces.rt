@@ -8,10 +8,10 @@ ghost use Rattle.mob_slice.specs.Cut.{slice_parts};
 ghost use Rattle.mob_slice.specs.Lines.{plane_parts_of};
 ghost use Rattle.mob_slice.specs.declared.slice.Slice.{Slice as SliceOf};
 ghost use Rattle.mob_slice.specs.declared.line.PlaneLine.{PlaneLine as PlaneLineOf};
-ghost use Rattle.mob_clip.specs.Steps.{steps_at, ChangesFit};
+ghost use Rattle.mob_clip.specs.Timelines.{timeline_at, ChangesFit};
 ghost use Rattle.mob_clip.specs.Pieces.{is_known_in, some_span, left_span, right_span, IsOnSlice, AreAllOrNothing, IsPushedBefore, AreKeptInPlane};
 
-use crate::steps::Steps;
+use crate::timeline::Timeline;
 use mob_cells::{append, listed};
 use mob_frac::Frac;
 use mob_list::fault::Fault;
@@ -120,12 +120,12 @@ fn is_kept(want: bool, tally: &Tally) -> bool
 pub fn kept_on(
     alloc: Global,
     slice: &Slice<PlaneLine>,
-    steps: &Steps<Tally>,
+    steps: &Timeline<Tally>,
     want: bool,
 ) -> Result<Vec<Slice<PlaneLine>>, Fault<Formula>>
     requires sound { IsSound (λ c. c.from) (λ c. c.to) slice.now }
     requires fit { ChangesFit (slice_parts plane_parts_of slice.now) steps.now.changes.items }
-    ensures kept { MatchResult result (λ v. AreKeptInPlane want (λ t p. is_known_in (steps_at steps.now t)) slice.now slice.now.span v.items) (λ e. e ≡ Fault.NoMemory) }
+    ensures kept { MatchResult result (λ v. AreKeptInPlane want (λ t p. is_known_in (timeline_at steps.now t)) slice.now slice.now.span v.items) (λ e. e ≡ Fault.NoMemory) }
 {
     let mut out = Vec::new(alloc);
     let mut rest = Some(slice.span);

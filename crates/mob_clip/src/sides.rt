@@ -26,7 +26,7 @@ pub struct ToPoint {
 
 /// An edge with the differences to its two ends.
 #[derive(Clone, Copy, Drop)]
-pub struct Beside {
+pub struct BesideEdge {
     /// The edge.
     pub edge: (Point, Point),
     /// The differences to its first end.
@@ -88,7 +88,7 @@ fn turned_by(along: &Frac, rise: &Frac, across: &Frac, up: &Frac) -> Result<Frac
 }
 
 // The turns of `p` and of `q` from an edge, by their differences to its first end.
-fn turning(p: &Point, q: &Point, beside: &Beside) -> Result<Ends, Overflow>
+fn turning(p: &Point, q: &Point, beside: &BesideEdge) -> Result<Ends, Overflow>
     requires known { IsBeside p.now q.now beside.now }
     ensures value { IsFormula (turning_parts p.now q.now beside.now.edge) (turning p.now q.now beside.now.edge) result }
 {
@@ -129,13 +129,13 @@ fn with_differences(
     q: &Point,
     edge: &(Point, Point),
     known: &Option<Known>,
-) -> Result<Beside, Overflow>
+) -> Result<BesideEdge, Overflow>
     requires known { IsKnown p.now q.now known.now }
     ensures value { IsFormula (beside_parts p.now q.now edge.now) (beside p.now q.now edge.now) result }
 {
     let to_a = to_start(p, q, &edge.0, known)?;
     let to_b = to_point(p, q, &edge.1)?;
-    Ok(Beside {
+    Ok(BesideEdge {
         edge: *edge,
         to_a,
         to_b,
@@ -150,7 +150,7 @@ pub fn besides(
     edges: &[(Point, Point)],
     p: &Point,
     q: &Point,
-) -> Result<Vec<Beside>, Fault<Formula>>
+) -> Result<Vec<BesideEdge>, Fault<Formula>>
     ensures made { IsMadeBy F2 (flat_map (beside_parts p.now q.now) edges.now) (λ v. v.items ≡ map (beside p.now q.now) edges.now) result }
 {
     let mut out = Vec::new(alloc);
@@ -178,7 +178,7 @@ pub fn besides(
 /// part of a turn does not fit, or out of memory.
 pub fn turned(
     alloc: Global,
-    edges: &[Beside],
+    edges: &[BesideEdge],
     p: &Point,
     q: &Point,
 ) -> Result<Vec<EdgeEnds>, Fault<Formula>>

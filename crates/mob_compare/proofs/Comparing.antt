@@ -1,41 +1,18 @@
 -- A comparison on one piece.
-use Rattle.std.specs.Prelude.{◌≡◌, Bool, true, false, List, [], ◌∷◌, ◌++◌, Option, Some, None, Result, Ok, Err, IfErr, refl}
-use Rattle.std.specs.List.{AllByRecursion, flat_map}
+use Rattle.std.{specs.Prelude.{◌≡◌, Bool, true, false, List, [], ◌∷◌, ◌++◌, Option, Some, None, Result, Ok, Err, IfErr, refl}, specs.List.{AllByRecursion, flat_map}}
 use Rattle.std.proofs.Common.{ap, sym, ◌∙◌, subst, inl, inr}
-use Rattle.mob_ratio.specs.Ratio.{Ratio}
-use Rattle.mob_ratio.specs.Order.{before}
+use Rattle.mob_ratio.{specs.Ratio.{Ratio}, specs.Order.{before}}
 use Rattle.mob_frac.specs.Formula.{AllFit}
-use Rattle.mob_span.specs.Span.{has}
-use Rattle.mob_span.specs.Meets.{PieceOf}
-use Rattle.mob_slice.specs.declared.formula.Formula.TheVariants.{F2}
-use Rattle.mob_slice.specs.Course.{IsCourse}
-use Rattle.mob_slice.specs.Comparison.{IsComparison, MayAsk, gap_parts}
-use Rattle.mob_slice.specs.Look.{IsLookFault}
-use Rattle.mob_slice.specs.Operands.{steady_value, steady_limit}
-use Rattle.mob_slice.specs.Sides.{SideOf, side_at, side_parts, at_ends, HasValues}
-use Rattle.mob_list.specs.Faults.{OnCause}
-use Rattle.mob_slice.specs.Entries.{IsFirst, IsJudged, IsPartFault}
-use Rattle.mob_slice.specs.declared.slice.Slice.{Slice}
-use Rattle.mob_slice.specs.declared.steady.Steady.{Steady}
-use Rattle.mob_slice.specs.declared.comparison.Rel.{Rel}
-use Rattle.mob_slice.specs.declared.comparison.Gaps.{Gaps}
-use Rattle.mob_slice.specs.declared.formula.Formula.{Formula}
-use Rattle.mob_list.specs.declared.fault.Fault.{Fault}
-use Rattle.mob_list.specs.declared.fault.Fault.TheVariants.{Because, NoMemory}
-use Rattle.mob_slice.proofs.Cuts.{all_both, all_first, all_second}
-use Rattle.mob_slice.proofs.Firsts.{one_first}
-use Rattle.mob_lifted.proofs.OnOnePiece.{kept_behind}
-use Rattle.mob_lifted.proofs.Options.{none_some}
-use Rattle.mob_lifted.proofs.Firsts.{first_joined}
+use Rattle.mob_span.{specs.Span.{has}, specs.Meets.{PieceOf}}
+use Rattle.mob_slice.{specs.declared.formula.Formula.TheVariants.{F2}, specs.Course.{IsCourse}, specs.Comparison.{IsComparison, MayAsk, gap_parts}, specs.Look.{IsLookFault}}
+use Rattle.mob_slice.{specs.Operands.{steady_value, steady_limit}, specs.Sides.{SideOf, side_at, side_parts, at_ends, HasValues}, specs.Entries.{IsFirst, IsJudged, IsPartFault}}
+use Rattle.mob_slice.{specs.declared.slice.Slice.{Slice}, specs.declared.steady.Steady.{Steady}, specs.declared.comparison.Rel.{Rel}, specs.declared.comparison.Gaps.{Gaps}}
+use Rattle.mob_slice.{specs.declared.formula.Formula.{Formula}, specs.OnPiece.{IsKeptBy}, proofs.Cuts.{all_both, all_first, all_second}, proofs.Firsts.{one_first}, proofs.OnOnePiece.{kept_behind}}
+use Rattle.mob_slice.{proofs.Options.{none_some}, proofs.JoinedFirsts.{first_joined}}
+use Rattle.mob_list.{specs.Faults.{OnCause}, specs.declared.fault.Fault.{Fault}, specs.declared.fault.Fault.TheVariants.{Because, NoMemory}}
 use Rattle.mob_lift.specs.Given.{IsGiven, on_sides}
-use Rattle.mob_cells.specs.declared.linear.Ends.{Ends}
-use Rattle.mob_cells.specs.Roots.{IsLevel}
-use Rattle.mob_cells.specs.Cells.{signs_of}
-use Rattle.mob_lifted.specs.OnPiece.{IsKeptBy}
-use Rattle.mob_cells.specs.Kept.{entry_of_roots}
-use Rattle.mob_cells.specs.Gaps.{gap_ends, related_by, piece_gaps, entries_of_ends}
-use Rattle.mob_cells.proofs.GapSigns.{by_gaps, gaps_level}
-use Rattle.mob_cells.proofs.SteadyEnds.{gap_none, steady_ends}
+use Rattle.mob_cells.{specs.declared.linear.Ends.{Ends}, specs.Roots.{IsLevel}, specs.Cells.{signs_of}, specs.Kept.{entry_of_roots}, specs.Gaps.{gap_ends, related_by, piece_gaps, entries_of_ends}}
+use Rattle.mob_cells.{proofs.GapSigns.{by_gaps, gaps_level}, proofs.SteadyEnds.{gap_none, steady_ends}}
 use Rattle.mob_compare.specs.Compared.{entries_of_gaps}
 
 module _ {C B : Type 0} (value : C → Ratio → Ratio → Ratio → B) (lines : C → Ratio → Ratio → Ratio → List Ratio) (gaps : B → B → Gaps) (p : PieceOf (SideOf C B) (SideOf C B)) where

@@ -1,3 +1,9 @@
 pub mod TrueSpans
 pub mod Comparing
 pub mod OneSign
+pub mod Taking
+pub mod OnSpans
+pub mod BothNil
+pub mod Meeting
+pub mod OnPieces
+pub mod Answering

@@ -1,17 +1,9 @@
 -- The spans of the slices that are true.
-use Rattle.std.specs.Prelude.{◌≡◌, Bool, true, false, cond, None, Some, List, [], ◌∷◌, ◌++◌, refl, ℕ, ◌≤◌, length}
-use Rattle.std.proofs.Common.{ap, sym, ◌∙◌, append-nil, drop, true≢false}
+use Rattle.std.{specs.Prelude.{◌≡◌, Bool, true, false, cond, None, Some, List, [], ◌∷◌, ◌++◌, refl, ℕ, ◌≤◌, length}, proofs.Common.{ap, sym, ◌∙◌, append-nil, drop, true≢false}}
 use Rattle.std.proofs.lemmas.List.{drop_all}
 use Rattle.mob_ratio.specs.Ratio.{Ratio}
-use Rattle.mob_span.specs.Span.{SpanOf, has}
-use Rattle.mob_span.specs.Sets.{in_some}
-use Rattle.mob_span.proofs.SpanLemmas.{some_instant}
-use Rattle.mob_span.proofs.Insides.{clear_has}
-use Rattle.mob_span.proofs.Shared.{AreAllClear, all_after}
-use Rattle.mob_slice.specs.Slices.{value_at, IsOrdered}
-use Rattle.mob_slice.specs.Operands.{steady_value, steady_limit}
-use Rattle.mob_slice.specs.declared.slice.Slice.{Slice}
-use Rattle.mob_slice.specs.declared.steady.Steady.{Steady}
+use Rattle.mob_span.{specs.Span.{SpanOf, has}, specs.Sets.{in_some}, proofs.SpanLemmas.{some_instant}, proofs.Insides.{clear_has}, proofs.Shared.{AreAllClear, all_after}}
+use Rattle.mob_slice.{specs.Slices.{value_at, IsRisingInTime}, specs.Operands.{steady_value, steady_limit}, specs.declared.slice.Slice.{Slice}, specs.declared.steady.Steady.{Steady}}
 use Rattle.mob_slice.proofs.Orders.{ordered-clear}
 use Rattle.mob_compare.specs.Times.{is_true}
 
@@ -31,23 +23,23 @@ true_by s v t false true e h same = rw e same
 true_by s v t false false e h same = same
 
 -- they have exactly the instants at which the value is true
-pub true_at : (v : List (Slice (Steady Bool))) → IsOrdered steady_limit steady_limit v → (t : Ratio) → in_some (true_spans v) t ≡ is_true (value_at steady_value v t)
+pub true_at : (v : List (Slice (Steady Bool))) → IsRisingInTime steady_limit steady_limit v → (t : Ratio) → in_some (true_spans v) t ≡ is_true (value_at steady_value v t)
 true_at [] h t = refl
 true_at (s ∷ v) h t = true_by s.span v t (has s.span t) s.course.value refl (all_after (λ r. r.span) s v (ordered-clear steady_limit steady_limit (s ∷ v) h)) (true_at v h.2 t)
 
-none_by : (s : Slice (Steady Bool)) (v : List (Slice (Steady Bool))) (k : Bool) → IsOrdered steady_limit steady_limit (s ∷ v) → (((t : Ratio) → in_some (true_spans v) t ≡ false) → true_spans v ≡ []) → ((t : Ratio) → in_some (cond k (s.span ∷ true_spans v) (true_spans v)) t ≡ false) → cond k (s.span ∷ true_spans v) (true_spans v) ≡ []
+none_by : (s : Slice (Steady Bool)) (v : List (Slice (Steady Bool))) (k : Bool) → IsRisingInTime steady_limit steady_limit (s ∷ v) → (((t : Ratio) → in_some (true_spans v) t ≡ false) → true_spans v ≡ []) → ((t : Ratio) → in_some (cond k (s.span ∷ true_spans v) (true_spans v)) t ≡ false) → cond k (s.span ∷ true_spans v) (true_spans v) ≡ []
 none_by s v true h f none = let m = some_instant s.span h.0.some in absurd (true≢false (sym (rw m.1 refl) ∙ none m.0))
 none_by s v false h f none = f none
 
 -- if no such instant exists, no such slice does
-none_true : (v : List (Slice (Steady Bool))) → IsOrdered steady_limit steady_limit v → ((t : Ratio) → in_some (true_spans v) t ≡ false) → true_spans v ≡ []
+none_true : (v : List (Slice (Steady Bool))) → IsRisingInTime steady_limit steady_limit v → ((t : Ratio) → in_some (true_spans v) t ≡ false) → true_spans v ≡ []
 none_true [] h none = refl
 none_true (s ∷ v) h none = none_by s v s.course.value h (none_true v h.2) none
 
-pub never_true : (v : List (Slice (Steady Bool))) (spans : List SpanOf) → IsOrdered steady_limit steady_limit v → spans ≡ true_spans v → ((t : Ratio) → is_true (value_at steady_value v t) ≡ false) → spans ≡ []
+pub never_true : (v : List (Slice (Steady Bool))) (spans : List SpanOf) → IsRisingInTime steady_limit steady_limit v → spans ≡ true_spans v → ((t : Ratio) → is_true (value_at steady_value v t) ≡ false) → spans ≡ []
 never_true v spans h e none = e ∙ none_true v h (λ t. true_at v h t ∙ none t)
 
-pub spans_at : (v : List (Slice (Steady Bool))) (spans : List SpanOf) → IsOrdered steady_limit steady_limit v → spans ≡ true_spans v → (t : Ratio) → in_some spans t ≡ is_true (value_at steady_value v t)
+pub spans_at : (v : List (Slice (Steady Bool))) (spans : List SpanOf) → IsRisingInTime steady_limit steady_limit v → spans ≡ true_spans v → (t : Ratio) → in_some spans t ≡ is_true (value_at steady_value v t)
 spans_at v spans h e t = ap (λ z. in_some z t) e ∙ true_at v h t
 
 -- at the end of the walk, all spans are taken

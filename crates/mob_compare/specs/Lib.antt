@@ -1,3 +1,5 @@
 pub mod Times
 pub mod Compared
 pub mod Sql
+pub mod Taken
+pub mod Met

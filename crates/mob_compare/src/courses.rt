@@ -9,11 +9,11 @@ ghost use Rattle.mob_lift.specs.Given.{IsGiven, on_sides, AreLifted};
 ghost use Rattle.mob_compare.specs.Compared.{entries_of_gaps};
 
 use mob_cells::{ByGaps, flagged, gap_functions};
+use mob_lift::normal::normal;
+use mob_lift::walks::Pieces;
 use mob_lift::{lift, single};
 use mob_list::fault::Fault;
-use mob_normal::normal;
 use mob_slice::{Compared, Course, Formula, Moving, Operand, Piece, Rel, Slice, Steady};
-use mob_sync::Pieces;
 use std::alloc::Global;
 
 // The comparison on one piece, of courses that are not steady.

@@ -1,8 +1,9 @@
-//! The six comparisons, instant by instant, on temporal values, and the instants at which a
-//! temporal boolean is true. `sql` has the operators of SQL by these.
+//! The six comparisons on temporal values: at each instant; the instants at which a temporal
+//! boolean is true; and, in `ever`, whether a comparison holds at some instant or at every one.
 #![tactic(auto)]
 
 mod courses;
+pub mod ever;
 pub mod sql;
 mod times;
 

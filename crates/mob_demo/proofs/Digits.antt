@@ -1,6 +1,5 @@
 -- Numbers below 100 in two digits, and below 1000 digit by digit.
-use Rattle.std.proofs.Common.{◌≡◌, ◌∙◌, ◌<◌, ◌≤◌, ◌+◌, ◌-◌, ◌/◌, ◌%◌, ◌++◌, ◌∷◌, [], ℕ, ap, sym, append_assoc, length, replicate, codes, arith}
-use Rattle.std.specs.Fmt.{decimal}
+use Rattle.std.{specs.Fmt.{decimal}, proofs.Common.{◌≡◌, ◌∙◌, ◌<◌, ◌≤◌, ◌+◌, ◌-◌, ◌/◌, ◌%◌, ◌++◌, ◌∷◌, [], ℕ, ap, sym, append_assoc, length, replicate, codes, arith}}
 use Rattle.std.proofs.lemmas.Fmt.{decimal_digit, decimal_step}
 use Rattle.mob_language.specs.Language.{Text}
 use Rattle.mob_scalar.specs.MomentText.{padded}

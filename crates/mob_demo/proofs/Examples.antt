@@ -1,11 +1,8 @@
 -- Positions of the demo's first ship, as printed.
-use Rattle.std.proofs.Common.{◌≡◌, ◌∙◌, ◌++◌, ap, refl, codes, arith}
-use Rattle.std.proofs.lemmas.Fmt.{decimal_digit}
+use Rattle.std.{proofs.Common.{◌≡◌, ◌∙◌, ◌++◌, ap, refl, codes, arith}, proofs.lemmas.Fmt.{decimal_digit}}
 use Rattle.mob_language.specs.Language.{Text}
 use Rattle.mob_scalar.specs.MomentText.{padded}
-use Rattle.mob_demo.specs.Demo.{minute_text, position_text, ship_x, ship_y}
-use Rattle.mob_demo.specs.Examples.{FirstPositions}
-use Rattle.mob_demo.proofs.Digits.{one_padded, three_digits}
+use Rattle.mob_demo.{specs.Demo.{minute_text, position_text, ship_x, ship_y}, specs.Examples.{FirstPositions}, proofs.Digits.{one_padded, three_digits}}
 
 no_hour : padded 2 0 ≡ codes "00"
 no_hour = one_padded 0 (omega arith) ∙ ap (λ (t : Text). codes "0" ++ t) (decimal_digit 0 (omega arith))

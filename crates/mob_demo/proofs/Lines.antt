@@ -1,9 +1,7 @@
 -- The lines of the table file, as a loop adds them.
-use Rattle.std.proofs.Common.{◌≡◌, ◌∙◌, ◌<◌, ◌≤◌, ◌+◌, ◌-◌, ◌++◌, ℕ, ap, sym, flat_map, codes, append_assoc, append-nil, arith}
-use Rattle.std.specs.List.{range_with_len}
+use Rattle.std.{specs.List.{range_with_len}, proofs.Common.{◌≡◌, ◌∙◌, ◌<◌, ◌≤◌, ◌+◌, ◌-◌, ◌++◌, ℕ, ap, sym, flat_map, codes, append_assoc, append-nil, arith}}
 use Rattle.mob_language.specs.Language.{Text}
-use Rattle.mob_demo.specs.Demo.{demo_file_text, line_text}
-use Rattle.mob_demo.proofs.Ranges.{range_begins, range_over}
+use Rattle.mob_demo.{specs.Demo.{demo_file_text, line_text}, proofs.Ranges.{range_begins, range_over}}
 
 -- the lines of the ships from this one on
 abbrev pub lines_from : ℕ → ℕ → Text

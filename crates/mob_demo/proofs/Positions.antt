@@ -1,12 +1,8 @@
 -- The positions of a ship, as a loop adds them.
-use Rattle.std.proofs.Common.{◌≡◌, ◌∙◌, ◌<◌, ◌≤◌, ◌+◌, ◌-◌, ◌/◌, ◌%◌, ◌++◌, [], ℕ, ap, sym, refl, codes, length, append_assoc, arith}
-use Rattle.std.specs.List.{range_with_len}
+use Rattle.std.{specs.List.{range_with_len}, proofs.Common.{◌≡◌, ◌∙◌, ◌<◌, ◌≤◌, ◌+◌, ◌-◌, ◌/◌, ◌%◌, ◌++◌, [], ℕ, ap, sym, refl, codes, length, append_assoc, arith}}
 use Rattle.mob_language.specs.Language.{Text}
-use Rattle.mob_scalar.specs.Brackets.{more_texts}
-use Rattle.mob_scalar.specs.MomentText.{padded}
-use Rattle.mob_scalar.proofs.CommasWritten.{commas_done}
-use Rattle.mob_demo.specs.Demo.{minute_text, position_text, positions_text}
-use Rattle.mob_demo.proofs.Ranges.{range_begins, range_over}
+use Rattle.mob_scalar.{specs.Brackets.{more_texts}, specs.MomentText.{padded}, proofs.CommasWritten.{commas_done}}
+use Rattle.mob_demo.{specs.Demo.{minute_text, position_text, positions_text}, proofs.Ranges.{range_begins, range_over}}
 
 -- five texts, one after another
 five_written : (old a b c d now p q r s t : Text) → a ≡ old ++ p → b ≡ a ++ q → c ≡ b ++ r → d ≡ c ++ s → now ≡ d ++ t → now ≡ old ++ (p ++ (q ++ (r ++ (s ++ t))))

@@ -1,11 +1,8 @@
 -- The demo: ships that move to and fro in a square, each with a position at every minute of an
 -- hour, and a script that queries them.
-use Rattle.std.specs.Prelude.{ℕ, ◌+◌, ◌-◌, ◌*◌, ◌/◌, ◌%◌, ◌++◌, map, flat_map, codes, nat_le, if◌then◌else◌}
-use Rattle.std.specs.Fmt.{decimal}
-use Rattle.std.specs.List.{range_with_len}
+use Rattle.std.{specs.Prelude.{ℕ, ◌+◌, ◌-◌, ◌*◌, ◌/◌, ◌%◌, ◌++◌, map, flat_map, codes, nat_le, if◌then◌else◌}, specs.Fmt.{decimal}, specs.List.{range_with_len}}
 use Rattle.mob_language.specs.Language.{Text}
-use Rattle.mob_scalar.specs.Brackets.{with_commas}
-use Rattle.mob_scalar.specs.MomentText.{padded}
+use Rattle.mob_scalar.{specs.Brackets.{with_commas}, specs.MomentText.{padded}}
 
 -- ---- the positions of the ships
 

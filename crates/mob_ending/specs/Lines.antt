@@ -1,14 +1,9 @@
 -- The status of an ending, and the line that it leaves in the notes.
-use Rattle.std.specs.Prelude.{◌+◌, ◌++◌, ◌∷◌, ◌==◌, ℕ, List, [], Option, Some, None, codes, decimal, map, if◌then◌else◌}
-use Rattle.std.specs.List.{concat}
-use Rattle.mob_ast.specs.Kinds.{name_of, number_of}
-use Rattle.mob_ast.specs.declared.refusal.Kind.{Kind}
-use Rattle.mob_ast.specs.declared.refusal.Refusal.{Refusal}
-use Rattle.mob_slice.specs.declared.formula.Formula.{Formula}
-use Rattle.mob_slice.specs.declared.formula.Formula.TheVariants.{F1, F2, F3, F4, F5, F6, F7, Given}
+use Rattle.std.{specs.Prelude.{◌+◌, ◌++◌, ◌∷◌, ◌==◌, ℕ, List, [], Option, Some, None, codes, decimal, map, if◌then◌else◌}, specs.List.{concat}}
+use Rattle.mob_ast.{specs.Kinds.{name_of, number_of}, specs.declared.refusal.Kind.{Kind}, specs.declared.refusal.Refusal.{Refusal}}
+use Rattle.mob_slice.{specs.declared.formula.Formula.{Formula}, specs.declared.formula.Formula.TheVariants.{F1, F2, F3, F4, F5, F6, F7, Given}}
 use Rattle.mob_tuples.specs.Tuples.{no_row}
-use Rattle.mob_ending.specs.declared.ending.Ending.{Ending}
-use Rattle.mob_ending.specs.declared.ending.Ending.TheVariants.{Done, Usage, ReadFault, WriteFault, NoMemory, TableRefused, ScriptRefused, Overflow}
+use Rattle.mob_ending.{specs.declared.ending.Ending.{Ending}, specs.declared.ending.Ending.TheVariants.{Done, Usage, ReadFault, WriteFault, NoMemory, TableRefused, ScriptRefused, Overflow}}
 
 -- the status of an ending
 abbrev pub status_of : Ending → ℕ

@@ -1,18 +1,14 @@
 -- The nodes of expressions at a place of the script, and the places that an expression names.
-use Rattle.std.proofs.Common.{◌≡◌, ◌<◌, ◌≤◌, ◌+◌, ◌==◌, ◌&&◌, ◌||◌, ◌++◌, ◌∷◌, [], ℕ, Bool, true, false, List, Option, Some, None, length, drop, map, get_or, refl, sym, ap, subst, ◌∙◌, arith, append_assoc, append-nil, true≢false}
-use Rattle.std.proofs.lemmas.List.{drop_all}
 use Rattle.std.specs.List.{AllByRecursion}
-use Rattle.mob_list.proofs.Each.{each_both}
+use Rattle.std.proofs.Common.{◌≡◌, ◌<◌, ◌≤◌, ◌+◌, ◌==◌, ◌&&◌, ◌||◌, ◌++◌, ◌∷◌, [], ℕ, Bool, true, false, List, Option, Some, None, length, drop, map, get_or, refl, sym, ap, subst, ◌∙◌, arith}
+use Rattle.std.{proofs.Common.{append_assoc, append-nil, true≢false}, proofs.lemmas.List.{drop_all}}
+use Rattle.mob_list.{proofs.Each.{each_both}, proofs.Entries.{drop_read}}
 use Rattle.mob_operators.specs.declared.operator.Op.{Op}
-use Rattle.mob_operators.specs.declared.operator.Op.TheVariants as op
-use Rattle.mob_typed.specs.declared.typed.TExpr.{TExpr}
-use Rattle.mob_typed.specs.declared.typed.TExpr.TheViews.{out-TExpr}
-use Rattle.mob_typed.specs.Trees.{TypedTree, typed, TypedTrees, none, more, typed_of, typed_trees}
+use Rattle.mob_typed.{specs.declared.typed.TExpr.{TExpr}, specs.declared.typed.TExpr.TheViews.{out-TExpr}, specs.Trees.{TypedTree, typed, TypedTrees, none, more, typed_of, typed_trees}}
 use Rattle.mob_typed.proofs.TreeFacts.{typed_is}
-use Rattle.mob_remembered.specs.Depends.{names, any_names, reads, NamesOnly}
-use Rattle.mob_eval.specs.SoFar.{trees}
-use Rattle.mob_eval.specs.Remembered.{Recollection, IsOfPlace, AreCopies, names_only, all_name_only, reads_only, place_of, nodes_here, nodes_at, all_nodes_at}
-use Rattle.mob_list.proofs.Entries.{drop_read}
+use Rattle.mob_meaning.specs.Depends.{names, any_names, reads, NamesOnly}
+use Rattle.mob_eval.{specs.SoFar.{trees}, specs.Remembered.{Recollection, IsOfPlace, AreCopies, names_only, all_name_only, reads_only, place_of, nodes_here, nodes_at, all_nodes_at}}
+use Rattle.mob_operators.specs.declared.operator.Op.TheVariants as op
 
 pub both_true : (a b : Bool) → (a && b) ≡ true → (a ≡ true) × (b ≡ true)
 both_true true b h = (refl, h)

@@ -1,15 +1,13 @@
 -- Two operators that `==` finds equal are equal.
 use Rattle.std.proofs.Common.{◌≡◌, ◌==◌, ◌&&◌, inl, inr, ℕ, Bool, true, false, List, [], ◌∷◌, refl, sym, ap, true≢false, rules}
+use Rattle.mob_ast.{specs.declared.types.Cmp.{Cmp}, specs.contracts.types.Cmp.{the_type as sign}}
+use Rattle.mob_operators.{specs.declared.operator.Op.{Op}, specs.contracts.operator.Op.{enum, the_parts, as_values}}
+use Rattle.mob_eval.proofs.Choosing.{both_true, same_if}
 use denote.Struct.Field.{Field}
 use denote.Struct.Values.{Values}
 use denote.Enum.Declared.{Choice, values_one}
 use denote.Enum.Compared.{Each, by}
 use denote.Enum.Bare.{sameb, same_true}
-use Rattle.mob_ast.specs.declared.types.Cmp.{Cmp}
-use Rattle.mob_ast.specs.contracts.types.Cmp.{the_type as sign}
-use Rattle.mob_operators.specs.declared.operator.Op.{Op}
-use Rattle.mob_operators.specs.contracts.operator.Op.{enum, the_parts, as_values}
-use Rattle.mob_eval.proofs.Choosing.{both_true, same_if}
 
 -- for each variant with fields: if the test is true, the fields are equal
 abbrev pub Tells : (Fss : List (List Field)) → Each Bool Fss → Type 0

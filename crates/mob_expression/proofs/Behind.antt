@@ -1,15 +1,12 @@
 -- Lists made by steps of typing: the entries made so far, and those that the remaining steps add.
-use Rattle.std.proofs.Common.{◌≡◌, ◌∙◌, ◌<◌, ◌+◌, refl, sym, ap, ℕ, List, [], ◌∷◌, ◌++◌, length, drop, get_or, Result, Ok, Err}
-use Rattle.std.proofs.lemmas.List.{drop_more}
+use Rattle.std.{proofs.Common.{◌≡◌, ◌∙◌, ◌<◌, ◌+◌, refl, sym, ap, ℕ, List, [], ◌∷◌, ◌++◌, length, drop, get_or, Result, Ok, Err}, proofs.lemmas.List.{drop_more}}
 use Rattle.mob_typed.specs.declared.typed.ConstText.{ConstText}
 use Rattle.mob_list.specs.declared.fault.Fault.{Fault}
-use Rattle.mob_scope.specs.Answers.{◌>>=◌, StopsTyping}
-use Rattle.mob_scope.specs.declared.fault.Mistake.{Mistake}
-use Rattle.mob_expression.specs.Steps.{TypingStep, one_more}
-use Rattle.mob_expression.proofs.Wrongs.{fails_along, fails_bind}
+use Rattle.mob_scope.{specs.Answers.{◌>>=◌, StopsTyping}, specs.declared.fault.Mistake.{Mistake}}
+use Rattle.mob_expression.{specs.Steps.{TypingTurn, one_more}, proofs.Wrongs.{fails_along, fails_bind}}
 
 -- the entries of a list, then those that a step gives
-abbrev pub behind : {A : Type 0} → List A → TypingStep (List A) → TypingStep (List A)
+abbrev pub behind : {A : Type 0} → List A → TypingTurn (List A) → TypingTurn (List A)
 behind [] others cs = others cs
 behind (x ∷ xs) others cs = behind xs others cs >>= λ r. Ok (x ∷ r.0, r.1)
 
@@ -17,7 +14,7 @@ bind_both : {X Y Z : Type 0} (r : Result X Mistake) (f : X → Result Y Mistake)
 bind_both (Ok x) f g = refl
 bind_both (Err w) f g = refl
 
-module _ {A : Type 0} (first : TypingStep A) (others : TypingStep (List A)) (cs : List ConstText) where
+module _ {A : Type 0} (first : TypingTurn A) (others : TypingTurn (List A)) (cs : List ConstText) where
   -- one more entry
   pub one_behind : (done : List A) → behind done (one_more first others) cs ≡ (first cs >>= λ r. behind (done ++ r.0 ∷ []) others r.1)
   one_behind [] = refl
@@ -37,12 +34,12 @@ pub none_behind : {A : Type 0} (done : List A) (cs : List ConstText) → behind 
 none_behind [] cs = refl
 none_behind (x ∷ xs) cs = ap (λ r. r >>= λ l. Ok (x ∷ l.0, l.1)) (none_behind xs cs)
 
-pub same_behind : {A : Type 0} (f g : TypingStep (List A)) (cs : List ConstText) → f cs ≡ g cs → (done : List A) → behind done f cs ≡ behind done g cs
+pub same_behind : {A : Type 0} (f g : TypingTurn (List A)) (cs : List ConstText) → f cs ≡ g cs → (done : List A) → behind done f cs ≡ behind done g cs
 same_behind f g cs is [] = is
 same_behind f g cs is (x ∷ xs) = ap (λ r. r >>= λ l. Ok (x ∷ l.0, l.1)) (same_behind f g cs is xs)
 
 -- a step for each entry of a list, if those before this position are made
-module _ {X A : Type 0} (step : X → TypingStep A) (steps : List X → TypingStep (List A)) (more : (x : X) (xs : List X) (cs : List ConstText) → steps (x ∷ xs) cs ≡ one_more (step x) (steps xs) cs)
+module _ {X A : Type 0} (step : X → TypingTurn A) (steps : List X → TypingTurn (List A)) (more : (x : X) (xs : List X) (cs : List ConstText) → steps (x ∷ xs) cs ≡ one_more (step x) (steps xs) cs)
     (none : (cs : List ConstText) → steps [] cs ≡ Ok ([], cs)) (xs : List X) (i : ℕ) (done : List A) (cs : List ConstText) (whole : Result (List A × List ConstText) Mistake)
     (so_far : whole ≡ behind done (steps (drop i xs)) cs) where
   module _ (x : X) (within : i < length xs) (at : x ≡ get_or xs i x) where

@@ -1,20 +1,10 @@
 -- The typing of an expression in the program, step by step.
-use Rattle.std.proofs.Common.{◌≡◌, ◌∙◌, refl, sym, ap, subst, ℕ, List, [], ◌∷◌, Option, Some, None, Result, Ok, Err}
-use Rattle.std.specs.Prelude.{option_map}
-use Rattle.mob_ast.specs.declared.expression.Node.{Node}
-use Rattle.mob_ast.specs.declared.expression.Expr.{Expr}
-use Rattle.mob_ast.specs.declared.expression.Expr.TheViews.{out-Expr}
-use Rattle.mob_ast.specs.Trees.{tree_of, trees_of}
+use Rattle.std.{specs.Prelude.{option_map}, proofs.Common.{◌≡◌, ◌∙◌, refl, sym, ap, subst, ℕ, List, [], ◌∷◌, Option, Some, None, Result, Ok, Err}}
+use Rattle.mob_ast.{specs.declared.expression.Node.{Node}, specs.declared.expression.Expr.{Expr}, specs.declared.expression.Expr.TheViews.{out-Expr}, specs.Trees.{tree_of, trees_of}}
 use Rattle.mob_list.specs.declared.fault.Fault.{Fault}
-use Rattle.mob_typed.specs.declared.typed.ConstText.{ConstText}
-use Rattle.mob_typed.specs.declared.typed.TExpr.{TExpr}
-use Rattle.mob_scope.specs.Answers.{◌>>=◌, StopsTyping, AnswersAs}
-use Rattle.mob_scope.specs.declared.fault.Mistake.{Mistake}
-use Rattle.mob_expression.specs.Steps.{one_more, TypesTo}
-use Rattle.mob_scope.specs.Scopes.{ScopeParts}
-use Rattle.mob_typed.specs.Trees.{TypedTree, typed_of}
-use Rattle.mob_expression.specs.Expressions.{typed_before_operands, finished, or_later, typed_expression, typed_operands}
-use Rattle.mob_expression.proofs.TreeFacts.{tree_is}
+use Rattle.mob_typed.{specs.declared.typed.ConstText.{ConstText}, specs.declared.typed.TExpr.{TExpr}, specs.Trees.{TypedTree, typed_of}}
+use Rattle.mob_scope.{specs.Answers.{◌>>=◌, StopsTyping, AnswersAs}, specs.declared.fault.Mistake.{Mistake}, specs.Scopes.{ScopeParts}}
+use Rattle.mob_expression.{specs.Steps.{one_more, TypesTo}, specs.Expressions.{typed_before_operands, finished, or_later, typed_expression, typed_operands}, proofs.TreeFacts.{tree_is}}
 use Rattle.mob_expression.proofs.Wrongs.{fails_bind, fails_along}
 
 -- operands as a list

@@ -1,10 +1,7 @@
 -- Whether a digit other than 0 comes before the byte that ends the digits, byte by byte.
-use Rattle.std.proofs.Common.{◌≡◌, ◌∙◌, refl, ap, ℕ, ◌==◌, List, [], ◌∷◌, Bool, true, false, ◌||◌, not, cond}
-use Rattle.std.specs.Prelude.{take_while}
-use Rattle.std.specs.List.{list_any}
+use Rattle.std.{specs.Prelude.{take_while}, specs.List.{list_any}, proofs.Common.{◌≡◌, ◌∙◌, refl, ap, ℕ, ◌==◌, List, [], ◌∷◌, Bool, true, false, ◌||◌, not, cond}}
 use Rattle.std.proofs.lemmas.List.Sums.{take_while-cons}
-use Rattle.mob_language.specs.Language.{is_exponent_letter}
-use Rattle.mob_language.specs.NonZero.{is_figure, has_figure}
+use Rattle.mob_language.{specs.Language.{is_exponent_letter}, specs.NonZero.{is_figure, has_figure}}
 
 abbrev ends : ℕ → Bool
 ends b = is_exponent_letter b || b == 47

@@ -1,11 +1,8 @@
 -- Trees and typed trees of the program, unfolded one level at a time.
 use Rattle.std.proofs.Common.{◌≡◌, ◌<◌, ◌≤◌, length, get_or, arith, ◌∙◌, refl, sym, ap, ℕ, List, [], ◌∷◌, Option, Some, None, Bool, true, false, cond}
-use Rattle.mob_ast.specs.declared.expression.Expr.{Expr}
-use Rattle.mob_ast.specs.declared.expression.Expr.TheViews.{out-Expr}
-use Rattle.mob_ast.specs.declared.expression.Expr.TheFolds.{fold_out-Expr}
-use Rattle.mob_ast.specs.Trees.{Tree, tree, tree_step, tree_of, trees_of}
+use Rattle.mob_ast.{specs.declared.expression.Expr.{Expr}, specs.declared.expression.Expr.TheViews.{out-Expr}, specs.declared.expression.Expr.TheFolds.{fold_out-Expr}}
+use Rattle.mob_ast.{specs.Trees.{Tree, tree, tree_step, tree_of, trees_of}, specs.declared.expression.Node.TheVariants.{Sign}}
 use Rattle.mob_expression.specs.Expressions.{is_signed, digits_of, digits_in, signed_digits, only, divisor_of}
-use Rattle.mob_ast.specs.declared.expression.Node.TheVariants.{Sign}
 
 pub tree_is : (e : Expr) → tree_of e ≡ tree (out-Expr e).node (out-Expr e).place (trees_of (out-Expr e).args.items)
 tree_is = fold_out-Expr Tree tree_step

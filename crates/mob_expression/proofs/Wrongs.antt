@@ -1,9 +1,7 @@
 -- The first mistake in a part is the first mistake in the whole.
 use Rattle.std.proofs.Common.{◌≡◌, ◌∙◌, ap, Result}
-use Rattle.mob_list.specs.declared.fault.Fault.{Fault}
-use Rattle.mob_list.specs.declared.fault.Fault.TheVariants.{Because, NoMemory}
-use Rattle.mob_scope.specs.Answers.{◌>>=◌, StopsTyping}
-use Rattle.mob_scope.specs.declared.fault.Mistake.{Mistake}
+use Rattle.mob_list.{specs.declared.fault.Fault.{Fault}, specs.declared.fault.Fault.TheVariants.{Because, NoMemory}}
+use Rattle.mob_scope.{specs.Answers.{◌>>=◌, StopsTyping}, specs.declared.fault.Mistake.{Mistake}}
 
 pub fails_bind : {A B : Type 0} (f : Fault Mistake) (r : Result A Mistake) (k : A → Result B Mistake) → StopsTyping f r → StopsTyping f (r >>= k)
 fails_bind (Because wrong) r k h = ap (λ a. a >>= k) h

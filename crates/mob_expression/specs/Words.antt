@@ -1,13 +1,9 @@
 -- Words and numbers of a script: the types that words name, the type of a number, and whether it is
 -- 0.
-use Rattle.std.specs.Prelude.{◌==◌, ◌&&◌, not, ℕ, List, [], ◌∷◌, Bool, true, false, Option, Some, None, codes, drop, if◌then◌else◌}
-use Rattle.std.specs.List.{list_all}
-use Rattle.std.specs.Char.{is_ascii_digit, to_ascii_lowercase}
-use Rattle.std.specs.Str.{bytes_eq}
-use Rattle.mob_language.specs.Language.{is_blank}
-use Rattle.mob_language.specs.NonZero.{has_figure}
-use Rattle.mob_ast.specs.declared.types.Word.{Word}
-use Rattle.mob_ast.specs.declared.types.SqlType.{SqlType}
+use Rattle.std.{specs.Prelude.{◌==◌, ◌&&◌, not, ℕ, List, [], ◌∷◌, Bool, true, false, Option, Some, None, codes, drop, if◌then◌else◌}, specs.List.{list_all}}
+use Rattle.std.{specs.Char.{is_ascii_digit, to_ascii_lowercase}, specs.Str.{bytes_eq}}
+use Rattle.mob_language.{specs.Language.{is_blank}, specs.NonZero.{has_figure}}
+use Rattle.mob_ast.{specs.declared.types.Word.{Word}, specs.declared.types.SqlType.{SqlType}}
 use Rattle.mob_ast.specs.declared.types.SqlType.TheVariants as sql
 
 -- the type with this name in the list

@@ -11,7 +11,7 @@ use mob_ast::{Expr, Kind, Node, SqlType, TypeWord};
 use mob_list::fault::Fault;
 use mob_list::items::Items;
 use mob_list::text::Text;
-use mob_operators::{Form, Op, is_irrational};
+use mob_operators::{Op, Spelling, is_irrational};
 use mob_scope::columns::column_named;
 use mob_scope::fault::{Mistake, unless};
 use mob_scope::scope::{Found, Scope, number};
@@ -174,7 +174,7 @@ pub(crate) fn typed_before_operands(
             Ok(Some(column_leaf(alloc, found, place)))
         }
         Node::Call(name) => {
-            let irrational = is_irrational(Form::Call, name.as_str());
+            let irrational = is_irrational(Spelling::Call, name.as_str());
             unless(irrational, Kind::Irrational, place)?;
             Ok(None)
         }

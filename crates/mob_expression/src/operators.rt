@@ -12,7 +12,7 @@ ghost use Rattle.mob_expression.specs.Expressions.{is_signed, digits_of, divisor
 use crate::words::{is_zero, type_named};
 use mob_ast::{Expr, Kind, Node, SqlType, TypeWord};
 use mob_list::fault::Fault;
-use mob_operators::{Form, Op, is_aggregate, is_function, is_irrational, operator_for};
+use mob_operators::{Op, Spelling, is_aggregate, is_function, is_irrational, operator_for};
 use mob_scope::fault::Mistake;
 use mob_typed::{TExpr, with_args};
 use std::alloc::{AllocError, Global};
@@ -84,13 +84,13 @@ fn is_known(name: &str) -> bool
 }
 
 // Why the table has no line for an operator with these types.
-fn missing(form: Form, name: &str, types: &[SqlType]) -> Kind
+fn missing(form: Spelling, name: &str, types: &[SqlType]) -> Kind
     ensures cause { result ≡ missing form name.now types.now }
 {
     match form {
-        Form::Word => Kind::NoSuchOperator,
-        Form::Sign => missing_sign(name, types),
-        Form::Call => {
+        Spelling::Word => Kind::NoSuchOperator,
+        Spelling::Sign => missing_sign(name, types),
+        Spelling::Call => {
             if is_known(name) {
                 Kind::NoSuchOperator
             } else {
@@ -103,7 +103,7 @@ fn missing(form: Form, name: &str, types: &[SqlType]) -> Kind
 fn missing_sign(name: &str, types: &[SqlType]) -> Kind
     ensures cause { result ≡ missing_sign name.now types.now }
 {
-    if is_irrational(Form::Sign, name) {
+    if is_irrational(Spelling::Sign, name) {
         return Kind::Irrational;
     }
     if name == "*" && are_linear(types) {
@@ -133,7 +133,7 @@ fn divides_by_zero(op: Op, divisor: Option<bool>) -> bool
 // The operator for operands of these types, and the type of its result. `divisor` says whether the
 // second operand is a number literal that is 0; `None` if it is not a number literal.
 fn operated(
-    form: Form,
+    form: Spelling,
     name: &str,
     place: u32,
     divisor: Option<bool>,
@@ -205,14 +205,14 @@ fn operator_of(
     ensures typed { (ts : List TypedTree) → types.now ≡ types_of ts → AnswersAs (λ r. typed r.0 r.1 place (typed_trees ts)) result (finished node.now place (trees_of args.now) ts) }
 {
     match node {
-        Node::Call(name) => operated(Form::Call, name.as_str(), place, None, types),
-        Node::Sign(sign) => operated(Form::Sign, sign.as_str(), place, divisor_of(args), types),
+        Node::Call(name) => operated(Spelling::Call, name.as_str(), place, None, types),
+        Node::Sign(sign) => operated(Spelling::Sign, sign.as_str(), place, divisor_of(args), types),
         Node::Cast(word) => cast(word, place, types),
-        Node::Not => operated(Form::Word, "not", place, None, types),
-        Node::And => operated(Form::Word, "and", place, None, types),
-        Node::Or => operated(Form::Word, "or", place, None, types),
-        Node::IsNull => operated(Form::Word, "is null", place, None, types),
-        Node::IsNotNull => operated(Form::Word, "is not null", place, None, types),
+        Node::Not => operated(Spelling::Word, "not", place, None, types),
+        Node::And => operated(Spelling::Word, "and", place, None, types),
+        Node::Or => operated(Spelling::Word, "or", place, None, types),
+        Node::IsNull => operated(Spelling::Word, "is null", place, None, types),
+        Node::IsNotNull => operated(Spelling::Word, "is not null", place, None, types),
         _ => Err(Fault::Because(Mistake {
             kind: Kind::NoSuchOperator,
             place,

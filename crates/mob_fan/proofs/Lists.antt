@@ -1,7 +1,5 @@
 -- Work on the entries of a list.
-use Rattle.std.proofs.Common.{◌≡◌, ℕ, ◌+◌, ◌-◌, ◌≤◌, List, ◌++◌, Result, ap, sym, subst, ◌∙◌, length, take, drop, slice_range, arith}
-use Rattle.std.proofs.Math.Seq.{take-add}
-use Rattle.std.proofs.lemmas.List.{drop-drop}
+use Rattle.std.{proofs.Common.{◌≡◌, ℕ, ◌+◌, ◌-◌, ◌≤◌, List, ◌++◌, Result, ap, sym, subst, ◌∙◌, length, take, drop, slice_range, arith}, proofs.Math.Seq.{take-add}, proofs.lemmas.List.{drop-drop}}
 use Rattle.mob_fan.specs.Outcomes.{IsWork, joined_outcomes}
 
 -- a part of a list is its part up to an entry, and its part from there on

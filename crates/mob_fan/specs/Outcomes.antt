@@ -1,7 +1,6 @@
 -- The outcome of a range of work: its items in order, or its first fault.
 use Rattle.std.specs.Prelude.{ℕ, ◌≤◌, List, ◌++◌, Result, Ok, Err}
-use Rattle.mob_fan.specs.declared.outcomes.Outcome.{Outcome}
-use Rattle.mob_fan.specs.declared.outcomes.Outcome.TheVariants.{Items, Stop}
+use Rattle.mob_fan.{specs.declared.outcomes.Outcome.{Outcome}, specs.declared.outcomes.Outcome.TheVariants.{Items, Stop}}
 
 -- an outcome as a list, or a fault
 abbrev pub outcome_seen : {I F : Type 0} → Outcome I F → Result (List I) F

@@ -2,11 +2,11 @@
 ghost use Rattle.std.specs.Prelude.{◌≡◌, ◌+◌, ◌<◌, ◌≤◌, ◌++◌, IfOk};
 ghost use Rattle.std.specs.Thread.{IsSend, IsSync};
 ghost use Rattle.mob_fan.specs.Outcomes.{outcome_seen};
-ghost use Rattle.mob_fan.specs.Pieces.{ArePieces};
+ghost use Rattle.mob_fan.specs.Pieces.{AreRangePieces};
 
 use crate::gathering::outcome_of;
 use crate::outcomes::Outcome;
-use crate::pieces::{Piece, taken};
+use crate::pieces::{RangePiece, taken};
 use crate::work::Work;
 use mob_outside::Gate;
 use std::alloc::{AllocError, Global};
@@ -69,9 +69,9 @@ fn alone<R: Threads + Sync, W: Work, G: Gate>(
     alloc: Global,
     crew: &Crew<'_, R, W, G>,
     number: usize,
-) -> Result<Vec<Piece<W::Item, W::Fault>>, AllocError>
+) -> Result<Vec<RangePiece<W::Item, W::Fault>>, AllocError>
     requires size { crew.now.len ≡ W.size_of crew.now.work.now }
-    ensures pieces { IfOk result (λ v. ArePieces W.size_of W.comes crew.now.work.now v.items) }
+    ensures pieces { IfOk result (λ v. AreRangePieces W.size_of W.comes crew.now.work.now v.items) }
 {
     crew.gate.enter(number);
     taken(alloc, crew.work, crew.cuts, crew.len, crew.next)
@@ -84,11 +84,11 @@ fn pieces<R: Threads + Sync, W: Work, G: Gate>(
     crew: &Crew<'_, R, W, G>,
     first: usize,
     count: usize,
-) -> Result<Vec<Piece<W::Item, W::Fault>>, AllocError>
+) -> Result<Vec<RangePiece<W::Item, W::Fault>>, AllocError>
     requires size { crew.now.len ≡ W.size_of crew.now.work.now }
     requires some { 1 ≤ count }
     requires few { first + count ≤ 64 }
-    ensures pieces { IfOk result (λ v. ArePieces W.size_of W.comes crew.now.work.now v.items) }
+    ensures pieces { IfOk result (λ v. AreRangePieces W.size_of W.comes crew.now.work.now v.items) }
 {
     if count == 1 {
         return alone(alloc, crew, first);
@@ -104,23 +104,23 @@ fn beside<R: Threads + Sync, W: Work, G: Gate>(
     crew: &Crew<'_, R, W, G>,
     number: usize,
     others: usize,
-) -> Result<Vec<Piece<W::Item, W::Fault>>, AllocError>
+) -> Result<Vec<RangePiece<W::Item, W::Fault>>, AllocError>
     requires size { crew.now.len ≡ W.size_of crew.now.work.now }
     requires some { 1 ≤ others }
     requires few { number + others < 64 }
-    ensures pieces { IfOk result (λ v. ArePieces W.size_of W.comes crew.now.work.now v.items) }
+    ensures pieces { IfOk result (λ v. AreRangePieces W.size_of W.comes crew.now.work.now v.items) }
 {
-    let one = move || -> Result<Vec<Piece<W::Item, W::Fault>>, AllocError>
+    let one = move || -> Result<Vec<RangePiece<W::Item, W::Fault>>, AllocError>
         requires shared { IsSync R.row × IsSync W.row × IsSync G.row }
         requires sent { IsSend W.Item.row × IsSend W.Fault.row }
         requires size { crew.now.len ≡ W.size_of crew.now.work.now }
-        ensures pieces { IfOk result (λ v. ArePieces W.size_of W.comes crew.entry.now.work.now v.items) }
+        ensures pieces { IfOk result (λ v. AreRangePieces W.size_of W.comes crew.entry.now.work.now v.items) }
     { alone(alloc, crew, number) };
-    let rest = move || -> Result<Vec<Piece<W::Item, W::Fault>>, AllocError>
+    let rest = move || -> Result<Vec<RangePiece<W::Item, W::Fault>>, AllocError>
         requires size { crew.now.len ≡ W.size_of crew.now.work.now }
         requires some { 1 ≤ others }
         requires few { number + others < 64 }
-        ensures pieces { IfOk result (λ v. ArePieces W.size_of W.comes crew.entry.now.work.now v.items) }
+        ensures pieces { IfOk result (λ v. AreRangePieces W.size_of W.comes crew.entry.now.work.now v.items) }
     { pieces(alloc, crew, number + 1, others) };
     let (done, more) = join(crew.rt, one, rest);
     both_lists(more?, done?)
@@ -128,9 +128,9 @@ fn beside<R: Threads + Sync, W: Work, G: Gate>(
 
 // Two lists of pieces, joined.
 fn both_lists<I: Drop, F: Drop>(
-    pieces: Vec<Piece<I, F>>,
-    others: Vec<Piece<I, F>>,
-) -> Result<Vec<Piece<I, F>>, AllocError>
+    pieces: Vec<RangePiece<I, F>>,
+    others: Vec<RangePiece<I, F>>,
+) -> Result<Vec<RangePiece<I, F>>, AllocError>
     ensures both { IfOk result (λ all. all.items ≡ pieces.items ++ others.items) }
 {
     let mut all = pieces;

@@ -2,17 +2,17 @@
 ghost use Rattle.std.specs.Prelude.{◌≡◌, IfOk};
 ghost use Rattle.std.specs.List.Sorted.{IsPermutation};
 ghost use Rattle.mob_fan.specs.Outcomes.{outcome_seen};
-ghost use Rattle.mob_fan.specs.Pieces.{IsPiece, ArePieces, IsJoined};
+ghost use Rattle.mob_fan.specs.Pieces.{IsRangePiece, AreRangePieces, IsGathered};
 
 use crate::outcomes::{Outcome, both};
-use crate::pieces::Piece;
+use crate::pieces::RangePiece;
 use crate::work::Work;
 use std::alloc::{AllocError, Global};
 use std::cmp::Ordering;
 
 /// The joint outcome of neighbouring pieces from 0 on.
 #[derive(Drop)]
-pub struct Joined<I, F> {
+pub struct Gathered<I, F> {
     /// The end of the last of them.
     pub to: usize,
     /// Their outcome, if there is a piece.
@@ -20,10 +20,10 @@ pub struct Joined<I, F> {
 }
 
 // Sorts the pieces, the last one first.
-fn sort<I: Drop, F: Drop>(pieces: &mut Vec<Piece<I, F>>) -> Result<(), AllocError>
+fn sort<I: Drop, F: Drop>(pieces: &mut Vec<RangePiece<I, F>>) -> Result<(), AllocError>
     ensures same { IsPermutation pieces.old.items pieces.new.items }
 {
-    let by = |a: &Piece<I, F>, b: &Piece<I, F>| -> Ordering { b.from.cmp(&a.from) };
+    let by = |a: &RangePiece<I, F>, b: &RangePiece<I, F>| -> Ordering { b.from.cmp(&a.from) };
     match pieces.sort_by(by) {
         Ok(()) => Ok(()),
         Err(error) => Err(error),
@@ -33,12 +33,12 @@ fn sort<I: Drop, F: Drop>(pieces: &mut Vec<Piece<I, F>>) -> Result<(), AllocErro
 // The joined pieces with the next one. A piece that is not their neighbour is left out.
 fn next_joined<W: Work>(
     _work: &W,
-    so_far: Joined<W::Item, W::Fault>,
-    piece: Piece<W::Item, W::Fault>,
-) -> Result<Joined<W::Item, W::Fault>, AllocError>
-    requires so_far { IsJoined W.size_of W.comes _work.now so_far }
-    requires piece { IsPiece W.size_of W.comes _work.now piece }
-    ensures joined { IfOk result (IsJoined W.size_of W.comes _work.now) }
+    so_far: Gathered<W::Item, W::Fault>,
+    piece: RangePiece<W::Item, W::Fault>,
+) -> Result<Gathered<W::Item, W::Fault>, AllocError>
+    requires so_far { IsGathered W.size_of W.comes _work.now so_far }
+    requires piece { IsRangePiece W.size_of W.comes _work.now piece }
+    ensures joined { IfOk result (IsGathered W.size_of W.comes _work.now) }
 {
     if piece.from != so_far.to {
         return Ok(so_far);
@@ -47,7 +47,7 @@ fn next_joined<W: Work>(
         Some(outcome) => both(outcome, piece.outcome)?,
         None => piece.outcome,
     };
-    Ok(Joined {
+    Ok(Gathered {
         to: piece.to,
         outcome: Some(outcome),
     })
@@ -58,10 +58,10 @@ fn with_rest<W: Work>(
     alloc: Global,
     work: &W,
     len: usize,
-    so_far: Joined<W::Item, W::Fault>,
+    so_far: Gathered<W::Item, W::Fault>,
 ) -> Result<Outcome<W::Item, W::Fault>, AllocError>
     requires size { len ≡ W.size_of work.now }
-    requires so_far { IsJoined W.size_of W.comes work.now so_far }
+    requires so_far { IsGathered W.size_of W.comes work.now so_far }
     ensures whole { IfOk result (λ o. W.comes work.now 0 len (outcome_seen o)) }
 {
     let to = so_far.to;
@@ -81,15 +81,15 @@ pub fn outcome_of<W: Work>(
     alloc: Global,
     work: &W,
     len: usize,
-    pieces: Vec<Piece<W::Item, W::Fault>>,
+    pieces: Vec<RangePiece<W::Item, W::Fault>>,
 ) -> Result<Outcome<W::Item, W::Fault>, AllocError>
     requires size { len ≡ W.size_of work.now }
-    requires pieces { ArePieces W.size_of W.comes work.now pieces.items }
+    requires pieces { AreRangePieces W.size_of W.comes work.now pieces.items }
     ensures whole { IfOk result (λ o. W.comes work.now 0 len (outcome_seen o)) }
 {
     let mut pieces = pieces;
     sort(&mut pieces)?;
-    let mut so_far = Joined {
+    let mut so_far = Gathered {
         to: 0,
         outcome: None,
     };

@@ -1,6 +1,6 @@
 //! Completed pieces of work.
 ghost use Rattle.std.specs.Prelude.{◌≡◌, ◌≤◌, length, IfOk, OnOk};
-ghost use Rattle.mob_fan.specs.Pieces.{ArePieces};
+ghost use Rattle.mob_fan.specs.Pieces.{AreRangePieces};
 
 use crate::outcomes::Outcome;
 use crate::work::Work;
@@ -9,7 +9,7 @@ use std::sync::atomic::{AtomicU64, Ordering};
 
 /// A completed piece of work.
 #[derive(Drop)]
-pub struct Piece<I, F> {
+pub struct RangePiece<I, F> {
     /// The first number of its range.
     pub from: usize,
     /// The number after its range.
@@ -39,12 +39,12 @@ fn push_piece<W: Work>(
     cuts: &[usize],
     len: usize,
     number: usize,
-    out: &mut Vec<Piece<W::Item, W::Fault>>,
+    out: &mut Vec<RangePiece<W::Item, W::Fault>>,
 ) -> Result<(), AllocError>
     requires size { len ≡ W.size_of work.now }
     requires number { number ≤ length cuts.now }
-    requires pieces { ArePieces W.size_of W.comes work.now out.old.items }
-    ensures pieces { OnOk result (ArePieces W.size_of W.comes work.now out.new.items) }
+    requires pieces { AreRangePieces W.size_of W.comes work.now out.old.items }
+    ensures pieces { OnOk result (AreRangePieces W.size_of W.comes work.now out.new.items) }
 {
     let from = start(cuts, number, len);
     let to = start(cuts, number + 1, len);
@@ -52,7 +52,7 @@ fn push_piece<W: Work>(
         return Ok(());
     }
     let outcome = work.piece(alloc, from, to)?;
-    out.push(Piece { from, to, outcome })?;
+    out.push(RangePiece { from, to, outcome })?;
     Ok(())
 }
 
@@ -64,9 +64,9 @@ pub fn taken<W: Work>(
     cuts: &[usize],
     len: usize,
     next: &AtomicU64,
-) -> Result<Vec<Piece<W::Item, W::Fault>>, AllocError>
+) -> Result<Vec<RangePiece<W::Item, W::Fault>>, AllocError>
     requires size { len ≡ W.size_of work.now }
-    ensures pieces { IfOk result (λ v. ArePieces W.size_of W.comes work.now v.items) }
+    ensures pieces { IfOk result (λ v. AreRangePieces W.size_of W.comes work.now v.items) }
 {
     let mut out = Vec::new(alloc);
     for _ in 0..cuts.len() + 1 {

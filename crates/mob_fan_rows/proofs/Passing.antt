@@ -1,9 +1,7 @@
 -- Numbers that pass, one by one.
-use Rattle.std.proofs.Common.{◌≡◌, ◌∙◌, ◌<◌, ◌≤◌, ℕ, List, [], ◌∷◌, ◌++◌, Result, Ok, Err, true, false, ap, sym, append-nil, arith}
-use Rattle.std.specs.Prelude.{nat_le, if◌then◌else◌}
+use Rattle.std.{specs.Prelude.{nat_le, if◌then◌else◌}, proofs.Common.{◌≡◌, ◌∙◌, ◌<◌, ◌≤◌, ℕ, List, [], ◌∷◌, ◌++◌, Result, Ok, Err, true, false, ap, sym, append-nil, arith}}
 use Rattle.std.proofs.lemmas.Bool.Decides.{nat_tests}
-use Rattle.mob_fan.specs.Outcomes.{joined_outcomes}
-use Rattle.mob_fan.proofs.Joining.{joined_three}
+use Rattle.mob_fan.{specs.Outcomes.{joined_outcomes}, proofs.Joining.{joined_three}}
 use Rattle.mob_fan_rows.specs.Numbers.{passed}
 
 -- the next one passes

@@ -1,9 +1,6 @@
 -- The result for a list of numbers is that of its two parts together.
-use Rattle.std.specs.Prelude.{◌≡◌, refl, ℕ, List, [], ◌∷◌, ◌++◌, Bool, true, false, Result, Ok, Err, length, nat_le, slice_range, if◌then◌else◌}
-use Rattle.std.proofs.Common.{sym, ap, ap₂, ◌∙◌}
-use Rattle.mob_fan.specs.Outcomes.{IsWork, joined_outcomes}
-use Rattle.mob_fan.proofs.Joining.{nothing_before, joined_three}
-use Rattle.mob_fan.proofs.Lists.{list_work}
+use Rattle.std.{specs.Prelude.{◌≡◌, refl, ℕ, List, [], ◌∷◌, ◌++◌, Bool, true, false, Result, Ok, Err, length, nat_le, slice_range, if◌then◌else◌}, proofs.Common.{sym, ap, ap₂, ◌∙◌}}
+use Rattle.mob_fan.{specs.Outcomes.{IsWork, joined_outcomes}, proofs.Joining.{nothing_before, joined_three}, proofs.Lists.{list_work}}
 use Rattle.mob_fan_rows.specs.Numbers.{passed}
 
 -- a result for the first number, added to both

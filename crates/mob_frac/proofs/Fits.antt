@@ -1,7 +1,5 @@
 -- A number fits or does not.
-use Rattle.std.specs.Prelude.{◌⊎◌, suc, ◌^◌, nat_abs}
-use Rattle.std.proofs.Common.{inl, inr, ⊎_elim, arith}
-use Rattle.std.proofs.lemmas.Bool.Decides.{leb_tells}
+use Rattle.std.{specs.Prelude.{◌⊎◌, suc, ◌^◌, nat_abs}, proofs.Common.{inl, inr, ⊎_elim, arith}, proofs.lemmas.Bool.Decides.{leb_tells}}
 use Rattle.mob_ratio.specs.Ratio.{Ratio}
 use Rattle.mob_frac.specs.Fits.{Fits}
 

@@ -1,18 +1,9 @@
 -- The operations on fractions that need not be in lowest terms.
-use Rattle.std.proofs.Common.{◌≡◌, ℕ, ◌*◌, ◌^◌, ◌<◌, ℤ, pos, negsuc, ◌+ℤ◌, ◌*ℤ◌, ◌<ℤ◌, nat_abs, arith, sym, ap, refl, subst, ◌∙◌, lt_of_le_of_lt}
-use Rattle.std.specs.Prelude.{Option, Some, None, IfSome}
+use Rattle.std.{specs.Prelude.{Option, Some, None, IfSome}, proofs.Common.{◌≡◌, ℕ, ◌*◌, ◌^◌, ◌<◌, ℤ, pos, negsuc, ◌+ℤ◌, ◌*ℤ◌, ◌<ℤ◌, nat_abs, arith, sym, ap, refl, subst, ◌∙◌, lt_of_le_of_lt}}
+use Rattle.mob_ratio.{specs.Gcd.{gcd}, specs.LowestLaws.{abs-div}, specs.Ratio.{Ratio, over, whole, ◌+ℚ◌, ◌-ℚ◌, ◌*ℚ◌, ◌/ℚ◌, ◌<ℚ◌}, proofs.IntRing.{linear, products}}
+use Rattle.mob_ratio.{proofs.RatioLemmas.{over-parts, over-self, over-same, over-add, over-mul, den_pos}, proofs.Clear.{eq_zero, zero_lt, whole-over, clear2, cleared}, proofs.Divide.{quotient_is}}
+use Rattle.mob_frac.{specs.Fits.{Fits}, specs.RoughInside.{IsRough, rough_value}, specs.declared.rough.Rough.TheInside.{Inside}, proofs.Operations.{abs_positive}}
 use native.Mathlib.Nat.{mul-pos, div-le_self}
-use Rattle.mob_ratio.specs.Gcd.{gcd}
-use Rattle.mob_ratio.specs.LowestLaws.{abs-div}
-use Rattle.mob_ratio.specs.Ratio.{Ratio, over, whole, ◌+ℚ◌, ◌-ℚ◌, ◌*ℚ◌, ◌/ℚ◌, ◌<ℚ◌}
-use Rattle.mob_ratio.proofs.IntRing.{linear, products}
-use Rattle.mob_ratio.proofs.RatioLemmas.{over-parts, over-self, over-same, over-add, over-mul, den_pos}
-use Rattle.mob_ratio.proofs.Clear.{eq_zero, zero_lt, whole-over, clear2, cleared}
-use Rattle.mob_ratio.proofs.Divide.{quotient_is}
-use Rattle.mob_frac.specs.Fits.{Fits}
-use Rattle.mob_frac.specs.RoughInside.{IsRough, rough_value}
-use Rattle.mob_frac.specs.declared.rough.Rough.TheInside.{Inside}
-use Rattle.mob_frac.proofs.Operations.{abs_positive}
 
 -- if the parts fit, they fit in lowest terms
 pub fits_over : (n d : ℤ) → pos 0 <ℤ d → nat_abs n < 2 ^ 62 → nat_abs d < 2 ^ 62 → Fits (over n (nat_abs d))

@@ -1,17 +1,10 @@
 -- Sums and products whose common divisors are divided out before multiplying.
-use Rattle.std.proofs.Common.{◌≡◌, ℕ, zero, suc, ◌+◌, ◌-◌, ◌*◌, ◌/◌, ◌<◌, ℤ, pos, ◌+ℤ◌, ◌*ℤ◌, ◌<ℤ◌, nat_abs, int_div, arith, ap, sym, subst, ◌∙◌, ◌⊎◌, inl, inr}
-use native.Mathlib.Nat.{dvd_refl, eq-one_of_dvd-one, mul_assoc, div-mul_cancel, mul-div_cancel, dvd-mul_right, dvd-mul_left, dvd-add, dvd-sub, dvd_trans, mul-pos, mul_comm}
-use Rattle.std.specs.Int.{◌∣◌}
-use Rattle.std.proofs.lemmas.Bool.{cases_eq}
-use Rattle.std.proofs.lemmas.Int.{unsigned_abs-mul}
-use Rattle.mob_ratio.specs.Gcd.{gcd}
-use Rattle.mob_ratio.specs.GcdLaws.{gcd-is, gcd_comm, gcd_pos, gcd_reduced, dvd_of_coprime}
-use Rattle.mob_ratio.specs.LowestLaws.{lowest_in, abs-div}
-use Rattle.mob_ratio.specs.Ratio.{Ratio, over, ◌+ℚ◌, ◌*ℚ◌}
-use Rattle.mob_ratio.proofs.IntRing.{linear, products}
-use Rattle.mob_ratio.proofs.RatioLemmas.{den_pos, lowest_gcd, over-same, over-cross, over-mul, over-parts}
-use Rattle.mob_ratio.proofs.ProductLemmas.{coprime-mul, coprime-dvd}
+use Rattle.std.{specs.Int.{◌∣◌}, proofs.Common.{◌≡◌, ℕ, zero, suc, ◌+◌, ◌-◌, ◌*◌, ◌/◌, ◌<◌, ℤ, pos, ◌+ℤ◌, ◌*ℤ◌, ◌<ℤ◌, nat_abs, int_div, arith, ap, sym, subst, ◌∙◌, ◌⊎◌, inl, inr}}
+use Rattle.std.{proofs.lemmas.Bool.{cases_eq}, proofs.lemmas.Int.{unsigned_abs-mul}}
+use Rattle.mob_ratio.{specs.Gcd.{gcd}, specs.GcdLaws.{gcd-is, gcd_comm, gcd_pos, gcd_reduced, dvd_of_coprime}, specs.LowestLaws.{lowest_in, abs-div}, specs.Ratio.{Ratio, over, ◌+ℚ◌, ◌*ℚ◌}}
+use Rattle.mob_ratio.{proofs.IntRing.{linear, products}, proofs.RatioLemmas.{den_pos, lowest_gcd, over-same, over-cross, over-mul, over-parts}, proofs.ProductLemmas.{coprime-mul, coprime-dvd}}
 use Rattle.mob_frac.specs.Fits.{IsLowest}
+use native.Mathlib.Nat.{dvd_refl, eq-one_of_dvd-one, mul_assoc, div-mul_cancel, mul-div_cancel, dvd-mul_right, dvd-mul_left, dvd-add, dvd-sub, dvd_trans, mul-pos, mul_comm}
 
 pub den_positive : (q : Ratio) (d : ℤ) → d ≡ pos q.den → pos 0 <ℤ d
 den_positive q d e = let h : 0 < q.den = den_pos q in rw e (omega (arith, linear))

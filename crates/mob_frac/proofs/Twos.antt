@@ -1,14 +1,10 @@
 -- Greatest common divisors of odd numbers, and of numbers without their factors of 2.
-use Rattle.std.proofs.Common.{◌≡◌, ℕ, zero, suc, ◌+◌, ◌-◌, ◌*◌, ◌/◌, ◌%◌, ◌^◌, ◌<◌, ◌≤◌, min, arith, ap, sym, subst, ◌∙◌, mod-eq_of_lt, pow-suc, mul_assoc, mul_comm, ◌⊎◌, inl, inr}
 use Rattle.std.specs.Int.{IsGcd, bit_at, w64, trailing_zeros, ◌∣◌}
-use Rattle.std.proofs.lemmas.Nat.{shr_split, mod-pow-add, pow_pos, pow-add}
-use Rattle.std.proofs.lemmas.Nat.Bits.{bit_at_lowest, bit_at-suc, bit_at-trailing_zeros}
-use Rattle.std.proofs.lemmas.Nat.Gcd.{dvd_refl, IsGcd-swap, IsGcd-from_sub, IsGcd-from_mod, IsGcd-from_zero, same_from_IsGcd}
-use Rattle.std.proofs.lemmas.Bool.{cases_lt}
+use Rattle.std.proofs.Common.{◌≡◌, ℕ, zero, suc, ◌+◌, ◌-◌, ◌*◌, ◌/◌, ◌%◌, ◌^◌, ◌<◌, ◌≤◌, min, arith, ap, sym, subst, ◌∙◌, mod-eq_of_lt, pow-suc, mul_assoc, mul_comm, ◌⊎◌, inl, inr}
+use Rattle.std.{proofs.lemmas.Nat.{shr_split, mod-pow-add, pow_pos, pow-add}, proofs.lemmas.Nat.Bits.{bit_at_lowest, bit_at-suc, bit_at-trailing_zeros}}
+use Rattle.std.{proofs.lemmas.Nat.Gcd.{dvd_refl, IsGcd-swap, IsGcd-from_sub, IsGcd-from_mod, IsGcd-from_zero, same_from_IsGcd}, proofs.lemmas.Bool.{cases_lt}}
+use Rattle.mob_ratio.{specs.Gcd.{gcd}, specs.GcdLaws.{gcd-is, gcd_comm, gcd-mul, gcd_one_right, gcd_le, dvd_of_coprime}, proofs.ProductLemmas.{coprime-mul, coprime-dvd}}
 use native.Mathlib.Nat.{dvd-mul_right_of_dvd}
-use Rattle.mob_ratio.specs.Gcd.{gcd}
-use Rattle.mob_ratio.specs.GcdLaws.{gcd-is, gcd_comm, gcd-mul, gcd_one_right, gcd_le, dvd_of_coprime}
-use Rattle.mob_ratio.proofs.ProductLemmas.{coprime-mul, coprime-dvd}
 
 -- if the low bits are all 0, the remainder is 0
 low_zero : (t n : ℕ) → ((i : ℕ) → i < t → bit_at n i ≡ 0) → n % 2 ^ t ≡ 0

@@ -2,9 +2,7 @@
 -- formula are the results of its steps in lowest terms, in the order in which they are written. The
 -- part lists of all formulas are here, each under the letter and number by which an error names it.
 use Rattle.std.specs.Prelude.{◌≡◌, cond, ◌&&◌, ◌||◌, List, [], ◌∷◌, Result, MatchResult}
-use Rattle.mob_ratio.specs.Ratio.{Ratio, ◌+ℚ◌, ◌-ℚ◌, ◌*ℚ◌, ◌/ℚ◌}
-use Rattle.mob_ratio.specs.Order.{before, same}
-use Rattle.mob_ratio.specs.Sign.{nil}
+use Rattle.mob_ratio.{specs.Ratio.{Ratio, ◌+ℚ◌, ◌-ℚ◌, ◌*ℚ◌, ◌/ℚ◌}, specs.Order.{before, same}, specs.Sign.{nil}}
 use Rattle.mob_frac.specs.Fits.{Fits}
 
 -- every part of the formula fits

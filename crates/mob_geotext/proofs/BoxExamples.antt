@@ -1,15 +1,11 @@
 -- Examples, worked by hand: which texts are boxes, and which box each denotes.
-use Rattle.std.proofs.Common.{◌≡◌, true, pos, Option, None, codes, refl}
-use Rattle.std.specs.Prelude.{is_some}
-use Rattle.mob_language.specs.Language.{Text}
-use Rattle.mob_language.specs.Readers.{all_of, within_blanks_at}
-use Rattle.mob_numeral.specs.Blanks.{some_blanks_at}
-use Rattle.mob_numeral.specs.Fitting.{number_value_at}
+use Rattle.std.{specs.Prelude.{is_some}, proofs.Common.{◌≡◌, true, pos, Option, None, codes, refl}}
+use Rattle.mob_language.{specs.Language.{Text}, specs.Readers.{all_of, within_blanks_at}}
+use Rattle.mob_numeral.{specs.Blanks.{some_blanks_at}, specs.Fitting.{number_value_at}}
 use Rattle.mob_numeral.specs.NumberReaders.{numeral_at, sign_at, digits_at, tail_at, over_at, decimal_at, point_at, exponent_at, power_at}
 use Rattle.mob_points.specs.Points.{close_bracket_at}
 use Rattle.mob_scalar.specs.Brackets.{comma_at}
-use Rattle.mob_geotext.specs.declared.boxes.NotedBox.{NotedBox}
-use Rattle.mob_geotext.specs.Boxes.{open_bracket_at, corner_at, corners_at, space_alone_at, space_and_time_at, time_alone_at, with_space_at, written_box_at}
+use Rattle.mob_geotext.{specs.declared.boxes.NotedBox.{NotedBox}, specs.Boxes.{open_bracket_at, corner_at, corners_at, space_alone_at, space_and_time_at, time_alone_at, with_space_at, written_box_at}}
 
 abbrev read : Text → Option NotedBox
 read text = all_of (within_blanks_at (written_box_at (pos 0))) text

@@ -1,34 +1,18 @@
 -- A printed box reads back as itself, and a text has at most one reading as a box.
-use Rattle.std.proofs.Common.{◌≡◌, ℤ, [], ◌++◌, Option, Some, None, Ok, true, false, refl, sym, ap, subst, ◌∙◌, codes, inl, inr}
-use Rattle.std.specs.Prelude.{◌||◌, ◌⊎◌, is_some, IfSome, MatchOption}
+use Rattle.std.{specs.Prelude.{◌||◌, ◌⊎◌, is_some, IfSome, MatchOption}, proofs.Common.{◌≡◌, ℤ, [], ◌++◌, Option, Some, None, Ok, true, false, refl, sym, ap, subst, ◌∙◌, codes, inl, inr}}
 use Rattle.std.proofs.lemmas.Bool.{and_parts}
 use Rattle.mob_frac.specs.Fits.{Fits}
 use Rattle.mob_ratio.specs.Ratio.{Ratio}
-use Rattle.mob_language.specs.Language.{Text}
-use Rattle.mob_language.proofs.Exact.{one_value, some_is}
-use Rattle.mob_language.proofs.Heads.{within_said}
-use Rattle.mob_numeral.specs.NumberText.{number_text}
-use Rattle.mob_numeral.specs.Verdict.{HasOneReading, Lit}
-use Rattle.mob_numeral.proofs.Fitted.{number_value_said}
-use Rattle.mob_numeral.proofs.Settled.{settled}
+use Rattle.mob_language.{specs.Language.{Text}, proofs.Exact.{one_value, some_is}, proofs.Heads.{within_said}}
+use Rattle.mob_numeral.{specs.NumberText.{number_text}, specs.Verdict.{HasOneReading, Lit}, proofs.Fitted.{number_value_said}, proofs.Settled.{settled}}
 use Rattle.mob_points.proofs.PointsAgain.{close_said, gap_said, open_said}
 use Rattle.mob_span.specs.Span.{SpanOf}
-use Rattle.mob_stbox.specs.Areas.{is_area}
-use Rattle.mob_stbox.specs.Boxes.{BoxOf, is_box, area_stands, span_stands}
-use Rattle.mob_stbox.specs.declared.area.Area.{Area}
-use Rattle.mob_stbox.proofs.Sides.{between_again}
-use Rattle.mob_stbox.proofs.BoxLaws.{box_area, box_span}
-use Rattle.mob_geotext.specs.declared.boxes.NotedBox.{NotedBox}
-use Rattle.mob_geotext.specs.declared.boxes.NotedBox.TheVariants.{Space, Time, Both}
-use Rattle.mob_geotext.specs.declared.boxes.NotedCorners.{NotedCorners}
-use Rattle.mob_geotext.specs.SpanText.{span_text}
-use Rattle.mob_geotext.specs.Printable.{HasDatedEnds}
+use Rattle.mob_stbox.{specs.Areas.{is_area}, specs.Boxes.{BoxOf, is_box, area_stands, span_stands}, specs.declared.area.Area.{Area}, proofs.Sides.{between_again}, proofs.BoxLaws.{box_area, box_span}}
+use Rattle.mob_geotext.{specs.declared.boxes.NotedBox.{NotedBox}, specs.declared.boxes.NotedBox.TheVariants.{Space, Time, Both}, specs.declared.boxes.NotedCorners.{NotedCorners}}
+use Rattle.mob_geotext.{specs.SpanText.{span_text}, specs.Printable.{HasDatedEnds}}
 use Rattle.mob_geotext.specs.Boxes.{open_bracket, corner, corners, closed_span, time_alone, with_space, written_box, area_of, has_sides, sides_said, boxes}
-use Rattle.mob_geotext.specs.BoxText.{corner_text, corners_text, dimensions_text, box_text, HasFittingSides, HasDatedSides}
-use Rattle.mob_geotext.proofs.BoxesExact.{boxes_exact}
-use Rattle.mob_geotext.proofs.SpansAgain.{note, span_said_by}
-use Rattle.mob_geotext.proofs.SpansRead.{true_false}
-use Rattle.mob_geotext.proofs.PolygonsAgain.{comma_alone}
+use Rattle.mob_geotext.{specs.BoxText.{corner_text, corners_text, dimensions_text, box_text, HasFittingSides, HasDatedSides}, proofs.BoxesExact.{boxes_exact}, proofs.SpansAgain.{note, span_said_by}}
+use Rattle.mob_geotext.{proofs.SpansRead.{true_false}, proofs.PolygonsAgain.{comma_alone}}
 
 -- a text has at most one reading
 pub one_box : (day : ℤ) → HasOneReading (boxes day)

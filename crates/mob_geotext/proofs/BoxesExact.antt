@@ -1,24 +1,17 @@
 -- The reader of boxes accepts exactly the texts of boxes.
-use Rattle.std.proofs.Common.{◌≡◌, ℕ, ℤ, [], ◌∷◌, ◌++◌, Bool, false, refl, sym, ◌∙◌, rules, codes}
-use Rattle.std.specs.Prelude.{nat_eq}
-use Rattle.std.specs.Char.{to_ascii_lowercase}
-use Rattle.mob_language.specs.Language.{Text, Language, ◌▷◌, ◌∣◌, is_blank, blanks, spaced, within_blanks}
-use Rattle.mob_language.specs.Readers.{then_at, or_at, within_blanks_at}
+use Rattle.std.{specs.Prelude.{nat_eq}, specs.Char.{to_ascii_lowercase}, proofs.Common.{◌≡◌, ℕ, ℤ, [], ◌∷◌, ◌++◌, Bool, false, refl, sym, ◌∙◌, rules, codes}}
+use Rattle.mob_language.{specs.Language.{Text, Language, ◌▷◌, ◌∣◌, is_blank, blanks, spaced, within_blanks}, specs.Readers.{then_at, or_at, within_blanks_at}}
 use Rattle.mob_language.proofs.Exact.{Exact, Stops, Any, then_exact, or_exact, means_exact, many_exact, word_exact, any_case_exact}
-use Rattle.mob_language.proofs.Heads.{NoHead, Apart, HasByte, Nothing, exact_less, then_head, or_head, means_head, many_head, word_then_head, byte_stops, byte_head, then_byte, means_byte, or_byte, word_byte, then_byte_stops, after_any, spaced_exact, IsEnd, within_exact}
-use Rattle.mob_numeral.specs.Blanks.{some_blanks}
-use Rattle.mob_numeral.specs.Fitting.{number_value, number_value_at}
-use Rattle.mob_numeral.proofs.SomeBlanks.{some_blanks_exact}
+use Rattle.mob_language.proofs.Heads.{NoHead, Apart, HasByte, Nothing, exact_less, then_head, or_head, means_head, many_head, word_then_head, byte_stops, byte_head, then_byte, means_byte, or_byte}
+use Rattle.mob_language.proofs.Heads.{word_byte, then_byte_stops, after_any, spaced_exact, IsEnd, within_exact}
+use Rattle.mob_numeral.{specs.Blanks.{some_blanks}, specs.Fitting.{number_value, number_value_at}, proofs.SomeBlanks.{some_blanks_exact}}
 use Rattle.mob_numeral.proofs.WholeTexts.{back_nil, number_value_exact, number_value_blank, number_value_byte}
-use Rattle.mob_points.specs.Points.{close_bracket, close_bracket_at}
-use Rattle.mob_points.proofs.PointsExact.{close_exact, last_exact, any_case_head, any_case_byte, s_no_blank}
-use Rattle.mob_scalar.specs.Brackets.{comma, comma_at}
-use Rattle.mob_scalar.proofs.BracketsExact.{comma_exact, comma_byte}
-use Rattle.mob_geotext.specs.declared.noted.NotedSpan.{NotedSpan}
-use Rattle.mob_geotext.specs.declared.boxes.NotedBox.{NotedBox}
-use Rattle.mob_geotext.specs.Boxes.{open_bracket, corner_said, corner, corners_said, corners, closed_span, space_said, space_alone, both_said, space_and_time, time_said, time_alone, with_space, box_said, written_box, open_bracket_at, corner_at, corners_at, closed_span_at, space_alone_at, space_and_time_at, time_alone_at, with_space_at, written_box_at}
-use Rattle.mob_geotext.proofs.SpansExact.{span_exact, span_blank, span_byte}
-use Rattle.mob_geotext.proofs.PolygonsExact.{comma_continues}
+use Rattle.mob_points.{specs.Points.{close_bracket, close_bracket_at}, proofs.PointsExact.{close_exact, last_exact, any_case_head, any_case_byte, s_no_blank}}
+use Rattle.mob_scalar.{specs.Brackets.{comma, comma_at}, proofs.BracketsExact.{comma_exact, comma_byte}}
+use Rattle.mob_geotext.{specs.declared.noted.NotedSpan.{NotedSpan}, specs.declared.boxes.NotedBox.{NotedBox}}
+use Rattle.mob_geotext.specs.Boxes.{open_bracket, corner_said, corner, corners_said, corners, closed_span, space_said, space_alone, both_said, space_and_time, time_said, time_alone, with_space}
+use Rattle.mob_geotext.specs.Boxes.{box_said, written_box, open_bracket_at, corner_at, corners_at, closed_span_at, space_alone_at, space_and_time_at, time_alone_at, with_space_at, written_box_at}
+use Rattle.mob_geotext.{proofs.SpansExact.{span_exact, span_blank, span_byte}, proofs.PolygonsExact.{comma_continues}}
 
 -- ---- corners
 

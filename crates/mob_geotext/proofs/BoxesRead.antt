@@ -1,23 +1,12 @@
 -- The answers of the reader of boxes, by what it reads.
-use Rattle.std.proofs.Common.{◌≡◌, ℤ, Bool, true, false, cond, Option, Some, None, Ok, Err, refl, sym, subst, ◌∙◌}
-use Rattle.std.specs.Prelude.{◌&&◌, is_some, MatchOption}
-use Rattle.std.proofs.lemmas.Bool.{and_parts}
-use Rattle.mob_language.specs.Language.{Text}
-use Rattle.mob_language.specs.Readers.{◌>>=◌, all_of, within_blanks_at}
-use Rattle.mob_language.proofs.Exact.{is_said, not_said}
-use Rattle.mob_numeral.specs.declared.fault.ReadText.TheVariants.{NotText, TooLarge, Unsound}
-use Rattle.mob_numeral.specs.Verdict.{Lit}
+use Rattle.std.{specs.Prelude.{◌&&◌, is_some, MatchOption}, proofs.Common.{◌≡◌, ℤ, Bool, true, false, cond, Option, Some, None, Ok, Err, refl, sym, subst, ◌∙◌}, proofs.lemmas.Bool.{and_parts}}
+use Rattle.mob_language.{specs.Language.{Text}, specs.Readers.{◌>>=◌, all_of, within_blanks_at}, proofs.Exact.{is_said, not_said}}
+use Rattle.mob_numeral.{specs.declared.fault.ReadText.TheVariants.{NotText, TooLarge, Unsound}, specs.Verdict.{Lit}}
 use Rattle.mob_plane.specs.declared.point.Point.{Point}
 use Rattle.mob_span.specs.Span.{SpanOf, has_instant}
-use Rattle.mob_stbox.specs.Areas.{area_between}
-use Rattle.mob_stbox.specs.Boxes.{BoxOf, span_stands}
-use Rattle.mob_stbox.specs.declared.area.Area.{Area}
-use Rattle.mob_geotext.specs.declared.boxes.NotedBox.{NotedBox}
-use Rattle.mob_geotext.specs.declared.boxes.NotedBox.TheVariants.{Space, Time, Both}
-use Rattle.mob_geotext.specs.declared.boxes.NotedCorners.{NotedCorners}
-use Rattle.mob_geotext.specs.Spans.{bounded}
-use Rattle.mob_geotext.specs.Boxes.{area_of, has_corners, has_sides, box_in_both, sides_said, boxes, written_box_at, with_instant, sound_box}
-use Rattle.mob_geotext.proofs.BoxesExact.{boxes_exact}
+use Rattle.mob_stbox.{specs.Areas.{area_between}, specs.Boxes.{BoxOf, span_stands}, specs.declared.area.Area.{Area}}
+use Rattle.mob_geotext.{specs.declared.boxes.NotedBox.{NotedBox}, specs.declared.boxes.NotedBox.TheVariants.{Space, Time, Both}, specs.declared.boxes.NotedCorners.{NotedCorners}}
+use Rattle.mob_geotext.{specs.Spans.{bounded}, specs.Boxes.{area_of, has_corners, has_sides, box_in_both, sides_said, boxes, written_box_at, with_instant, sound_box}, proofs.BoxesExact.{boxes_exact}}
 use Rattle.mob_geotext.proofs.SpansRead.{true_false, has_bounds}
 
 -- ---- the sides

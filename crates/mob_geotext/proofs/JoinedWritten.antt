@@ -1,6 +1,5 @@
 -- Texts separated by commas without spaces, as a loop writes them.
-use Rattle.std.proofs.Common.{◌≡◌, List, [], ◌∷◌, ◌++◌, map, codes, sym, ap, ◌∙◌, append_assoc, append-nil}
-use Rattle.std.specs.List.{join_with_byte}
+use Rattle.std.{specs.List.{join_with_byte}, proofs.Common.{◌≡◌, List, [], ◌∷◌, ◌++◌, map, codes, sym, ap, ◌∙◌, append_assoc, append-nil}}
 use Rattle.mob_language.specs.Language.{Text}
 
 -- the texts after the first one, each after a comma

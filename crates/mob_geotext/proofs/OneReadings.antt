@@ -1,18 +1,11 @@
 -- A text has at most one reading as a span, as a span set and as a polygon.
-use Rattle.std.proofs.Common.{◌≡◌, ℤ, List, Option, Some, None, refl, sym, ◌∙◌}
-use Rattle.std.specs.Prelude.{MatchOption}
+use Rattle.std.{specs.Prelude.{MatchOption}, proofs.Common.{◌≡◌, ℤ, List, Option, Some, None, refl, sym, ◌∙◌}}
 use Rattle.mob_ratio.specs.Ratio.{Ratio}
 use Rattle.mob_language.proofs.Exact.{one_value, some_is}
-use Rattle.mob_numeral.specs.Verdict.{HasOneReading}
-use Rattle.mob_numeral.proofs.Settled.{settled}
+use Rattle.mob_numeral.{specs.Verdict.{HasOneReading}, proofs.Settled.{settled}}
 use Rattle.mob_scalar.specs.Traverse.{traverse}
-use Rattle.mob_span.specs.Span.{SpanOf}
-use Rattle.mob_span.specs.Sets.{IsSpanSet, in_some}
-use Rattle.mob_span.proofs.OneSet.{one_set}
-use Rattle.mob_geotext.specs.Spans.{bounds_of, spans, span_sets}
-use Rattle.mob_geotext.specs.Polygons.{polygons}
-use Rattle.mob_geotext.proofs.SpansExact.{spans_exact, span_sets_exact}
-use Rattle.mob_geotext.proofs.PolygonsExact.{polygons_exact}
+use Rattle.mob_span.{specs.Span.{SpanOf}, specs.Sets.{IsSpanSet, in_some}, proofs.OneSet.{one_set}}
+use Rattle.mob_geotext.{specs.Spans.{bounds_of, spans, span_sets}, specs.Polygons.{polygons}, proofs.SpansExact.{spans_exact, span_sets_exact}, proofs.PolygonsExact.{polygons_exact}}
 
 pub one_span : (day : ℤ) → HasOneReading (spans day)
 one_span day text = settled (spans day) text (one_value (spans_exact day) refl text) (λ s v w a b. some_is v w (sym a ∙ b))

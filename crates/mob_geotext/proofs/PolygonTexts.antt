@@ -1,9 +1,7 @@
 -- Examples, worked by hand: which texts are polygons, and which rings are read.
 use Rattle.std.proofs.Common.{◌≡◌, ℕ, List, Option, Some, None, codes, map, length, refl, option_map, [], ◌∷◌}
-use Rattle.mob_language.specs.Language.{Text}
-use Rattle.mob_language.specs.Readers.{all_of, within_blanks_at, items_at, separated_at}
-use Rattle.mob_numeral.specs.Blanks.{some_blanks_at}
-use Rattle.mob_numeral.specs.Fitting.{number_value_at}
+use Rattle.mob_language.{specs.Language.{Text}, specs.Readers.{all_of, within_blanks_at, items_at, separated_at}}
+use Rattle.mob_numeral.{specs.Blanks.{some_blanks_at}, specs.Fitting.{number_value_at}}
 use Rattle.mob_numeral.specs.NumberReaders.{numeral_at, sign_at, digits_at, tail_at, over_at, decimal_at, point_at, exponent_at, power_at}
 use Rattle.mob_scalar.specs.Brackets.{comma_at}
 use Rattle.mob_points.specs.Points.{srid_zero_at, behind_srid_at}

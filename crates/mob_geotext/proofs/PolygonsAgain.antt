@@ -1,25 +1,15 @@
 -- Printed polygons read back as themselves.
-use Rattle.std.proofs.Common.{◌≡◌, ◌≤◌, List, [], ◌∷◌, ◌++◌, map, length, Bool, true, false, Option, Some, Ok, refl, sym, subst, ◌∙◌, codes, arith, length-append}
-use Rattle.std.specs.Prelude.{MatchOption, None, nat_eq, flat_map, not}
-use Rattle.std.specs.List.{join_with_byte, list_any}
-use Rattle.std.proofs.lemmas.List.{length-map}
+use Rattle.std.{specs.Prelude.{MatchOption, None, nat_eq, flat_map, not}, specs.List.{join_with_byte, list_any}}
+use Rattle.std.{proofs.Common.{◌≡◌, ◌≤◌, List, [], ◌∷◌, ◌++◌, map, length, Bool, true, false, Option, Some, Ok, refl, sym, subst, ◌∙◌, codes, arith, length-append}, proofs.lemmas.List.{length-map}}
 use Rattle.std.proofs.lemmas.Bool.{and_parts, or_parts}
-use Rattle.mob_language.specs.Language.{Text, Language, Separated}
-use Rattle.mob_language.proofs.Heads.{within_said}
+use Rattle.mob_language.{specs.Language.{Text, Language, Separated}, proofs.Heads.{within_said}}
 use Rattle.mob_frac.specs.Fits.{Fits}
-use Rattle.mob_numeral.specs.NumberText.{number_text}
-use Rattle.mob_numeral.specs.Verdict.{Lit}
-use Rattle.mob_numeral.proofs.Fitted.{number_value_said}
-use Rattle.mob_scalar.specs.Brackets.{comma}
-use Rattle.mob_scalar.specs.Traverse.{traverse}
-use Rattle.mob_scalar.proofs.BracketsSaid.{Each}
+use Rattle.mob_numeral.{specs.NumberText.{number_text}, specs.Verdict.{Lit}, proofs.Fitted.{number_value_said}}
+use Rattle.mob_scalar.{specs.Brackets.{comma}, specs.Traverse.{traverse}, proofs.BracketsSaid.{Each}}
 use Rattle.mob_points.proofs.PointsAgain.{gap_said, unreferenced}
-use Rattle.mob_plane.specs.Rings.{are_sound, has_short, has_open, is_short_ring}
-use Rattle.mob_plane.specs.Corners.{all_points}
-use Rattle.mob_plane.specs.declared.point.Point.{Point}
+use Rattle.mob_plane.{specs.Rings.{are_sound, has_short, has_open, is_short_ring}, specs.Corners.{all_points}, specs.declared.point.Point.{Point}}
 use Rattle.mob_geotext.specs.Polygons.{within_brackets, vertex, written_ring, written_polygon, has_many_points, rings_said, polygons}
-use Rattle.mob_geotext.specs.PolygonText.{in_brackets, vertex_text, ring_text, polygon_text, HaveFittingCoordinates, IsReadablePolygon}
-use Rattle.mob_geotext.proofs.SpansRead.{true_false}
+use Rattle.mob_geotext.{specs.PolygonText.{in_brackets, vertex_text, ring_text, polygon_text, HaveFittingCoordinates, IsReadablePolygon}, proofs.SpansRead.{true_false}}
 
 -- ---- printed lists in brackets
 

@@ -1,21 +1,16 @@
 -- The reader of polygons accepts exactly the texts of polygons.
-use Rattle.std.proofs.Common.{◌≡◌, ℕ, [], ◌∷◌, ◌++◌, Bool, false, refl, sym, ap, subst, ◌∙◌, append_assoc, codes}
-use Rattle.std.specs.Char.{to_ascii_lowercase}
+use Rattle.std.{specs.Char.{to_ascii_lowercase}, proofs.Common.{◌≡◌, ℕ, [], ◌∷◌, ◌++◌, Bool, false, refl, sym, ap, subst, ◌∙◌, append_assoc, codes}}
 use Rattle.mob_language.specs.Language.{Text, Language, ◌▷◌, Word, AreAll, Separated, blanks, is_blank, in_middle, within_blanks}
 use Rattle.mob_language.specs.Readers.{TextReader, then_at, word_at, blanks_at, separated_at, within_blanks_at}
 use Rattle.mob_language.proofs.Exact.{Exact, Stops, Any, then_exact, means_exact, many_exact, word_exact, any_case_exact}
-use Rattle.mob_language.proofs.Heads.{NoHead, HasByte, byte_stops, means_head, then_head, where_head, many_head, word_head, word_then_head, byte_head, means_byte, then_byte, word_byte, then_byte_stops, after_any, IsEnd, within_exact}
-use Rattle.mob_language.proofs.Lists.{separated_exact}
-use Rattle.mob_numeral.specs.Blanks.{some_blanks, some_blanks_at}
-use Rattle.mob_numeral.specs.Fitting.{number_value, number_value_at}
-use Rattle.mob_numeral.proofs.NumberExact.{continues}
-use Rattle.mob_numeral.proofs.SomeBlanks.{some_blanks_exact, some_blanks_byte}
-use Rattle.mob_numeral.proofs.WholeTexts.{back_nil, blank_stops, number_value_exact, number_value_blank, number_value_byte}
-use Rattle.mob_scalar.specs.Brackets.{comma, comma_at}
-use Rattle.mob_scalar.proofs.Closing.{Ends}
-use Rattle.mob_scalar.proofs.BracketsExact.{comma_exact, comma_byte, list_head, list_byte, sign_ends, NoComma}
+use Rattle.mob_language.proofs.Heads.{NoHead, HasByte, byte_stops, means_head, then_head, where_head, many_head, word_head, word_then_head, byte_head, means_byte, then_byte, word_byte}
+use Rattle.mob_language.{proofs.Heads.{then_byte_stops, after_any, IsEnd, within_exact}, proofs.Lists.{separated_exact}}
+use Rattle.mob_numeral.{specs.Blanks.{some_blanks, some_blanks_at}, specs.Fitting.{number_value, number_value_at}, proofs.NumberExact.{continues}}
+use Rattle.mob_numeral.{proofs.SomeBlanks.{some_blanks_exact, some_blanks_byte}, proofs.WholeTexts.{back_nil, blank_stops, number_value_exact, number_value_blank, number_value_byte}}
+use Rattle.mob_scalar.{specs.Brackets.{comma, comma_at}, proofs.Closing.{Ends}, proofs.BracketsExact.{comma_exact, comma_byte, list_head, list_byte, sign_ends, NoComma}}
 use Rattle.mob_points.proofs.PointsExact.{any_case_head, any_case_byte, behind_srid_exact, behind_srid_blank, behind_srid_byte}
-use Rattle.mob_geotext.specs.Polygons.{within_brackets, vertex_said, vertex, written_ring, written_rings, polygon_said, written_polygon, polygon_value, vertex_at, bracketed_at, written_ring_at, written_polygon_at, polygon_value_at}
+use Rattle.mob_geotext.specs.Polygons.{within_brackets, vertex_said, vertex, written_ring, written_rings, polygon_said, written_polygon, polygon_value, vertex_at, bracketed_at, written_ring_at}
+use Rattle.mob_geotext.specs.Polygons.{written_polygon_at, polygon_value_at}
 
 -- ---- a point of a ring
 

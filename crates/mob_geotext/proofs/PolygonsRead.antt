@@ -1,18 +1,11 @@
 -- The answers of the reader of polygons, by what it reads.
-use Rattle.std.proofs.Common.{◌≡◌, ℕ, ◌+◌, ◌<◌, ◌≤◌, refl, List, length, get_or, take, true, false, Option, Some, None, Ok, Err, sym, subst, ◌∙◌, arith}
 use Rattle.std.specs.Prelude.{MatchOption, flat_map, nat_lt}
-use Rattle.std.proofs.lemmas.Bool.Decides.{nat_tests}
+use Rattle.std.{proofs.Common.{◌≡◌, ℕ, ◌+◌, ◌<◌, ◌≤◌, refl, List, length, get_or, take, true, false, Option, Some, None, Ok, Err, sym, subst, ◌∙◌, arith}, proofs.lemmas.Bool.Decides.{nat_tests}}
 use Rattle.std.proofs.lemmas.List.Folds.{length-flat_map-take}
-use Rattle.mob_language.specs.Language.{Text}
-use Rattle.mob_language.specs.Readers.{all_of, within_blanks_at}
-use Rattle.mob_language.proofs.Exact.{is_said, not_said}
-use Rattle.mob_numeral.specs.declared.fault.ReadText.TheVariants.{NotText, Limit, TooLarge, Unsound}
-use Rattle.mob_numeral.specs.Verdict.{Lit}
-use Rattle.mob_plane.specs.Rings.{are_sound}
-use Rattle.mob_plane.specs.declared.point.Point.{Point}
-use Rattle.mob_geotext.specs.Polygons.{has_many_points, rings_said, polygons, polygon_value_at}
-use Rattle.mob_geotext.proofs.SpansRead.{true_false}
-use Rattle.mob_geotext.proofs.PolygonsExact.{polygons_exact}
+use Rattle.mob_language.{specs.Language.{Text}, specs.Readers.{all_of, within_blanks_at}, proofs.Exact.{is_said, not_said}}
+use Rattle.mob_numeral.{specs.declared.fault.ReadText.TheVariants.{NotText, Limit, TooLarge, Unsound}, specs.Verdict.{Lit}}
+use Rattle.mob_plane.{specs.Rings.{are_sound}, specs.declared.point.Point.{Point}}
+use Rattle.mob_geotext.{specs.Polygons.{has_many_points, rings_said, polygons, polygon_value_at}, proofs.SpansRead.{true_false}, proofs.PolygonsExact.{polygons_exact}}
 
 more_than : (n : ℕ) → 1000 < n → true ≡ nat_lt 1000 n
 more_than n h = grind (arith, h, nat_tests)

@@ -1,21 +1,13 @@
 -- The answers of the reader of span sets, by what it reads.
-use Rattle.std.proofs.Common.{◌≡◌, ℤ, List, [], ◌∷◌, Bool, true, false, cond, Option, Some, None, Ok, Err, refl, sym, subst, ◌∙◌}
-use Rattle.std.specs.Prelude.{◌&&◌, MatchOption}
-use Rattle.std.specs.List.{list_all}
+use Rattle.std.{specs.Prelude.{◌&&◌, MatchOption}, specs.List.{list_all}, proofs.Common.{◌≡◌, ℤ, List, [], ◌∷◌, Bool, true, false, cond, Option, Some, None, Ok, Err, refl, sym, subst, ◌∙◌}}
 use Rattle.std.proofs.lemmas.Bool.{and_parts}
 use Rattle.mob_ratio.specs.Ratio.{Ratio}
-use Rattle.mob_language.specs.Language.{Text}
-use Rattle.mob_language.specs.Readers.{◌>>=◌, all_of, within_blanks_at}
-use Rattle.mob_language.proofs.Exact.{bind_some, some_is, is_said, not_said}
-use Rattle.mob_numeral.specs.declared.fault.ReadText.TheVariants.{NotText, Limit, TooLarge, Unsound}
-use Rattle.mob_numeral.specs.Verdict.{Lit}
+use Rattle.mob_language.{specs.Language.{Text}, specs.Readers.{◌>>=◌, all_of, within_blanks_at}, proofs.Exact.{bind_some, some_is, is_said, not_said}}
+use Rattle.mob_numeral.{specs.declared.fault.ReadText.TheVariants.{NotText, Limit, TooLarge, Unsound}, specs.Verdict.{Lit}}
 use Rattle.mob_scalar.specs.Traverse.{traverse}
-use Rattle.mob_span.specs.Span.{SpanOf, has_instant}
-use Rattle.mob_span.specs.Sets.{IsSpanSet, in_some}
-use Rattle.mob_geotext.specs.declared.noted.NotedSpan.{NotedSpan}
-use Rattle.mob_geotext.specs.Spans.{noted_spans_at, has_ends, has_many_ends, bounds_of, span_sets, bounded, sound_span}
-use Rattle.mob_geotext.proofs.SpansExact.{span_sets_exact}
-use Rattle.mob_geotext.proofs.SpansRead.{true_false, has_bounds}
+use Rattle.mob_span.{specs.Span.{SpanOf, has_instant}, specs.Sets.{IsSpanSet, in_some}}
+use Rattle.mob_geotext.{specs.declared.noted.NotedSpan.{NotedSpan}, specs.Spans.{noted_spans_at, has_ends, has_many_ends, bounds_of, span_sets, bounded, sound_span}}
+use Rattle.mob_geotext.{proofs.SpansExact.{span_sets_exact}, proofs.SpansRead.{true_false, has_bounds}}
 
 -- ---- lists of spans
 

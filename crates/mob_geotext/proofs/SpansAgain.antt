@@ -1,23 +1,14 @@
 -- Printed spans and span sets read back as themselves.
-use Rattle.std.proofs.Common.{◌≡◌, ◌≢◌, ℕ, ℤ, ◌≤◌, List, [], ◌∷◌, ◌++◌, map, length, Bool, true, false, cond, Option, Some, Ok, refl, sym, subst, ◌∙◌, codes, arith}
-use Rattle.std.specs.Prelude.{MatchOption, nat_eq, nat_lt}
-use Rattle.std.specs.List.{list_all}
-use Rattle.std.proofs.lemmas.List.{length-map}
+use Rattle.std.{specs.Prelude.{MatchOption, nat_eq, nat_lt}, specs.List.{list_all}}
+use Rattle.std.{proofs.Common.{◌≡◌, ◌≢◌, ℕ, ℤ, ◌≤◌, List, [], ◌∷◌, ◌++◌, map, length, Bool, true, false, cond, Option, Some, Ok, refl, sym, subst, ◌∙◌, codes, arith}, proofs.lemmas.List.{length-map}}
 use Rattle.mob_ratio.specs.Ratio.{Ratio}
-use Rattle.mob_language.specs.Language.{Separated}
-use Rattle.mob_language.proofs.Heads.{within_said}
+use Rattle.mob_language.{specs.Language.{Separated}, proofs.Heads.{within_said}}
 use Rattle.mob_numeral.specs.Verdict.{Lit}
-use Rattle.mob_scalar.specs.Brackets.{comma, with_commas}
-use Rattle.mob_scalar.specs.MomentText.{moment_text}
-use Rattle.mob_scalar.specs.Traverse.{traverse}
+use Rattle.mob_scalar.{specs.Brackets.{comma, with_commas}, specs.MomentText.{moment_text}, specs.Traverse.{traverse}}
 use Rattle.mob_scalar.proofs.BracketsSaid.{comma_said, opening_said, closing_said, Each, listed_said, within_braces_said, moment_value_said}
-use Rattle.mob_span.specs.Span.{SpanOf, has_instant}
-use Rattle.mob_span.specs.Sets.{IsSpanSet, in_some}
-use Rattle.mob_geotext.specs.declared.noted.NotedSpan.{NotedSpan}
-use Rattle.mob_geotext.specs.Spans.{noted_span, has_ends, bounds_of, spans, span_sets}
-use Rattle.mob_geotext.specs.SpanText.{span_text, span_set_text}
-use Rattle.mob_geotext.proofs.SpansRead.{true_false}
-use Rattle.mob_geotext.specs.Printable.{HasDatedEnds, HaveDatedEnds}
+use Rattle.mob_span.{specs.Span.{SpanOf, has_instant}, specs.Sets.{IsSpanSet, in_some}}
+use Rattle.mob_geotext.{specs.declared.noted.NotedSpan.{NotedSpan}, specs.Spans.{noted_span, has_ends, bounds_of, spans, span_sets}, specs.SpanText.{span_text, span_set_text}}
+use Rattle.mob_geotext.{specs.Printable.{HasDatedEnds, HaveDatedEnds}, proofs.SpansRead.{true_false}}
 
 -- a span as its text has it
 abbrev pub note : SpanOf → NotedSpan

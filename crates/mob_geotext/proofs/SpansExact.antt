@@ -1,15 +1,13 @@
 -- The readers of spans and of span sets accept exactly their texts.
 use Rattle.std.proofs.Common.{ℤ, [], ◌++◌, sym, subst, refl}
-use Rattle.mob_language.specs.Language.{◌▷◌, Separated, blanks, is_blank, in_middle, within_blanks}
-use Rattle.mob_language.specs.Readers.{then_at, separated_at, within_blanks_at}
+use Rattle.mob_language.{specs.Language.{◌▷◌, Separated, blanks, is_blank, in_middle, within_blanks}, specs.Readers.{then_at, separated_at, within_blanks_at}}
 use Rattle.mob_language.proofs.Exact.{Exact, Any, then_exact, means_exact, regrouped}
 use Rattle.mob_language.proofs.Heads.{NoHead, HasByte, byte_stops, means_head, byte_head, word_then_head, means_byte, then_byte, word_byte, then_byte_stops, IsEnd, within_exact}
 use Rattle.mob_language.proofs.Lists.{separated_exact}
-use Rattle.mob_scalar.specs.Brackets.{comma, closing, comma_at, closing_at}
-use Rattle.mob_scalar.specs.Moments.{moment_value, moment_value_at}
-use Rattle.mob_scalar.proofs.MomentExact.{Closes}
+use Rattle.mob_scalar.{specs.Brackets.{comma, closing, comma_at, closing_at}, specs.Moments.{moment_value, moment_value_at}, proofs.MomentExact.{Closes}}
 use Rattle.mob_scalar.proofs.WholeTexts.{moment_value_exact, moment_value_blank, moment_value_byte}
-use Rattle.mob_scalar.proofs.BracketsExact.{comma_exact, opening_exact, closing_exact, comma_byte, opening_blank, opening_byte, list_head, list_byte, comma_closes, closing_ends, open_brace_exact, close_brace_exact, close_brace_ends, NoComma}
+use Rattle.mob_scalar.proofs.BracketsExact.{comma_exact, opening_exact, closing_exact, comma_byte, opening_blank, opening_byte, list_head, list_byte, comma_closes, closing_ends, open_brace_exact}
+use Rattle.mob_scalar.proofs.BracketsExact.{close_brace_exact, close_brace_ends, NoComma}
 use Rattle.mob_geotext.specs.Spans.{span_said, noted_span, noted_spans, noted_span_at, noted_spans_at}
 
 -- ---- a span

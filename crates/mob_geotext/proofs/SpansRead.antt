@@ -1,16 +1,10 @@
 -- The answers of the reader of spans, by what it reads.
-use Rattle.std.proofs.Common.{◌≡◌, ℤ, Bool, true, false, cond, Option, Some, None, Ok, Err, refl, sym, ap, subst, ◌∙◌}
-use Rattle.std.specs.Prelude.{◌&&◌, is_some, IfSome, MatchOption}
+use Rattle.std.{specs.Prelude.{◌&&◌, is_some, IfSome, MatchOption}, proofs.Common.{◌≡◌, ℤ, Bool, true, false, cond, Option, Some, None, Ok, Err, refl, sym, ap, subst, ◌∙◌}}
 use Rattle.mob_ratio.specs.Ratio.{Ratio}
-use Rattle.mob_language.specs.Language.{Text}
-use Rattle.mob_language.specs.Readers.{◌>>=◌, all_of, within_blanks_at}
-use Rattle.mob_language.proofs.Exact.{is_said, not_said}
-use Rattle.mob_numeral.specs.declared.fault.ReadText.TheVariants.{NotText, TooLarge, Unsound}
-use Rattle.mob_numeral.specs.Verdict.{Lit}
+use Rattle.mob_language.{specs.Language.{Text}, specs.Readers.{◌>>=◌, all_of, within_blanks_at}, proofs.Exact.{is_said, not_said}}
+use Rattle.mob_numeral.{specs.declared.fault.ReadText.TheVariants.{NotText, TooLarge, Unsound}, specs.Verdict.{Lit}}
 use Rattle.mob_span.specs.Span.{SpanOf, has_instant}
-use Rattle.mob_geotext.specs.declared.noted.NotedSpan.{NotedSpan}
-use Rattle.mob_geotext.specs.Spans.{noted_span_at, has_ends, bounds_of, spans, bounded, sound_span}
-use Rattle.mob_geotext.proofs.SpansExact.{spans_exact}
+use Rattle.mob_geotext.{specs.declared.noted.NotedSpan.{NotedSpan}, specs.Spans.{noted_span_at, has_ends, bounds_of, spans, bounded, sound_span}, proofs.SpansExact.{spans_exact}}
 
 -- ---- the ends
 

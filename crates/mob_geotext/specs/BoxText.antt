@@ -4,11 +4,9 @@ use Rattle.mob_frac.specs.Fits.{Fits}
 use Rattle.mob_language.specs.Language.{Text}
 use Rattle.mob_numeral.specs.NumberText.{number_text}
 use Rattle.mob_span.specs.Span.{SpanOf}
-use Rattle.mob_stbox.specs.Boxes.{BoxOf}
-use Rattle.mob_stbox.specs.declared.area.Area.{Area}
+use Rattle.mob_stbox.{specs.Boxes.{BoxOf}, specs.declared.area.Area.{Area}}
 use Rattle.mob_ratio.specs.Ratio.{Ratio}
-use Rattle.mob_geotext.specs.SpanText.{span_text}
-use Rattle.mob_geotext.specs.Printable.{HasDatedEnds}
+use Rattle.mob_geotext.{specs.SpanText.{span_text}, specs.Printable.{HasDatedEnds}}
 
 -- (x,y)
 abbrev pub corner_text : Ratio → Ratio → Text

@@ -9,21 +9,14 @@ use Rattle.std.specs.Prelude.{◌≡◌, codes, Bool, false, cond, ◌&&◌, Opt
 use Rattle.mob_ratio.specs.Ratio.{Ratio}
 use Rattle.mob_language.specs.Language.{Text, Language, ◌▷◌, ◌∣◌, Means, Word, AnyCase, blanks, spaced, within_blanks}
 use Rattle.mob_language.specs.Readers.{TextReader, ◌>>=◌, then_at, or_at, means_at, word_at, any_case_at, blanks_at, spaced_at}
-use Rattle.mob_numeral.specs.Blanks.{some_blanks, some_blanks_at}
-use Rattle.mob_numeral.specs.Fitting.{number_value, number_value_at}
-use Rattle.mob_numeral.specs.Verdict.{TextForm}
+use Rattle.mob_numeral.{specs.Blanks.{some_blanks, some_blanks_at}, specs.Fitting.{number_value, number_value_at}, specs.Verdict.{TextForm}}
 use Rattle.mob_plane.specs.declared.point.Point.{Point}
 use Rattle.mob_points.specs.Points.{point_of, close_bracket, close_bracket_at}
 use Rattle.mob_scalar.specs.Brackets.{comma, comma_at}
 use Rattle.mob_span.specs.Span.{SpanOf}
-use Rattle.mob_stbox.specs.Areas.{area_between}
-use Rattle.mob_stbox.specs.Boxes.{BoxOf, span_stands}
-use Rattle.mob_stbox.specs.declared.area.Area.{Area}
-use Rattle.mob_geotext.specs.Spans.{noted_span, noted_span_at, has_ends, bounds_of}
-use Rattle.mob_geotext.specs.declared.noted.NotedSpan.{NotedSpan}
-use Rattle.mob_geotext.specs.declared.boxes.NotedCorners.{NotedCorners}
-use Rattle.mob_geotext.specs.declared.boxes.NotedBox.{NotedBox}
-use Rattle.mob_geotext.specs.declared.boxes.NotedBox.TheVariants.{Space, Time, Both}
+use Rattle.mob_stbox.{specs.Areas.{area_between}, specs.Boxes.{BoxOf, span_stands}, specs.declared.area.Area.{Area}}
+use Rattle.mob_geotext.{specs.Spans.{noted_span, noted_span_at, has_ends, bounds_of}, specs.declared.noted.NotedSpan.{NotedSpan}, specs.declared.boxes.NotedCorners.{NotedCorners}}
+use Rattle.mob_geotext.{specs.declared.boxes.NotedBox.{NotedBox}, specs.declared.boxes.NotedBox.TheVariants.{Space, Time, Both}}
 
 -- an opening bracket, which blanks may follow
 abbrev pub open_bracket : Language (Unit {0})

@@ -1,12 +1,9 @@
 -- The printed texts of polygons, and which of them read back.
-use Rattle.std.specs.Prelude.{◌≡◌, ◌≤◌, List, [], ◌∷◌, ◌++◌, map, length, codes, true}
-use Rattle.std.specs.List.{join_with_byte}
+use Rattle.std.{specs.Prelude.{◌≡◌, ◌≤◌, List, [], ◌∷◌, ◌++◌, map, length, codes, true}, specs.List.{join_with_byte}}
 use Rattle.mob_frac.specs.Fits.{Fits}
 use Rattle.mob_language.specs.Language.{Text}
 use Rattle.mob_numeral.specs.NumberText.{number_text}
-use Rattle.mob_plane.specs.Rings.{are_sound}
-use Rattle.mob_plane.specs.Corners.{all_points}
-use Rattle.mob_plane.specs.declared.point.Point.{Point}
+use Rattle.mob_plane.{specs.Rings.{are_sound}, specs.Corners.{all_points}, specs.declared.point.Point.{Point}}
 
 -- members in brackets, separated by commas without spaces
 abbrev pub in_brackets : List Text → Text

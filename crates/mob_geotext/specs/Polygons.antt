@@ -8,14 +8,10 @@ use Rattle.std.specs.Prelude.{◌≡◌, List, length, Bool, true, false, codes,
 use Rattle.mob_ratio.specs.Ratio.{Ratio}
 use Rattle.mob_language.specs.Language.{Text, Language, ◌▷◌, Word, AnyCase, Means, Separated, blanks, in_middle, within_blanks}
 use Rattle.mob_language.specs.Readers.{TextReader, then_at, means_at, word_at, any_case_at, blanks_at, separated_at}
-use Rattle.mob_numeral.specs.Blanks.{some_blanks, some_blanks_at}
-use Rattle.mob_numeral.specs.Fitting.{number_value, number_value_at}
-use Rattle.mob_numeral.specs.Verdict.{TextForm}
-use Rattle.mob_scalar.specs.Brackets.{comma, comma_at}
-use Rattle.mob_scalar.specs.Traverse.{traverse}
+use Rattle.mob_numeral.{specs.Blanks.{some_blanks, some_blanks_at}, specs.Fitting.{number_value, number_value_at}, specs.Verdict.{TextForm}}
+use Rattle.mob_scalar.{specs.Brackets.{comma, comma_at}, specs.Traverse.{traverse}}
 use Rattle.mob_points.specs.Points.{point_of, behind_srid, behind_srid_at}
-use Rattle.mob_plane.specs.Rings.{are_sound}
-use Rattle.mob_plane.specs.declared.point.Point.{Point}
+use Rattle.mob_plane.{specs.Rings.{are_sound}, specs.declared.point.Point.{Point}}
 
 -- a text in brackets
 abbrev pub within_brackets : {A : Type 0} → Language A → Language A

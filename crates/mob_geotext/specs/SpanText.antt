@@ -1,8 +1,7 @@
 -- The printed texts of spans and span sets.
 use Rattle.std.specs.Prelude.{List, ◌++◌, map, cond, codes, ℤ}
 use Rattle.mob_language.specs.Language.{Text}
-use Rattle.mob_scalar.specs.Brackets.{with_commas, in_braces}
-use Rattle.mob_scalar.specs.MomentText.{moment_text}
+use Rattle.mob_scalar.{specs.Brackets.{with_commas, in_braces}, specs.MomentText.{moment_text}}
 use Rattle.mob_span.specs.Span.{SpanOf}
 
 -- two moments, separated by a comma and a space, between brackets that are square if an end is

@@ -4,16 +4,12 @@
 -- square bracket includes its end. A span set is one or more spans in braces, with commas between
 -- them. The spans may overlap and be in any order. Blanks may be beside each of these signs, and at
 -- both ends.
-use Rattle.std.specs.Prelude.{◌≡◌, ℕ, List, length, Bool, true, false, ◌&&◌, cond, nat_eq, nat_lt, Option, Some, None, is_some, MatchOption, ℤ}
-use Rattle.std.specs.List.{list_all}
+use Rattle.std.{specs.Prelude.{◌≡◌, ℕ, List, length, Bool, true, false, ◌&&◌, cond, nat_eq, nat_lt, Option, Some, None, is_some, MatchOption, ℤ}, specs.List.{list_all}}
 use Rattle.mob_ratio.specs.Ratio.{Ratio}
-use Rattle.mob_language.specs.Language.{Language, ◌▷◌, Means, Separated, in_middle, within_blanks}
-use Rattle.mob_language.specs.Readers.{TextReader, ◌>>=◌, then_at, means_at, separated_at}
-use Rattle.mob_span.specs.Span.{SpanOf, has_instant}
-use Rattle.mob_span.specs.Sets.{IsSpanSet, in_some}
+use Rattle.mob_language.{specs.Language.{Language, ◌▷◌, Means, Separated, in_middle, within_blanks}, specs.Readers.{TextReader, ◌>>=◌, then_at, means_at, separated_at}}
+use Rattle.mob_span.{specs.Span.{SpanOf, has_instant}, specs.Sets.{IsSpanSet, in_some}}
 use Rattle.mob_numeral.specs.Verdict.{TextForm}
-use Rattle.mob_scalar.specs.Brackets.{comma, opening, closing, within_braces, comma_at, opening_at, closing_at, open_brace_at, close_brace_at}
-use Rattle.mob_scalar.specs.Moments.{moment_value, moment_value_at}
+use Rattle.mob_scalar.{specs.Brackets.{comma, opening, closing, within_braces, comma_at, opening_at, closing_at, open_brace_at, close_brace_at}, specs.Moments.{moment_value, moment_value_at}}
 use Rattle.mob_scalar.specs.Traverse.{traverse}
 use Rattle.mob_geotext.specs.declared.noted.NotedSpan.{NotedSpan}
 

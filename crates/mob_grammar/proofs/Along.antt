@@ -1,17 +1,10 @@
 -- The literals and rows of a text are at its tokens, in the same order, and all places of its value
 -- are at its tokens: one proof for all forms without `;`.
 use Rattle.std.proofs.Common.{◌≡◌, inl, inr, ℕ, List, [], ◌∷◌, ◌++◌, Bool, true, false, cond, refl, sym, subst}
-use Rattle.mob_grammar.specs.declared.mark.Mark.{Mark}
-use Rattle.mob_grammar.specs.declared.mark.Mark.TheVariants.{Semicolon}
-use Rattle.mob_grammar.specs.Marks.{is}
-use Rattle.mob_grammar.specs.Symbols.{PlacedSymbol, sign, identifier, numeral, string}
-use Rattle.mob_grammar.specs.Forms.{single, several, Sort, Meaning, counted, pair, Form, built, mark, a_name, a_number, a_string, a_type, an_expression, a_count_or_expression, made, both, behind, ended, choice, either, separated, Derives}
-use Rattle.mob_grammar.specs.Places.{IsWithin, sort_places}
-use Rattle.mob_grammar.specs.Held.{sort_held}
-use Rattle.mob_grammar.proofs.Parts.{Covers, KeepsParts}
-use Rattle.mob_grammar.proofs.Places.{IsInside, IsHeld, Passes, here, by, note, at, join, onto, type_passes, phrase_passes}
-use Rattle.mob_grammar.proofs.Sets.{both_true}
-use Rattle.mob_grammar.proofs.Within.{within_trans}
+use Rattle.mob_grammar.{specs.declared.mark.Mark.{Mark}, specs.declared.mark.Mark.TheVariants.{Semicolon}, specs.Marks.{is}, specs.Symbols.{PlacedSymbol, sign, identifier, numeral, string}}
+use Rattle.mob_grammar.specs.Forms.{single, several, Sort, Meaning, counted, pair, Form, built, mark, a_name, a_number, a_string, a_type, an_expression, a_count_or_expression, made, both, behind}
+use Rattle.mob_grammar.{specs.Forms.{ended, choice, either, separated, Derives}, specs.Places.{IsWithin, sort_places}, specs.Held.{sort_held}, proofs.Parts.{Covers, KeepsParts}}
+use Rattle.mob_grammar.{proofs.Places.{IsInside, IsHeld, Passes, here, by, note, at, join, onto, type_passes, phrase_passes}, proofs.Sets.{both_true}, proofs.Within.{within_trans}}
 
 -- no mark of the form is `;`
 abbrev pub whole : {a : Sort} → Form a → Bool

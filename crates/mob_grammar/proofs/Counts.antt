@@ -1,21 +1,16 @@
 -- count(*) or an expression: the reader is lawful and reads every text. Three tokens tell them
 -- apart.
+use Rattle.std.{specs.Prelude.{codes}, specs.Str.{bytes_eq}}
 use Rattle.std.proofs.Common.{◌≡◌, ◌∙◌, ◌⊎◌, rules, inl, inr, ℕ, suc, length, ◌++◌, List, [], ◌∷◌, true, false, cond, Ok, Err, refl, sym, ap, ap₂, subst, Bool, arith}
-use Rattle.std.specs.Prelude.{codes}
-use Rattle.std.specs.Str.{bytes_eq}
 use Rattle.std.proofs.lemmas.Slice.Eq.{bytes_eq-Decides}
 use Rattle.mob_ast.specs.Trees.{Tree, Trees}
-use Rattle.mob_grammar.specs.declared.mark.Mark.TheVariants.{Times, Open, Close}
-use Rattle.mob_grammar.specs.TokenKinds.{expression_heads}
+use Rattle.mob_grammar.{specs.declared.mark.Mark.TheVariants.{Times, Open, Close}, specs.TokenKinds.{expression_heads}}
 use Rattle.mob_grammar.specs.Symbols.{Symbol, fixed, name, number, quoted, PlacedSymbol, sign, identifier, is_sign, is_count, is_count_symbol, counts_all, rest, starts, binding}
-use Rattle.mob_grammar.specs.Expressions.{Rank, disjunction, conjunction, negation, nullness, comparison, other as other_rank, complement, sum, product, signed, cast, primary, chains, prefixes, Phrase, plain, inner, up, chain, prefixed, is_null, is_not_null, compared, cast_to, a_number, a_string, is_true, is_false, a_null, a_literal, a_call, a_column, a_table_column, in_brackets, Arguments, nothing, something}
-use Rattle.mob_grammar.specs.Forms.{Production, Builds, ◌⇒◌, ◌▸◌, Expression, CountOrExpression}
-use Rattle.mob_grammar.specs.Reading.{Answer, TokenReader, ◌>>=◌, closed, expression_at, counted_at}
-use Rattle.mob_grammar.proofs.Steps.{told, token_is, passed}
-use Rattle.mob_grammar.proofs.Tells.{Tells, Alike, tells_token}
-use Rattle.mob_grammar.proofs.Heads.{not_this, phrase_begins}
-use Rattle.mob_grammar.proofs.Sets.{both_true}
-use Rattle.mob_grammar.proofs.Complete.{Stops, stops_mark}
+use Rattle.mob_grammar.specs.Expressions.{Rank, disjunction, conjunction, negation, nullness, comparison, other as other_rank, complement, sum, product, signed, cast, primary, chains, prefixes}
+use Rattle.mob_grammar.specs.Expressions.{Phrase, plain, inner, up, chain, prefixed, is_null, is_not_null, compared, cast_to, a_number, a_string, is_true, is_false, a_null, a_literal, a_call}
+use Rattle.mob_grammar.{specs.Expressions.{a_column, a_table_column, in_brackets, Arguments, nothing, something}, specs.Forms.{Production, Builds, ◌⇒◌, ◌▸◌, Expression, CountOrExpression}}
+use Rattle.mob_grammar.{specs.Reading.{Answer, TokenReader, ◌>>=◌, closed, expression_at, counted_at}, proofs.Steps.{told, token_is, passed}, proofs.Tells.{Tells, Alike, tells_token}}
+use Rattle.mob_grammar.{proofs.Heads.{not_this, phrase_begins}, proofs.Sets.{both_true}, proofs.Complete.{Stops, stops_mark}}
 use Rattle.mob_grammar.proofs.ReadRules.{Complete, IsRead, built_keeps, read_built, read_closed, read_expression, read_then}
 
 -- an expression alone, and what follows the first three tokens of count(*)

@@ -3,14 +3,12 @@
 use Rattle.std.proofs.Common.{◌≡◌, ◌⊎◌, inl, inr, List, [], ◌∷◌, Bool, true, false, cond, Ok, refl, sym, ap, subst, ◌∙◌}
 use Rattle.mob_grammar.specs.declared.mark.Mark.TheVariants.{Open}
 use Rattle.mob_grammar.specs.TokenKinds.{TokenKinds, of_mark, names, no_kind, only_kind, only_mark, ◌∪◌, where_so, apart, expression_heads, expression_continues}
-use Rattle.mob_grammar.specs.Symbols.{PlacedSymbol, sign, among, begins, starts}
-use Rattle.mob_grammar.specs.Expressions.{disjunction}
-use Rattle.mob_grammar.specs.Forms.{Builds, ◌⇒◌, ◌▸◌, single, several, Sort, Meaning, Form, built, mark, a_name, a_number, a_string, a_type, an_expression, a_count_or_expression, made, both, behind, ended, choice, either, separated, Derives}
-use Rattle.mob_grammar.specs.Reading.{◌>>=◌, closed, nullable, heads, read}
-use Rattle.mob_grammar.proofs.Complete.{Stops}
-use Rattle.mob_grammar.proofs.Heads.{not_this, begins_mark, type_begins, phrase_begins, loose_symbol}
-use Rattle.mob_grammar.proofs.Counts.{read_counted}
-use Rattle.mob_grammar.proofs.ReadRules.{IsRead, NoOpen, built_keeps, read_behind, read_built, read_closed, read_either, read_expression, read_if, read_list, read_mark, read_name, read_number, read_string, read_then, read_type, read_weaker}
+use Rattle.mob_grammar.{specs.Symbols.{PlacedSymbol, sign, among, begins, starts}, specs.Expressions.{disjunction}}
+use Rattle.mob_grammar.specs.Forms.{Builds, ◌⇒◌, ◌▸◌, single, several, Sort, Meaning, Form, built, mark, a_name, a_number, a_string, a_type, an_expression, a_count_or_expression, made, both, behind}
+use Rattle.mob_grammar.{specs.Forms.{ended, choice, either, separated, Derives}, specs.Reading.{◌>>=◌, closed, nullable, heads, read}, proofs.Complete.{Stops}}
+use Rattle.mob_grammar.{proofs.Heads.{not_this, begins_mark, type_begins, phrase_begins, loose_symbol}, proofs.Counts.{read_counted}}
+use Rattle.mob_grammar.proofs.ReadRules.{IsRead, NoOpen, built_keeps, read_behind, read_built, read_closed, read_either, read_expression, read_if, read_list, read_mark, read_name, read_number}
+use Rattle.mob_grammar.proofs.ReadRules.{read_string, read_then, read_type, read_weaker}
 use Rattle.mob_grammar.proofs.Sets.{both_true, not_true, one_right, begins_left, begins_right, not_left, not_right, begins_where, not_where, apart_begins}
 
 -- what can continue a text of the form

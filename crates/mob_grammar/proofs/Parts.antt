@@ -1,9 +1,6 @@
 -- What a form builds has no more nodes, and no other places, than what it is built of.
-use Rattle.std.specs.Prelude.{◌≤◌, ℕ, List, []}
-use Rattle.std.specs.List.{AllByRecursion}
-use Rattle.mob_grammar.specs.Forms.{Sort, Meaning, Form, built, made, both, behind, ended, choice, either, separated}
-use Rattle.mob_grammar.specs.Sizes.{sort_size}
-use Rattle.mob_grammar.specs.Places.{IsWithin, sort_places}
+use Rattle.std.{specs.Prelude.{◌≤◌, ℕ, List, []}, specs.List.{AllByRecursion}}
+use Rattle.mob_grammar.{specs.Forms.{Sort, Meaning, Form, built, made, both, behind, ended, choice, either, separated}, specs.Sizes.{sort_size}, specs.Places.{IsWithin, sort_places}}
 use Rattle.mob_grammar.specs.Held.{sort_held}
 
 -- a property of the places in one list holds for those in the other

@@ -1,10 +1,8 @@
 -- Sets of kinds of tokens.
 use Rattle.std.proofs.Common.{◌≡◌, List, [], ◌∷◌, Bool, true, false, cond, refl, sym, ap, ◌∙◌}
-use Rattle.mob_grammar.specs.declared.mark.Mark.{Mark}
-use Rattle.mob_grammar.specs.declared.mark.Mark.TheVariants.{Select}
+use Rattle.mob_grammar.{specs.declared.mark.Mark.{Mark}, specs.declared.mark.Mark.TheVariants.{Select}}
 use Rattle.mob_grammar.specs.TokenKinds.{TokenKind, TokenKinds, of_mark, names, numbers, strings, same_kind, ◌∪◌, where_so, kinds, all_kinds, apart, kinds_in}
-use Rattle.mob_grammar.specs.Symbols.{PlacedSymbol, kind, among, begins}
-use Rattle.mob_grammar.proofs.Marks.{same_mark}
+use Rattle.mob_grammar.{specs.Symbols.{PlacedSymbol, kind, among, begins}, proofs.Marks.{same_mark}}
 
 pub both_true : (b c : Bool) → cond b c false ≡ true → (b ≡ true) × (c ≡ true)
 both_true true c h = (refl, h)

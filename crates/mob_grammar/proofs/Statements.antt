@@ -1,27 +1,19 @@
 -- Each production of the table fits, has no `;`, and keeps the nodes and places of its parts. So
 -- scripts are read, have no more nodes than tokens, and hold places of their tokens.
-use Rattle.std.proofs.Common.{◌≡◌, ◌∙◌, ◌≤◌, ◌++◌, inl, inr, map, refl, sym, ap, subst, ℕ, List, [], ◌∷◌, true, false, Some, None, arith}
-use Rattle.std.specs.List.{AllByRecursion, flat_map, sum_by}
-use Rattle.std.proofs.lemmas.List.{map-append}
-use Rattle.std.proofs.lemmas.List.Concat.{flat_map-append}
-use Rattle.std.proofs.lemmas.List.Sums.{sum_by-cons, sum_by-append}
+use Rattle.std.{specs.List.{AllByRecursion, flat_map, sum_by}, proofs.Common.{◌≡◌, ◌∙◌, ◌≤◌, ◌++◌, inl, inr, map, refl, sym, ap, subst, ℕ, List, [], ◌∷◌, true, false, Some, None, arith}}
+use Rattle.std.{proofs.lemmas.List.{map-append}, proofs.lemmas.List.Concat.{flat_map-append}, proofs.lemmas.List.Sums.{sum_by-cons, sum_by-append}}
 use Rattle.mob_list.proofs.Each.{each_both, each_parts}
 use Rattle.mob_ast.specs.Trees.{FromParts}
-use Rattle.mob_grammar.specs.declared.mark.Mark.TheVariants.{Plus, Minus, Semicolon}
-use Rattle.mob_grammar.specs.Symbols.{PlacedSymbol, sign}
+use Rattle.mob_grammar.{specs.declared.mark.Mark.TheVariants.{Plus, Minus, Semicolon}, specs.Symbols.{PlacedSymbol, sign}}
 use Rattle.mob_grammar.specs.Forms.{single, several, Meaning, flag, word, text, expression, counted, from, item, many, maybe, pair, built, Derives}
-use Rattle.mob_grammar.specs.Scripts.{string_form, signed_form, number_form, typed_form, const_form, row_form, column_type_form, create_table_form, create_index_form, create_form, insert_form, header_form, format_form, delimiter_form, options_form, copy_form, some_name_form, second_name_form, entry_form, joined_form, joins_form, source_form, tables_of, sources_form, from_form, alias_form, named_item, item_form, direction_form, key_form, distinct_form, where_form, column_leaf, group_column_form, by_form, group_form, order_form, limit_form, ordering_form, select_form, delete_form, explain_form, statement_form, script_form}
-use Rattle.mob_grammar.specs.Reading.{read}
+use Rattle.mob_grammar.specs.Scripts.{string_form, signed_form, number_form, typed_form, const_form, row_form, column_type_form, create_table_form, create_index_form, create_form, insert_form}
+use Rattle.mob_grammar.specs.Scripts.{header_form, format_form, delimiter_form, options_form, copy_form, some_name_form, second_name_form, entry_form, joined_form, joins_form, source_form, tables_of}
+use Rattle.mob_grammar.specs.Scripts.{sources_form, from_form, alias_form, named_item, item_form, direction_form, key_form, distinct_form, where_form, column_leaf, group_column_form, by_form}
+use Rattle.mob_grammar.{specs.Scripts.{group_form, order_form, limit_form, ordering_form, select_form, delete_form, explain_form, statement_form, script_form}, specs.Reading.{read}}
 use Rattle.mob_grammar.specs.Sizes.{from_nodes, HasFewNodes}
 use Rattle.mob_grammar.specs.Places.{IsWithin, nothing, other, item_places, condition_places, from_places, key_places, sort_places, statement_places, script_places, StandsAtTokens}
-use Rattle.mob_grammar.specs.Held.{word_held, type_held, tree_held, from_held, statement_held}
-use Rattle.mob_grammar.proofs.Along.{Along, whole, form_along}
-use Rattle.mob_grammar.proofs.Forms.{Stop, fits, form_read}
-use Rattle.mob_grammar.proofs.Parts.{IsBuiltOf, KeepsParts}
-use Rattle.mob_grammar.proofs.Places.{Passes, in_front}
-use Rattle.mob_grammar.proofs.ReadRules.{IsRead}
-use Rattle.mob_grammar.proofs.Sets.{both_true}
-use Rattle.mob_grammar.proofs.Sizes.{form_few}
+use Rattle.mob_grammar.{specs.Held.{word_held, type_held, tree_held, from_held, statement_held}, proofs.Along.{Along, whole, form_along}, proofs.Forms.{Stop, fits, form_read}}
+use Rattle.mob_grammar.{proofs.Parts.{IsBuiltOf, KeepsParts}, proofs.Places.{Passes, in_front}, proofs.ReadRules.{IsRead}, proofs.Sets.{both_true}, proofs.Sizes.{form_few}}
 use Rattle.mob_grammar.proofs.Within.{within_all, within_back, within_both, within_front}
 
 -- what is tested of the whole table

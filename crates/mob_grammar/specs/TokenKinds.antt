@@ -1,8 +1,7 @@
 -- The kinds of tokens, and sets of them. Each mark is a kind. The names are one kind, and so are
 -- the numbers and the strings.
 use Rattle.std.specs.Prelude.{◌==◌, List, [], ◌∷◌, ◌++◌, map, Bool, true, false, cond}
-use Rattle.mob_grammar.specs.declared.mark.Mark.{Mark}
-use Rattle.mob_grammar.specs.declared.mark.Mark.TheVariants.{Not, Null, True, False, Plus, Minus, Tilde, Open, Dot}
+use Rattle.mob_grammar.{specs.declared.mark.Mark.{Mark}, specs.declared.mark.Mark.TheVariants.{Not, Null, True, False, Plus, Minus, Tilde, Open, Dot}}
 use Rattle.mob_grammar.specs.Marks.{is, strength, reserved_words, sign_marks}
 
 pub data TokenKind : Type 0 where

@@ -1,20 +1,13 @@
 -- Each number is in one band.
-use Rattle.std.proofs.Common.{◌≡◌, ◌↔◌, inl, inr, ℕ, ◌*◌, ◌<◌, Bool, true, false, ℤ, pos, negsuc, ◌+ℤ◌, ◌*ℤ◌, ◌≤ℤ◌, ◌<ℤ◌, arith, refl, sym, ap, subst, ◌∙◌, not}
-use Rattle.std.proofs.lemmas.Int.{ints}
-use native.Mathlib.Nat.{mul-pos}
-use Rattle.std.proofs.lemmas.Bool.{and_parts, and_from}
-use Rattle.std.specs.Int.{int_div_euclid}
-use Rattle.mob_ratio.specs.Ratio.{Ratio, over, whole, ◌*ℚ◌, ◌/ℚ◌, ◌<ℚ◌, ◌≤ℚ◌}
-use Rattle.mob_ratio.specs.Order.{before, up_to}
-use Rattle.mob_ratio.specs.Sign.{nil}
-use Rattle.mob_ratio.proofs.IntRing.{linear, products, add_mul}
-use Rattle.mob_ratio.proofs.Clear.{cleared, whole-over, over_le, over_lt, one_positive, same_lt}
-use Rattle.mob_ratio.proofs.RatioLemmas.{den_pos, over-self, over-mul}
-use Rattle.mob_ratio.proofs.Field.{cases_lt, not_both, lt_of_mul_pos, lt_mul_pos, le_of_eq, le_trans, le_lt}
-use Rattle.mob_ratio.proofs.Divide.{div-mul, over-pos}
+use Rattle.std.{specs.Int.{int_div_euclid}, proofs.Common.{◌≡◌, ◌↔◌, inl, inr, ℕ, ◌*◌, ◌<◌, Bool, true, false, ℤ, pos, negsuc, ◌+ℤ◌, ◌*ℤ◌, ◌≤ℤ◌, ◌<ℤ◌, arith, refl, sym, ap, subst, ◌∙◌, not}}
+use Rattle.std.{proofs.lemmas.Int.{ints}, proofs.lemmas.Bool.{and_parts, and_from}}
+use Rattle.mob_ratio.{specs.Ratio.{Ratio, over, whole, ◌*ℚ◌, ◌/ℚ◌, ◌<ℚ◌, ◌≤ℚ◌}, specs.Order.{before, up_to}, specs.Sign.{nil}, proofs.IntRing.{linear, products, add_mul}}
+use Rattle.mob_ratio.{proofs.Clear.{cleared, whole-over, over_le, over_lt, one_positive, same_lt}, proofs.RatioLemmas.{den_pos, over-self, over-mul}}
+use Rattle.mob_ratio.{proofs.Field.{cases_lt, not_both, lt_of_mul_pos, lt_mul_pos, le_of_eq, le_trans, le_lt}, proofs.Divide.{div-mul, over-pos}}
 use Rattle.mob_ratio.proofs.Order.{before-lt, lt-before, not-up_to-le, le-up_to}
 use Rattle.mob_frac.specs.Fits.{ratio}
 use Rattle.mob_grid.specs.Bands.{InBand, in_band, floor_of, band_of}
+use native.Mathlib.Nat.{mul-pos}
 
 -- ---- floors of whole numbers
 quotient_from : (a : ℤ) (k : ℕ) → 0 < k → (int_div_euclid a (pos k) *ℤ pos k) ≤ℤ a

@@ -1,17 +1,11 @@
 -- Each point at each instant is in one tile, which is in the range of each box that contains it.
-use Rattle.std.proofs.Common.{◌≡◌, ◌↔◌, inl, inr, Bool, true, false, ℤ, pos, ◌*ℤ◌, ◌≤ℤ◌, ◌<ℤ◌, arith, refl, sym, subst, ◌&&◌, int_lt, negsuc, nat_abs, ◌<◌, ◌^◌}
-use Rattle.std.proofs.lemmas.Int.{ints}
+use Rattle.std.{proofs.Common.{◌≡◌, ◌↔◌, inl, inr, Bool, true, false, ℤ, pos, ◌*ℤ◌, ◌≤ℤ◌, ◌<ℤ◌, arith, refl, sym, subst, ◌&&◌, int_lt, negsuc, nat_abs, ◌<◌, ◌^◌}, proofs.lemmas.Int.{ints}}
 use Rattle.std.proofs.lemmas.Bool.{and_parts, and_from}
-use Rattle.mob_ratio.specs.Ratio.{Ratio, ◌≤ℚ◌}
-use Rattle.mob_ratio.proofs.Field.{le_of_lt, le_of_eq}
-use Rattle.mob_ratio.proofs.IntRing.{le_mul, mul_comm, products, linear}
+use Rattle.mob_ratio.{specs.Ratio.{Ratio, ◌≤ℚ◌}, proofs.Field.{le_of_lt, le_of_eq}, proofs.IntRing.{le_mul, mul_comm, products, linear}}
 use Rattle.mob_span.specs.Span.{SpanOf, InSpan}
 use Rattle.mob_plane.specs.declared.point.Point.{Point}
-use Rattle.mob_stbox.specs.Areas.{InArea}
-use Rattle.mob_stbox.specs.declared.area.Area.{Area}
-use Rattle.mob_grid.specs.Bands.{in_band}
-use Rattle.mob_grid.specs.Tiles.{GridOf, IsGrid, InTile, in_tile, tile_of, InRange, IsRange, range_of}
-use Rattle.mob_grid.specs.declared.tile.Tile.{Tile}
+use Rattle.mob_stbox.{specs.Areas.{InArea}, specs.declared.area.Area.{Area}}
+use Rattle.mob_grid.{specs.Bands.{in_band}, specs.Tiles.{GridOf, IsGrid, InTile, in_tile, tile_of, InRange, IsRange, range_of}, specs.declared.tile.Tile.{Tile}}
 use Rattle.mob_grid.proofs.BandNumbers.{band_has, band_is, bands_rise, in_band_exact}
 
 pub tile_has : (g : GridOf) (t : Ratio) (p : Point) → IsGrid g → InTile g (tile_of g t p) t p

@@ -1,16 +1,11 @@
 -- Tiles of space and time, and the tiles that a box reaches.
-use Rattle.std.specs.Prelude.{◌≡◌, Bool, false, cond, ◌&&◌, ℤ, int_lt, pos, ◌+ℤ◌, ◌-ℤ◌, ◌*ℤ◌, ◌≤ℤ◌, ◌<ℤ◌, List, [], ◌∷◌, Some}
-use Rattle.std.specs.Ordering.{int_cmp, is_eq, is_gt, ordering_then}
+use Rattle.std.{specs.Prelude.{◌≡◌, Bool, false, cond, ◌&&◌, ℤ, int_lt, pos, ◌+ℤ◌, ◌-ℤ◌, ◌*ℤ◌, ◌≤ℤ◌, ◌<ℤ◌, List, [], ◌∷◌, Some}, specs.Ordering.{int_cmp, is_eq, is_gt, ordering_then}}
 use Rattle.std.specs.declared.cmp.Ordering.{Ordering}
-use Rattle.mob_ratio.specs.Ratio.{Ratio, ◌/ℚ◌, ◌<ℚ◌}
-use Rattle.mob_ratio.specs.Sign.{nil}
+use Rattle.mob_ratio.{specs.Ratio.{Ratio, ◌/ℚ◌, ◌<ℚ◌}, specs.Sign.{nil}}
 use Rattle.mob_span.specs.Span.{SpanOf}
 use Rattle.mob_plane.specs.declared.point.Point.{Point}
-use Rattle.mob_stbox.specs.Boxes.{BoxOf}
-use Rattle.mob_stbox.specs.declared.area.Area.{Area}
-use Rattle.mob_grid.specs.Bands.{InBand, in_band, band_of}
-use Rattle.mob_grid.specs.declared.tile.Tile.{Tile}
-use Rattle.mob_grid.specs.declared.tile.TileRange.{TileRange}
+use Rattle.mob_stbox.{specs.Boxes.{BoxOf}, specs.declared.area.Area.{Area}}
+use Rattle.mob_grid.{specs.Bands.{InBand, in_band, band_of}, specs.declared.tile.Tile.{Tile}, specs.declared.tile.TileRange.{TileRange}}
 
 -- the sides of the tiles: `size` in units of length, the same in x and y, and `width` in seconds
 pub record GridOf : Type 0 where
@@ -70,12 +65,12 @@ abbrev pub OnSides : BoxOf → (Area → SpanOf → Type 0) → Type 0
 OnSides b P = (a : Area) (s : SpanOf) → b.space ≡ Some a → b.time ≡ Some s → P a s
 
 -- how many numbers there are from one to another, both included
-abbrev pub side_of : ℤ → ℤ → ℤ
-side_of low high = (high -ℤ low) +ℤ pos 1
+abbrev pub tile_side : ℤ → ℤ → ℤ
+tile_side low high = (high -ℤ low) +ℤ pos 1
 
 -- how many tiles a range has
 abbrev pub tiles_in : TileRange → ℤ
-tiles_in r = side_of r.low.i r.high.i *ℤ side_of r.low.j r.high.j *ℤ side_of r.low.k r.high.k
+tiles_in r = tile_side r.low.i r.high.i *ℤ tile_side r.low.j r.high.j *ℤ tile_side r.low.k r.high.k
 
 -- no low number is above its high one
 pub record IsRange (r : TileRange) : Type 0 where

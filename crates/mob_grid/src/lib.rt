@@ -1,4 +1,6 @@
 //! Bands on a line, tiles of space and time by their numbers, and ranges of tiles.
+//!
+//! It is apart from `mob_tile` so that its two wrong bodies are tried on a small crate.
 #![tactic(auto)]
 
 mod bands;

@@ -1,6 +1,6 @@
 //! Tiles, by their three numbers, and ranges of tiles.
 ghost use Rattle.std.specs.Prelude.{◌≡◌, ◌↔◌, pos, true, ◌<ℤ◌, ◌≤ℤ◌, ◌*ℤ◌, ℤ, nat_abs, ◌<◌, ◌^◌};
-ghost use Rattle.mob_grid.specs.Tiles.{compare_tiles, compare_later, greater_number, least_shared, is_least_shared, side_of, HasMany, IsRange};
+ghost use Rattle.mob_grid.specs.Tiles.{compare_tiles, compare_later, greater_number, least_shared, is_least_shared, tile_side, HasMany, IsRange};
 
 use std::cmp::Ordering;
 
@@ -50,7 +50,7 @@ fn compare_later(a: &Tile, b: &Tile) -> Ordering
 // How many numbers there are from `low` to `high`, both included.
 fn side(low: i64, high: i64) -> i128
     requires order { low ≤ℤ high }
-    ensures value { result ≡ side_of low high }
+    ensures value { result ≡ tile_side low high }
     ensures some { pos 1 ≤ℤ result }
 {
     high as i128 - low as i128 + 1

@@ -1,8 +1,6 @@
 -- The invariant of a loop that numbers groups by their keys.
-use Rattle.std.specs.Prelude.{◌≡◌, Bool, true, false, cond, not, ℕ, ◌+◌, refl, List, [], ◌∷◌, ◌++◌, map, filter, if◌then◌else◌, ◌||◌}
-use Rattle.std.specs.List.{list_any, position_or_len}
-use Rattle.std.specs.Cmp.{IsEquivalence}
-use Rattle.std.proofs.Common.{ap, ap₂, sym, ◌∙◌, true≢false, append_assoc, append-nil}
+use Rattle.std.{specs.Prelude.{◌≡◌, Bool, true, false, cond, not, ℕ, ◌+◌, refl, List, [], ◌∷◌, ◌++◌, map, filter, if◌then◌else◌, ◌||◌}, specs.List.{list_any, position_or_len}}
+use Rattle.std.{specs.Cmp.{IsEquivalence}, proofs.Common.{ap, ap₂, sym, ◌∙◌, true≢false, append_assoc, append-nil}}
 use Rattle.mob_groups.specs.Groups.{first_keys, group_number}
 
 module _ {K : Type 0} (same : K → K → Bool) where

@@ -1,6 +1,5 @@
 -- The groups of a list of entries by their keys.
-use Rattle.std.specs.Prelude.{Bool, cond, not, ℕ, List, [], ◌∷◌, map, filter}
-use Rattle.std.specs.List.{position_or_len}
+use Rattle.std.{specs.Prelude.{Bool, cond, not, ℕ, List, [], ◌∷◌, map, filter}, specs.List.{position_or_len}}
 
 -- the keys without those equal to an earlier one, in order
 abbrev pub first_keys : {K : Type 0} → (K → K → Bool) → List K → List K

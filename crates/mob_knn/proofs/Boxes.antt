@@ -1,7 +1,5 @@
 -- Boxes with space.
-use Rattle.std.proofs.Common.{◌≡◌, true}
-use Rattle.std.specs.Prelude.{is_some}
-use Rattle.std.proofs.lemmas.Bool.{and_parts}
+use Rattle.std.{specs.Prelude.{is_some}, proofs.Common.{◌≡◌, true}, proofs.lemmas.Bool.{and_parts}}
 use Rattle.mob_stbox.specs.Boxes.{BoxOf, is_whole}
 
 pub whole_space : (b : BoxOf) → is_whole b ≡ true → is_some b.space ≡ true

@@ -1,26 +1,14 @@
 -- A search from its start to its ends.
-use Rattle.std.proofs.Common.{◌≡◌, inl, inr, ℕ, ◌<◌, true, List, [], ◌∷◌, length, length-append, Option, Some, arith, refl, sym, ap, ◌∙◌, subst}
-use Rattle.std.specs.Prelude.{Contains}
-use Rattle.std.specs.List.Sorted.{IsPermutation}
-use Rattle.std.specs.BinaryHeap.{IsUpperBound}
-use Rattle.std.proofs.lemmas.List.Sums.{sum_by-append}
-use Rattle.mob_ratio.specs.Ratio.{Ratio}
-use Rattle.mob_ratio.specs.Order.{up_to}
-use Rattle.mob_ratio.specs.Sign.{nil}
+use Rattle.std.{specs.Prelude.{Contains}, specs.List.Sorted.{IsPermutation}, specs.BinaryHeap.{IsUpperBound}}
+use Rattle.std.{proofs.Common.{◌≡◌, inl, inr, ℕ, ◌<◌, true, List, [], ◌∷◌, length, length-append, Option, Some, arith, refl, sym, ap, ◌∙◌, subst}, proofs.lemmas.List.Sums.{sum_by-append}}
+use Rattle.mob_ratio.{specs.Ratio.{Ratio}, specs.Order.{up_to}, specs.Sign.{nil}}
 use Rattle.mob_stbox.specs.Boxes.{BoxOf}
 use Rattle.mob_slice.specs.declared.formula.Formula.{Formula}
 use Rattle.mob_list.proofs.Entries.{none_in, which_in}
-use Rattle.mob_rtree_nodes.specs.Tree.{AreSame, EntryOf}
-use Rattle.mob_rtree_nodes.specs.Reach.{Branch, IsSpread, is_root, entries_under}
-use Rattle.mob_knn.specs.declared.waiting.Waiting.{Waiting}
-use Rattle.mob_knn.specs.declared.waiting.What.{What}
-use Rattle.mob_knn.specs.declared.waiting.What.TheVariants.{Node, Entry, Answer}
-use Rattle.mob_knn.specs.Nearest.{Trip, Asked, HasApproach, AreFirstRows, AreOfTrips, IsAskedBox, IsPassed}
-use Rattle.mob_knn.specs.Steps.{State, IsAdvanced, IsEntry, IsReachedIn, HasUnfitPart}
-use Rattle.mob_knn.specs.Waits.{waiting_cmp, entries_in, answers_at}
-use Rattle.mob_knn.proofs.Known.{entry_box, trips_known}
-use Rattle.mob_knn.proofs.Lists.{box_in, flat_permuted, in_before}
-use Rattle.mob_knn.proofs.Orders.{up_to-self, next_each}
+use Rattle.mob_rtree_nodes.{specs.Tree.{AreSame, EntryOf}, specs.Reach.{Branch, IsSpread, is_root, entries_under}}
+use Rattle.mob_knn.{specs.declared.waiting.Waiting.{Waiting}, specs.declared.waiting.WaitingKind.{WaitingKind}, specs.declared.waiting.WaitingKind.TheVariants.{Node, Entry, Answer}}
+use Rattle.mob_knn.{specs.Nearest.{TripOf, Asked, HasApproach, AreFirstRows, AreOfTrips, IsAskedBox, IsPassed}, specs.Steps.{State, IsAdvanced, IsEntry, IsReachedIn, HasUnfitPart}}
+use Rattle.mob_knn.{specs.Waits.{waiting_cmp, entries_in, answers_at}, proofs.Known.{entry_box, trips_known}, proofs.Lists.{box_in, flat_permuted, in_before}, proofs.Orders.{up_to-self, next_each}}
 use Rattle.mob_knn.proofs.Searching.{IsKnown, IsHeld, IsSearching, IsPopped, IsDone, opened, looked, told, told_last, unfit_gap, unfit_entry}
 
 pub nil_of : {A : Type 0} (xs : List A) → length xs ≡ 0 → xs ≡ []
@@ -78,7 +66,7 @@ module _ {bs : List Branch} {root : Option ℕ} {entries : List EntryOf} {has : 
     pub reached : IsReachedIn bs root first.what
     reached = by_what first.what (old.held first (in_before s.heap (first ∷ rest) first taken (0, omega arith, refl))).1
       where
-        by_what : (what : What) → IsHeld bs root entries has q first.key what → IsReachedIn bs root what
+        by_what : (what : WaitingKind) → IsHeld bs root entries has q first.key what → IsReachedIn bs root what
         by_what (Node n) h = h.0
         by_what (Entry row) h = tt
         by_what (Answer row) h = tt
@@ -87,7 +75,7 @@ module _ {bs : List Branch} {root : Option ℕ} {entries : List EntryOf} {has : 
       pub next_state : (length new.found ≡ k → ⊥) → IsSearching bs root entries has q k start new
       next_state ne = by_what first.what refl how
         where
-          by_what : (what : What) → first.what ≡ what → IsAdvanced bs q has first.key what (record { heap = rest; found = s.found; steps = s.steps }) new → IsSearching bs root entries has q k start new
+          by_what : (what : WaitingKind) → first.what ≡ what → IsAdvanced bs q has first.key what (record { heap = rest; found = s.found; steps = s.steps }) new → IsSearching bs root entries has q k start new
           by_what (Node n) e h = opened bs root entries has q known k start s old first rest popped n e (spread n e) new h
           by_what (Entry row) e h = looked bs root entries has q known k start s old first rest popped row e new h
           by_what (Answer row) e h =
@@ -98,13 +86,13 @@ module _ {bs : List Branch} {root : Option ℕ} {entries : List EntryOf} {has : 
       pub last_state : length new.found ≡ k → IsDone bs root entries has q k start new.found new.steps
       last_state full = by_what first.what refl how
         where
-          by_what : (what : What) → first.what ≡ what → IsAdvanced bs q has first.key what (record { heap = rest; found = s.found; steps = s.steps }) new → IsDone bs root entries has q k start new.found new.steps
+          by_what : (what : WaitingKind) → first.what ≡ what → IsAdvanced bs q has first.key what (record { heap = rest; found = s.found; steps = s.steps }) new → IsDone bs root entries has q k start new.found new.steps
           by_what (Node n) e h = let a = ap length h.found in let b = old.few in absurd (omega (arith, a, b, full))
           by_what (Entry row) e h = let a = ap length h.found in let c = old.few in absurd (omega (arith, a, c, full))
           by_what (Answer row) e h = told_last bs root entries has q known k start s old first rest popped row e new h full
 
 -- a part does not fit
-pub unfit_row : {bs : List Branch} {root : Option ℕ} (entries : List EntryOf) (trips : List (Option Trip)) (asked : Asked) (q : BoxOf) → AreOfTrips trips entries → IsAskedBox asked q
+pub unfit_row : {bs : List Branch} {root : Option ℕ} (entries : List EntryOf) (trips : List (Option TripOf)) (asked : Asked) (q : BoxOf) → AreOfTrips trips entries → IsAskedBox asked q
     → {k start : ℕ} {s : State} → IsSearching bs root entries (HasApproach trips asked) q k start s → {first : Waiting} {rest : List Waiting} → IsPermutation s.heap (first ∷ rest) → IsUpperBound waiting_cmp first rest
     → (row : ℕ) (formula : Formula) → IsEntry first.what row × HasUnfitPart trips asked row formula → IsPassed trips asked k row formula
 unfit_row {bs} {root} entries trips asked q of its {k} {start} {s} old {first} {rest} taken top row formula h =

@@ -1,18 +1,12 @@
 -- Lists of entries in any order.
-use Rattle.std.proofs.Common.{◌≡◌, inl, inr, ℕ, zero, suc, ◌+◌, ◌<◌, ◌≤◌, Bool, true, false, List, [], ◌∷◌, ◌++◌, length, arith, refl, sym, ap, ◌∙◌, subst}
-use Rattle.std.specs.Prelude.{cond, Contains, sum_by, count_by, ◌==◌, ◌&&◌}
-use Rattle.std.specs.List.{flat_map}
-use Rattle.std.specs.List.Sorted.{IsPermutation}
-use Rattle.std.proofs.lemmas.Bool.{and_parts, and_from}
+use Rattle.std.{specs.Prelude.{cond, Contains, sum_by, count_by, ◌==◌, ◌&&◌}, specs.List.{flat_map}, specs.List.Sorted.{IsPermutation}}
+use Rattle.std.{proofs.Common.{◌≡◌, inl, inr, ℕ, zero, suc, ◌+◌, ◌<◌, ◌≤◌, Bool, true, false, List, [], ◌∷◌, ◌++◌, length, arith, refl, sym, ap, ◌∙◌, subst}, proofs.lemmas.Bool.{and_parts, and_from}}
 use Rattle.std.proofs.lemmas.List.Elements.{Contains-append_cases, Contains-append_left, Contains-append_right}
-use Rattle.std.proofs.lemmas.List.Sorted.{Contains-permutation, IsPermutation-sym, sum_by-IsPermutation}
-use Rattle.std.proofs.lemmas.List.Sums.{sum_by-append, sum_by-cons}
-use borrow.Author.Tests.{eqb-true, eq-eqb}
-use Rattle.mob_stbox.specs.Boxes.{BoxOf, same_box}
-use Rattle.mob_stbox.specs.SameBoxes.{same_self, same_is}
+use Rattle.std.{proofs.lemmas.List.Sorted.{Contains-permutation, IsPermutation-sym, sum_by-IsPermutation}, proofs.lemmas.List.Sums.{sum_by-append, sum_by-cons}}
+use Rattle.mob_stbox.{specs.Boxes.{BoxOf, same_box}, specs.SameBoxes.{same_self, same_is}}
 use Rattle.mob_list.proofs.Entries.{first_in, later_in, none_in, which_in}
-use Rattle.mob_rtree_nodes.specs.Removes.{hit}
-use Rattle.mob_rtree_nodes.specs.Tree.{AreSame, EntryOf}
+use Rattle.mob_rtree_nodes.{specs.Removes.{hit}, specs.Tree.{AreSame, EntryOf}}
+use borrow.Author.Tests.{eqb-true, eq-eqb}
 
 -- ---- lists mapped and joined
 

@@ -1,16 +1,11 @@
 -- There is one list of the nearest rows.
+use Rattle.std.{specs.Prelude.{Contains, ◌||◌}, specs.List.{AllByRecursion}}
 use Rattle.std.proofs.Common.{◌≡◌, ◌⊎◌, inl, inr, ℕ, zero, suc, ◌+◌, ◌<◌, ◌≤◌, Bool, true, false, List, [], ◌∷◌, take, length, arith, refl, sym, ap, ◌∙◌, subst, true≢false}
-use Rattle.std.specs.Prelude.{Contains, ◌||◌}
-use Rattle.std.specs.List.{AllByRecursion}
 use Rattle.std.proofs.lemmas.Bool.{and_parts}
+use Rattle.mob_ratio.{specs.Ratio.{Ratio}, specs.Order.{before}, proofs.Order.{before-self, before-trans, same_exact}}
+use Rattle.mob_list.{proofs.Each.{each_take}, proofs.Entries.{first_in, later_in, none_in, which_in, each_of_all}}
+use Rattle.mob_knn.{specs.Nearest.{nearer, IsRising, AreFirstRows, AreAllRows}, proofs.Searching.{nearer_before, nearer_level}}
 use borrow.Author.Tests.{ltb-true}
-use Rattle.mob_ratio.specs.Ratio.{Ratio}
-use Rattle.mob_ratio.specs.Order.{before}
-use Rattle.mob_ratio.proofs.Order.{before-self, before-trans, same_exact}
-use Rattle.mob_list.proofs.Each.{each_take}
-use Rattle.mob_list.proofs.Entries.{first_in, later_in, none_in, which_in, each_of_all}
-use Rattle.mob_knn.specs.Nearest.{nearer, IsRising, AreFirstRows, AreAllRows}
-use Rattle.mob_knn.proofs.Searching.{nearer_before, nearer_level}
 
 or_cases : (a b : Bool) → (a || b) ≡ true → (a ≡ true) ⊎ (b ≡ true)
 or_cases true b h = inl refl

@@ -1,20 +1,11 @@
 -- The order of the items.
-use Rattle.std.proofs.Common.{◌≡◌, ◌⊎◌, inl, inr, ℕ, ◌<◌, ◌≤◌, Bool, true, false, List, arith, refl, sym, ap, subst, true≢false}
-use Rattle.std.specs.Prelude.{cond, not, Contains, nat_lt, ◌==◌}
-use Rattle.std.specs.BinaryHeap.{IsUpperBound}
-use Rattle.std.specs.Ordering.{is_lt, ordering_then}
-use Rattle.std.specs.declared.cmp.Ordering.{Ordering}
-use Rattle.std.specs.declared.cmp.Ordering.TheVariants.{Less, Equal, Greater}
-use borrow.Author.Tests.{ltb-false, eqb-true, eqb-false}
-use Rattle.mob_ratio.specs.Ratio.{Ratio}
-use Rattle.mob_ratio.specs.Order.{before, up_to, greater}
-use Rattle.mob_ratio.proofs.Order.{before-self, before-back, before-trans, before-neither}
+use Rattle.std.{specs.Prelude.{cond, not, Contains, nat_lt, ◌==◌}, specs.BinaryHeap.{IsUpperBound}, specs.Ordering.{is_lt, ordering_then}, specs.declared.cmp.Ordering.{Ordering}}
+use Rattle.std.{specs.declared.cmp.Ordering.TheVariants.{Less, Equal, Greater}, proofs.Common.{◌≡◌, ◌⊎◌, inl, inr, ℕ, ◌<◌, ◌≤◌, Bool, true, false, List, arith, refl, sym, ap, subst, true≢false}}
+use Rattle.mob_ratio.{specs.Ratio.{Ratio}, specs.Order.{before, up_to, greater}, proofs.Order.{before-self, before-back, before-trans, before-neither}}
 use Rattle.mob_list.proofs.Entries.{each_of_all}
-use Rattle.mob_gaps.specs.Gaps.{gap_reaches}
-use Rattle.mob_gaps.specs.declared.kind.Gap.{Gap}
-use Rattle.mob_gaps.specs.declared.kind.Gap.TheVariants.{Apart, AtLeast}
-use Rattle.mob_knn.specs.declared.waiting.Waiting.{Waiting}
+use Rattle.mob_knn.{specs.Gaps.{gap_reaches}, specs.declared.gaps.kind.Gap.{Gap}, specs.declared.gaps.kind.Gap.TheVariants.{Apart, AtLeast}, specs.declared.waiting.Waiting.{Waiting}}
 use Rattle.mob_knn.specs.Waits.{rank_of, waiting_number, waiting_cmp}
+use borrow.Author.Tests.{ltb-false, eqb-true, eqb-false}
 
 -- ---- numbers
 

@@ -1,35 +1,22 @@
 -- The invariant of a search, and its consequences at the end.
-use Rattle.std.proofs.Common.{length-append, map, ◌≡◌, ◌⊎◌, inl, inr, ℕ, suc, ◌+◌, ◌<◌, ◌≤◌, Bool, true, false, List, [], ◌∷◌, ◌++◌, length, Option, Some, None, arith, refl, sym, ap, ◌∙◌, subst, true≢false}
-use Rattle.std.specs.Prelude.{cond, not, Contains, sum_by, ◌==◌, ◌&&◌, ◌||◌, nat_lt, All}
-use Rattle.std.specs.List.{flat_map, AllByRecursion}
-use Rattle.std.specs.List.Sorted.{IsPermutation}
-use Rattle.std.proofs.lemmas.List.{length-map}
-use Rattle.std.proofs.lemmas.List.Concat.{flat_map-append}
-use Rattle.std.proofs.lemmas.List.Elements.{All-contains, Contains-append_cases, Contains-append_left, Contains-append_right}
-use Rattle.std.proofs.lemmas.List.Sorted.{Contains-permutation}
+use Rattle.std.{specs.Prelude.{cond, not, Contains, sum_by, ◌==◌, ◌&&◌, ◌||◌, nat_lt, All}, specs.List.{flat_map, AllByRecursion}, specs.List.Sorted.{IsPermutation}}
+use Rattle.std.proofs.Common.{length-append, map, ◌≡◌, ◌⊎◌, inl, inr, ℕ, suc, ◌+◌, ◌<◌, ◌≤◌, Bool, true, false, List, [], ◌∷◌, ◌++◌, length, Option, Some, None, arith, refl, sym, ap, ◌∙◌, subst}
+use Rattle.std.{proofs.Common.{true≢false}, proofs.lemmas.List.{length-map}, proofs.lemmas.List.Concat.{flat_map-append}}
+use Rattle.std.{proofs.lemmas.List.Elements.{All-contains, Contains-append_cases, Contains-append_left, Contains-append_right}, proofs.lemmas.List.Sorted.{Contains-permutation}}
 use Rattle.std.proofs.lemmas.List.Sums.{sum_by-append, sum_by-cons}
-use Rattle.mob_list.proofs.Each.{each_more}
-use borrow.Author.Tests.{eq-eqb, lt-ltb, eqb-true}
-use Rattle.mob_ratio.specs.Ratio.{Ratio}
-use Rattle.mob_ratio.specs.Order.{before, up_to, same, greater}
-use Rattle.mob_ratio.specs.Sign.{nil}
-use Rattle.mob_ratio.proofs.Order.{same_exact}
+use Rattle.mob_list.{proofs.Each.{each_more}, proofs.Entries.{first_in, later_in, none_in, which_in, all_by_each}}
+use Rattle.mob_ratio.{specs.Ratio.{Ratio}, specs.Order.{before, up_to, same, greater}, specs.Sign.{nil}, proofs.Order.{same_exact}}
 use Rattle.mob_stbox.specs.Boxes.{BoxOf, contains}
-use Rattle.mob_list.proofs.Entries.{first_in, later_in, none_in, which_in, all_by_each}
-use Rattle.mob_rtree_nodes.specs.Tree.{AreSame, EntryOf, Kid}
-use Rattle.mob_rtree_nodes.specs.Reach.{Branch, IsReachedNode, IsSpread, is_child, children, entries_under, entries_below}
+use Rattle.mob_rtree_nodes.{specs.Tree.{AreSame, EntryOf, Kid}, specs.Reach.{Branch, IsReachedNode, IsSpread, is_child, children, entries_under, entries_below}}
 use Rattle.mob_rtree_nodes.specs.declared.node.Child.TheVariants.{Node as NodeChild, Entry as EntryChild}
-use Rattle.mob_gaps.specs.Gaps.{gap_of, gap_reaches}
-use Rattle.mob_gaps.specs.declared.kind.Gap.{Gap}
-use Rattle.mob_gaps.specs.declared.kind.Gap.TheVariants.{Apart, AtLeast}
-use Rattle.mob_knn.specs.declared.waiting.Waiting.{Waiting}
-use Rattle.mob_knn.specs.declared.waiting.What.{What}
-use Rattle.mob_knn.specs.declared.waiting.What.TheVariants.{Node, Entry, Answer}
+use Rattle.mob_knn.{specs.Gaps.{gap_of, gap_reaches}, specs.declared.gaps.kind.Gap.{Gap}, specs.declared.gaps.kind.Gap.TheVariants.{Apart, AtLeast}, specs.declared.waiting.Waiting.{Waiting}}
+use Rattle.mob_knn.{specs.declared.waiting.WaitingKind.{WaitingKind}, specs.declared.waiting.WaitingKind.TheVariants.{Node, Entry, Answer}}
 use Rattle.mob_knn.specs.Nearest.{nearer, IsRising, AreFirstRows, last_approach, reach_of, lies_within, count_within, HasFewBelow}
 use Rattle.mob_knn.specs.Steps.{IsOnly, found_answer, State, IsOpened, IsMeasured, IsRowAnswered}
 use Rattle.mob_knn.specs.Waits.{rank_of, waiting_number, what_of, waits_by, waits_at, waits_of, entries_in, answers_at}
 use Rattle.mob_knn.proofs.Lists.{box_in, in_box, sum_in, in_flat, flat_in, flat_permuted, flat_over, in_before, in_same, same_back, count_some}
 use Rattle.mob_knn.proofs.Orders.{up_to-trans, before_up_to, up_to_greater_left, up_to_greater_right, greater_up_to, reaches_on, IsNext, next_key}
+use borrow.Author.Tests.{eq-eqb, lt-ltb, eqb-true}
 
 -- facts about the rows that have an approach, and about the entries of the tree
 pub record IsKnown (bs : List Branch) (root : Option ℕ) (entries : List EntryOf) (has : ℕ → Ratio → Type 0) (q : BoxOf) : Type 0 where
@@ -101,13 +88,13 @@ module _ (bs : List Branch) (root : Option ℕ) (entries : List EntryOf) (has : 
   answers_of ws = flat_map (λ w. answers_at w w.what) ws
 
   -- nothing below it has an approach less than its key
-  abbrev pub IsHeld : Ratio → What → Type 0
+  abbrev pub IsHeld : Ratio → WaitingKind → Type 0
   IsHeld key (Node n) = IsReachedNode bs root n × ((e : EntryOf) → Contains (entries_under bs n) e → (m : Ratio) → has e.1 m → up_to key m ≡ true)
   IsHeld key (Entry row) = (gap_reaches (gap_of (box_at row) q) key ≡ true) × ((m : Ratio) → has row m → up_to key m ≡ true)
   IsHeld key (Answer row) = has row key
 
   -- it comes after an answer that was added
-  abbrev pub IsLater : ℕ × Ratio → Ratio → What → Type 0
+  abbrev pub IsLater : ℕ × Ratio → Ratio → WaitingKind → Type 0
   IsLater o key (Node n) = before o.1 key ≡ true
   IsLater o key (Entry row) = before o.1 key ≡ true
   IsLater o key (Answer row) = nearer o (row, key) ≡ true
@@ -138,7 +125,7 @@ module _ (bs : List Branch) (root : Option ℕ) (entries : List EntryOf) (has : 
     pub first : AreFirstRows has k found
     pub cost : steps ≤ start + count_within (reach_of k found) q entries
 
-  later_entry : (o : ℕ × Ratio) (key : Ratio) (what : What) → IsLater o key what → IsHeld key what → (e : EntryOf) → Contains (entries_in bs box_at what) e → (m : Ratio) → has e.1 m → nearer o (e.1, m) ≡ true
+  later_entry : (o : ℕ × Ratio) (key : Ratio) (what : WaitingKind) → IsLater o key what → IsHeld key what → (e : EntryOf) → Contains (entries_in bs box_at what) e → (m : Ratio) → has e.1 m → nearer o (e.1, m) ≡ true
   later_entry o key (Node n) l held e c m h = nearer_before o (e.1, m) (before_up_to o.1 key m l (held.1 e c m h))
   later_entry o key (Entry row) l held e c m h = elim (which_in (box_at row, row) [] e c) [
     | inl i ↦ nearer_before o (e.1, m) (before_up_to o.1 key m l (held.1 m (subst (λ (z : EntryOf). has z.1 m) (sym i) h)))
@@ -146,7 +133,7 @@ module _ (bs : List Branch) (root : Option ℕ) (entries : List EntryOf) (has : 
   ]
   later_entry o key (Answer row) l held e c m h = absurd (none_in e c)
 
-  later_answer : (o : ℕ × Ratio) (w : Waiting) (what : What) → IsLater o w.key what → (x : ℕ × Ratio) → Contains (answers_at w what) x → nearer o x ≡ true
+  later_answer : (o : ℕ × Ratio) (w : Waiting) (what : WaitingKind) → IsLater o w.key what → (x : ℕ × Ratio) → Contains (answers_at w what) x → nearer o x ≡ true
   later_answer o w (Node n) l x c = absurd (none_in x c)
   later_answer o w (Entry row) l x c = absurd (none_in x c)
   later_answer o w (Answer row) l x c = elim (which_in (row, w.key) [] x c) [
@@ -154,7 +141,7 @@ module _ (bs : List Branch) (root : Option ℕ) (entries : List EntryOf) (has : 
     | inr i ↦ absurd (none_in x i)
   ]
 
-  held_entry : (key : Ratio) (what : What) → IsHeld key what → (e : EntryOf) → Contains (entries_in bs box_at what) e → (m : Ratio) → has e.1 m → up_to key m ≡ true
+  held_entry : (key : Ratio) (what : WaitingKind) → IsHeld key what → (e : EntryOf) → Contains (entries_in bs box_at what) e → (m : Ratio) → has e.1 m → up_to key m ≡ true
   held_entry key (Node n) held e c m h = held.1 e c m h
   held_entry key (Entry row) held e c m h = elim (which_in (box_at row, row) [] e c) [
     | inl i ↦ held.1 m (subst (λ (z : EntryOf). has z.1 m) (sym i) h)
@@ -162,7 +149,7 @@ module _ (bs : List Branch) (root : Option ℕ) (entries : List EntryOf) (has : 
   ]
   held_entry key (Answer row) held e c m h = absurd (none_in e c)
 
-  held_answer : (w : Waiting) (what : What) (x : ℕ × Ratio) → Contains (answers_at w what) x → w.key ≡ x.1
+  held_answer : (w : Waiting) (what : WaitingKind) (x : ℕ × Ratio) → Contains (answers_at w what) x → w.key ≡ x.1
   held_answer w (Node n) x c = absurd (none_in x c)
   held_answer w (Entry row) x c = absurd (none_in x c)
   held_answer w (Answer row) x c = elim (which_in (row, w.key) [] x c) [
@@ -171,7 +158,7 @@ module _ (bs : List Branch) (root : Option ℕ) (entries : List EntryOf) (has : 
   ]
 
   -- what comes after an answer is greater
-  next_later : (row : ℕ) (key wkey : Ratio) (what : What) → (before key wkey ≡ true) ⊎ ((wkey ≡ key) × ((2 < rank_of what) ⊎ ((rank_of what ≡ 2) × (row ≤ waiting_number what)))) → ((r : ℕ) → what ≡ Answer r → row ≡ r → ⊥) → IsLater (row, key) wkey what
+  next_later : (row : ℕ) (key wkey : Ratio) (what : WaitingKind) → (before key wkey ≡ true) ⊎ ((wkey ≡ key) × ((2 < rank_of what) ⊎ ((rank_of what ≡ 2) × (row ≤ waiting_number what)))) → ((r : ℕ) → what ≡ Answer r → row ≡ r → ⊥) → IsLater (row, key) wkey what
   next_later row key wkey (Node n) (inl h) other = h
   next_later row key wkey (Node n) (inr (e, inl lt)) other = absurd (omega (arith, lt))
   next_later row key wkey (Node n) (inr (e, inr f)) other = let g = f.0 in absurd (omega (arith, g))
@@ -586,7 +573,7 @@ module _ (bs : List Branch) (root : Option ℕ) (entries : List EntryOf) (has : 
       told_later w c = next_later row first.key w.key w.what (at (pop.next w c)) (no_other w c)
         where
           at : IsNext first w → (before first.key w.key ≡ true) ⊎ ((w.key ≡ first.key) × ((2 < rank_of w.what) ⊎ ((rank_of w.what ≡ 2) × (row ≤ waiting_number w.what))))
-          at h = subst (λ (z : What). (before first.key w.key ≡ true) ⊎ ((w.key ≡ first.key) × ((rank_of z < rank_of w.what) ⊎ ((rank_of w.what ≡ rank_of z) × (waiting_number z ≤ waiting_number w.what))))) is h
+          at h = subst (λ (z : WaitingKind). (before first.key w.key ≡ true) ⊎ ((w.key ≡ first.key) × ((rank_of z < rank_of w.what) ⊎ ((rank_of w.what ≡ rank_of z) × (waiting_number z ≤ waiting_number w.what))))) is h
 
       told_which : (o : ℕ × Ratio) → Contains new.found o → Contains s.found o ⊎ (told_here ≡ o)
       told_which o c = elim (Contains-append_cases s.found (told_here ∷ []) o (subst (λ l. Contains l o) how.found c)) [

@@ -1,24 +1,13 @@
 -- The size of a search: a number that decreases with each step.
-use Rattle.std.proofs.Common.{◌≡◌, ℕ, zero, suc, ◌+◌, ◌<◌, ◌≤◌, true, List, [], ◌∷◌, ◌++◌, length, Option, Some, None, arith, refl, sym, ap, ◌∙◌, subst}
-use Rattle.std.specs.Prelude.{Contains, sum_by, get_or, All}
-use Rattle.std.specs.List.Sorted.{IsPermutation}
-use Rattle.std.proofs.lemmas.List.Elements.{All-contains}
-use Rattle.std.proofs.lemmas.List.Sorted.{sum_by-IsPermutation}
-use Rattle.std.proofs.lemmas.List.Sums.{sum_by-append, sum_by-cons}
-use Rattle.mob_ratio.specs.Ratio.{Ratio}
-use Rattle.mob_ratio.specs.Order.{greater}
+use Rattle.std.{specs.Prelude.{Contains, sum_by, get_or, All}, specs.List.Sorted.{IsPermutation}}
+use Rattle.std.{proofs.Common.{◌≡◌, ℕ, zero, suc, ◌+◌, ◌<◌, ◌≤◌, true, List, [], ◌∷◌, ◌++◌, length, Option, Some, None, arith, refl, sym, ap, ◌∙◌, subst}, proofs.lemmas.List.Elements.{All-contains}}
+use Rattle.std.{proofs.lemmas.List.Sorted.{sum_by-IsPermutation}, proofs.lemmas.List.Sums.{sum_by-append, sum_by-cons}}
+use Rattle.mob_ratio.{specs.Ratio.{Ratio}, specs.Order.{greater}}
 use Rattle.mob_stbox.specs.Boxes.{BoxOf}
 use Rattle.mob_list.proofs.Entries.{first_in, later_in}
-use Rattle.mob_rtree_nodes.specs.Tree.{Kid, target, is_kind}
-use Rattle.mob_rtree_nodes.specs.Reach.{Branch, IsSpread, children, branch_height}
-use Rattle.mob_rtree_nodes.specs.declared.node.Child.TheVariants.{Node as NodeChild, Entry as EntryChild}
-use Rattle.mob_gaps.specs.Gaps.{gap_of}
-use Rattle.mob_gaps.specs.declared.kind.Gap.{Gap}
-use Rattle.mob_gaps.specs.declared.kind.Gap.TheVariants.{Apart, AtLeast}
-use Rattle.mob_knn.specs.declared.waiting.Waiting.{Waiting}
-use Rattle.mob_knn.specs.declared.waiting.What.{What}
-use Rattle.mob_knn.specs.declared.waiting.What.TheVariants.{Node, Entry, Answer}
-use Rattle.mob_knn.specs.Steps.{found_answer, State, IsAdvanced}
+use Rattle.mob_rtree_nodes.{specs.Tree.{Kid, target, is_kind}, specs.Reach.{Branch, IsSpread, children, branch_height}, specs.declared.node.Child.TheVariants.{Node as NodeChild, Entry as EntryChild}}
+use Rattle.mob_knn.{specs.Gaps.{gap_of}, specs.declared.gaps.kind.Gap.{Gap}, specs.declared.gaps.kind.Gap.TheVariants.{Apart, AtLeast}, specs.declared.waiting.Waiting.{Waiting}}
+use Rattle.mob_knn.{specs.declared.waiting.WaitingKind.{WaitingKind}, specs.declared.waiting.WaitingKind.TheVariants.{Node, Entry, Answer}, specs.Steps.{found_answer, State, IsAdvanced}}
 use Rattle.mob_knn.specs.Waits.{what_of, waits_by, waits_at, waits_of}
 
 -- a node of height h, with all that is below it
@@ -26,7 +15,7 @@ pub node_size : List Branch → ℕ → ℕ → ℕ
 node_size bs zero n = suc (sum_by (λ (k : Kid). 2) (children bs n))
 node_size bs (suc h) n = suc (sum_by (λ (k : Kid). node_size bs h (target k.1)) (children bs n))
 
-abbrev pub what_size : List Branch → What → ℕ
+abbrev pub what_size : List Branch → WaitingKind → ℕ
 what_size bs (Node n) = node_size bs (branch_height bs n) n
 what_size bs (Entry row) = 2
 what_size bs (Answer row) = 1
@@ -89,7 +78,7 @@ module _ (bs : List Branch) where
       before : size bs heap ≡ what_size bs first.what + size bs rest
       before = sym (sum_by-IsPermutation f heap (first ∷ rest) pop) ∙ sum_by-cons f first rest
 
-      by_what : (what : What) → first.what ≡ what → ((n : ℕ) → what ≡ Node n → IsSpread bs n) → IsAdvanced bs q has first.key what (record { heap = rest; found = found; steps = ticks }) new → size bs new.heap < size bs heap
+      by_what : (what : WaitingKind) → first.what ≡ what → ((n : ℕ) → what ≡ Node n → IsSpread bs n) → IsAdvanced bs q has first.key what (record { heap = rest; found = found; steps = ticks }) new → size bs new.heap < size bs heap
       by_what (Node n) e s h =
           let a = sum_by-IsPermutation f (waits_of first.key q (children bs n) ++ rest) new.heap h.heap in
           let b = sum_by-append f (waits_of first.key q (children bs n)) rest in

@@ -1,39 +1,31 @@
 -- The nearest rows of a list of trips, and the promises of a search for them.
 use Rattle.std.specs.Prelude.{◌≡◌, ◌⊎◌, ℕ, ◌+◌, ◌<◌, ◌≤◌, ◌==◌, Bool, true, false, cond, ◌&&◌, ◌||◌, List, [], ◌∷◌, ◌++◌, Option, Some, None, Contains, length, nat_lt, slice_get, count_by}
 use Rattle.std.specs.List.{AllByRecursion, flat_map}
-use Rattle.mob_ratio.specs.Ratio.{Ratio}
-use Rattle.mob_ratio.specs.Order.{before, same, up_to}
+use Rattle.mob_ratio.{specs.Ratio.{Ratio}, specs.Order.{before, same, up_to}}
 use Rattle.mob_plane.specs.declared.point.Point.{Point}
-use Rattle.mob_slice.specs.Entries.{IsFirst}
-use Rattle.mob_slice.specs.Lines.{plane_value_of}
-use Rattle.mob_slice.specs.Sides.{OperandOf, Slices, Base, given_at, pieces}
-use Rattle.mob_slice.specs.declared.formula.Formula.{Formula}
-use Rattle.mob_slice.specs.declared.line.PlaneLine.{PlaneLine}
-use Rattle.mob_slice.specs.declared.slice.Slice.{Slice}
+use Rattle.mob_slice.{specs.Entries.{IsFirst}, specs.Lines.{plane_value_of}, specs.Sides.{OperandOf, Slices, Base, given_at, pieces}, specs.declared.formula.Formula.{Formula}}
+use Rattle.mob_slice.{specs.declared.line.PlaneLine.{PlaneLine}, specs.declared.slice.Slice.{Slice}}
 use Rattle.mob_stbox.specs.Boxes.{BoxOf}
 use Rattle.mob_rtree_nodes.specs.Tree.{AreSame, EntryOf}
-use Rattle.mob_near.specs.Approaches.{IsApproach}
-use Rattle.mob_near.specs.Entries.{entries_of_approach}
+use Rattle.mob_near.{specs.Approaches.{IsApproach}, specs.Entries.{entries_of_approach}}
 use Rattle.mob_value.specs.ValueBoxes.{IsBoxOf}
 use Rattle.mob_meets.specs.Covers.{box_between}
-use Rattle.mob_gaps.specs.Gaps.{gap_of}
-use Rattle.mob_gaps.specs.declared.kind.Gap.{Gap}
-use Rattle.mob_gaps.specs.declared.kind.Gap.TheVariants.{Apart, AtLeast}
+use Rattle.mob_knn.{specs.Gaps.{gap_of}, specs.declared.gaps.kind.Gap.{Gap}, specs.declared.gaps.kind.Gap.TheVariants.{Apart, AtLeast}}
 
 -- a trip; a row may have none
-abbrev pub Trip : Type 0
-Trip = List (Slice PlaneLine)
+abbrev pub TripOf : Type 0
+TripOf = List (Slice PlaneLine)
 
 abbrev pub Asked : Type 0
 Asked = OperandOf PlaneLine Point
 
 -- the row has this trip
-abbrev pub IsTrip : List (Option Trip) → ℕ → Trip → Type 0
+abbrev pub IsTrip : List (Option TripOf) → ℕ → TripOf → Type 0
 IsTrip trips row trip = slice_get trips row ≡ Some (Some trip)
 
 -- it has one, and the square of its nearest approach to what is asked for is m
-abbrev pub HasApproach : List (Option Trip) → Asked → ℕ → Ratio → Type 0
-HasApproach trips asked row m = (trip : Trip) × IsTrip trips row trip × IsApproach (given_at plane_value_of (Slices trip)) (given_at plane_value_of asked) (Some m)
+abbrev pub HasApproach : List (Option TripOf) → Asked → ℕ → Ratio → Type 0
+HasApproach trips asked row m = (trip : TripOf) × IsTrip trips row trip × IsApproach (given_at plane_value_of (Slices trip)) (given_at plane_value_of asked) (Some m)
 
 -- a row with its approach is before another: by the approach, then by the row
 abbrev pub nearer : ℕ × Ratio → ℕ × Ratio → Bool
@@ -59,24 +51,24 @@ pub record AreAllRows (has : ℕ → Ratio → Type 0) (all : List (ℕ × Ratio
   pub rising : IsRising all
   pub every : (row : ℕ) (m : Ratio) → has row m → Contains all (row, m)
 
-abbrev pub AreNearest : List (Option Trip) → Asked → ℕ → List (ℕ × Ratio) → Type 0
+abbrev pub AreNearest : List (Option TripOf) → Asked → ℕ → List (ℕ × Ratio) → Type 0
 AreNearest trips asked k rs = AreFirstRows (HasApproach trips asked) k rs
 
 -- ---- the index
 
 -- an entry for each trip: its box, with the number of its row; the first row has the number i
-abbrev pub AreBoxes : ℕ → List (Option Trip) → List EntryOf → Type 0
+abbrev pub AreBoxes : ℕ → List (Option TripOf) → List EntryOf → Type 0
 AreBoxes i [] entries = entries ≡ []
 AreBoxes i (None ∷ trips) entries = AreBoxes (i + 1) trips entries
 AreBoxes i (Some trip ∷ trips) entries = (b : BoxOf) × (rest : List EntryOf) × IsBoxOf trip b × (entries ≡ (b, i) ∷ rest) × AreBoxes (i + 1) trips rest
 
 -- the entry of one trip is added at the end, if the row has one
-abbrev pub IsBoxPut : Option Trip → ℕ → List EntryOf → List EntryOf → Type 0
+abbrev pub IsBoxPut : Option TripOf → ℕ → List EntryOf → List EntryOf → Type 0
 IsBoxPut None row old new = new ≡ old
 IsBoxPut (Some trip) row old new = (b : BoxOf) × IsBoxOf trip b × (new ≡ old ++ (b, row) ∷ [])
 
 -- these are such entries, in any order
-abbrev pub AreOfTrips : List (Option Trip) → List EntryOf → Type 0
+abbrev pub AreOfTrips : List (Option TripOf) → List EntryOf → Type 0
 AreOfTrips trips held = (entries : List EntryOf) × AreBoxes 0 trips entries × AreSame held entries
 
 -- the box of what is asked for: a moving point's own, or the point itself, at all times
@@ -114,8 +106,8 @@ HasFewBelow has k g = (near : List ℕ) × (length near < k) × ((row : ℕ) (m 
 -- The row has a trip, and this is the first formula of its nearest approach with a part that does
 -- not fit. The gap between its box and the asked box is some g, and fewer than k rows have an
 -- approach below g.
-pub record IsPassed (trips : List (Option Trip)) (asked : Asked) (k row : ℕ) (formula : Formula) : Type 0 where
-  pub trip : Trip
+pub record IsPassed (trips : List (Option TripOf)) (asked : Asked) (k row : ℕ) (formula : Formula) : Type 0 where
+  pub trip : TripOf
   pub there : IsTrip trips row trip
   pub unfit : IsFirst (flat_map entries_of_approach (pieces (Slices trip) asked)) (Some formula)
   pub box : BoxOf

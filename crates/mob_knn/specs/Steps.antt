@@ -1,26 +1,19 @@
 -- The steps of a search.
-use Rattle.std.specs.Prelude.{◌≡◌, ℕ, ◌+◌, List, [], ◌∷◌, ◌++◌, Option, Some, None, MatchOption}
-use Rattle.std.specs.List.{flat_map}
-use Rattle.std.specs.List.Sorted.{IsPermutation}
+use Rattle.std.{specs.Prelude.{◌≡◌, ℕ, ◌+◌, List, [], ◌∷◌, ◌++◌, Option, Some, None, MatchOption}, specs.List.{flat_map}, specs.List.Sorted.{IsPermutation}}
 use Rattle.mob_ratio.specs.Ratio.{Ratio}
-use Rattle.mob_slice.specs.Entries.{IsFirst}
-use Rattle.mob_slice.specs.Sides.{Slices, pieces}
-use Rattle.mob_slice.specs.declared.formula.Formula.{Formula}
+use Rattle.mob_slice.{specs.Entries.{IsFirst}, specs.Sides.{Slices, pieces}, specs.declared.formula.Formula.{Formula}}
 use Rattle.mob_stbox.specs.Boxes.{BoxOf}
 use Rattle.mob_rtree_nodes.specs.Reach.{Branch, IsReachedNode, children}
 use Rattle.mob_near.specs.Entries.{entries_of_approach}
-use Rattle.mob_knn.specs.declared.waiting.Waiting.{Waiting}
-use Rattle.mob_knn.specs.declared.waiting.What.{What}
-use Rattle.mob_knn.specs.declared.waiting.What.TheVariants.{Node, Entry, Answer}
-use Rattle.mob_knn.specs.Nearest.{Trip, Asked, IsTrip}
-use Rattle.mob_knn.specs.Waits.{waits_of}
+use Rattle.mob_knn.{specs.declared.waiting.Waiting.{Waiting}, specs.declared.waiting.WaitingKind.{WaitingKind}, specs.declared.waiting.WaitingKind.TheVariants.{Node, Entry, Answer}}
+use Rattle.mob_knn.{specs.Nearest.{TripOf, Asked, IsTrip}, specs.Waits.{waits_of}}
 
 -- the value, if there is one
 abbrev pub IsOnly : (Ratio → Type 0) → Option Ratio → Type 0
 IsOnly has o = MatchOption o ((m : Ratio) → has m → ⊥) has
 
 -- a waiting node is reached from the root
-abbrev pub IsReachedIn : List Branch → Option ℕ → What → Type 0
+abbrev pub IsReachedIn : List Branch → Option ℕ → WaitingKind → Type 0
 IsReachedIn bs root (Node n) = IsReachedNode bs root n
 IsReachedIn bs root (Entry row) = Unit {0}
 IsReachedIn bs root (Answer row) = Unit {0}
@@ -54,14 +47,14 @@ pub record IsRowAnswered (key : Ratio) (row : ℕ) (old new : State) : Type 0 wh
   pub found : new.found ≡ old.found ++ (row, key) ∷ []
   pub steps : new.steps ≡ old.steps
 
-abbrev pub IsAdvanced : List Branch → BoxOf → (ℕ → Ratio → Type 0) → Ratio → What → State → State → Type 0
+abbrev pub IsAdvanced : List Branch → BoxOf → (ℕ → Ratio → Type 0) → Ratio → WaitingKind → State → State → Type 0
 IsAdvanced bs q has key (Node n) old new = IsOpened bs q key n old new
 IsAdvanced bs q has key (Entry row) old new = IsMeasured has row old new
 IsAdvanced bs q has key (Answer row) old new = IsRowAnswered key row old new
 
 -- a fault at an entry
-abbrev pub HasUnfitPart : List (Option Trip) → Asked → ℕ → Formula → Type 0
-HasUnfitPart trips asked row formula = (trip : Trip) × IsTrip trips row trip × IsFirst (flat_map entries_of_approach (pieces (Slices trip) asked)) (Some formula)
+abbrev pub HasUnfitPart : List (Option TripOf) → Asked → ℕ → Formula → Type 0
+HasUnfitPart trips asked row formula = (trip : TripOf) × IsTrip trips row trip × IsFirst (flat_map entries_of_approach (pieces (Slices trip) asked)) (Some formula)
 
-abbrev pub IsEntry : What → ℕ → Type 0
+abbrev pub IsEntry : WaitingKind → ℕ → Type 0
 IsEntry what row = what ≡ Entry row

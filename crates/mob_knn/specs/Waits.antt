@@ -1,31 +1,20 @@
 -- The items of a search, and the order in which they are taken.
-use Rattle.std.specs.Prelude.{ℕ, List, [], ◌∷◌}
-use Rattle.std.specs.Cmp.{IsTotalOrder, nat_cmp_total, on_total, back_total, then_total}
-use Rattle.std.specs.List.{flat_map}
-use Rattle.std.specs.Ordering.{nat_cmp, then_cmp, on, flip_args}
+use Rattle.std.{specs.Prelude.{ℕ, List, [], ◌∷◌}, specs.Cmp.{IsTotalOrder, nat_cmp_total, on_total, back_total, then_total}, specs.List.{flat_map}, specs.Ordering.{nat_cmp, then_cmp, on, flip_args}}
 use Rattle.std.specs.declared.cmp.Ordering.{Ordering}
-use Rattle.mob_ratio.specs.Ratio.{Ratio}
-use Rattle.mob_ratio.specs.Order.{greater}
-use Rattle.mob_slice.specs.Ranks.{compare_ratio}
-use Rattle.mob_slice.specs.RankLaws.{ranking_ratio}
+use Rattle.mob_ratio.{specs.Ratio.{Ratio}, specs.Order.{greater}}
+use Rattle.mob_slice.{specs.Ranks.{compare_ratio}, specs.RankLaws.{ranking_ratio}}
 use Rattle.mob_stbox.specs.Boxes.{BoxOf}
-use Rattle.mob_rtree_nodes.specs.Tree.{Kid, EntryOf}
-use Rattle.mob_rtree_nodes.specs.Reach.{Branch, entries_under}
-use Rattle.mob_rtree_nodes.specs.declared.node.Child.{Child}
+use Rattle.mob_rtree_nodes.{specs.Tree.{Kid, EntryOf}, specs.Reach.{Branch, entries_under}, specs.declared.node.Child.{Child}}
 use Rattle.mob_rtree_nodes.specs.declared.node.Child.TheVariants.{Node as NodeChild, Entry as EntryChild}
-use Rattle.mob_gaps.specs.Gaps.{gap_of}
-use Rattle.mob_gaps.specs.declared.kind.Gap.{Gap}
-use Rattle.mob_gaps.specs.declared.kind.Gap.TheVariants.{Apart, AtLeast}
-use Rattle.mob_knn.specs.declared.waiting.Waiting.{Waiting}
-use Rattle.mob_knn.specs.declared.waiting.What.{What}
-use Rattle.mob_knn.specs.declared.waiting.What.TheVariants.{Node, Entry, Answer}
+use Rattle.mob_knn.{specs.Gaps.{gap_of}, specs.declared.gaps.kind.Gap.{Gap}, specs.declared.gaps.kind.Gap.TheVariants.{Apart, AtLeast}, specs.declared.waiting.Waiting.{Waiting}}
+use Rattle.mob_knn.{specs.declared.waiting.WaitingKind.{WaitingKind}, specs.declared.waiting.WaitingKind.TheVariants.{Node, Entry, Answer}}
 
-abbrev pub rank_of : What → ℕ
+abbrev pub rank_of : WaitingKind → ℕ
 rank_of (Node n) = 0
 rank_of (Entry row) = 1
 rank_of (Answer row) = 2
 
-abbrev pub waiting_number : What → ℕ
+abbrev pub waiting_number : WaitingKind → ℕ
 waiting_number (Node n) = n
 waiting_number (Entry row) = row
 waiting_number (Answer row) = row
@@ -42,7 +31,7 @@ pub waiting_total : IsTotalOrder waiting_cmp
 waiting_total = back_total (then_total (on_total (λ w. w.key) ranking_ratio.total) (then_total (on_total (λ w. rank_of w.what) nat_cmp_total) (on_total (λ w. waiting_number w.what) nat_cmp_total)))
 
 -- a child of a node as an item
-abbrev pub what_of : Child → What
+abbrev pub what_of : Child → WaitingKind
 what_of (NodeChild n) = Node n
 what_of (EntryChild row) = Entry row
 
@@ -59,13 +48,13 @@ abbrev pub waits_of : Ratio → BoxOf → List Kid → List Waiting
 waits_of floor q kids = flat_map (waits_at floor q) kids
 
 -- the waiting entries, if these are the boxes of the rows
-abbrev pub entries_in : List Branch → (ℕ → BoxOf) → What → List EntryOf
+abbrev pub entries_in : List Branch → (ℕ → BoxOf) → WaitingKind → List EntryOf
 entries_in bs box_at (Node n) = entries_under bs n
 entries_in bs box_at (Entry row) = (box_at row, row) ∷ []
 entries_in bs box_at (Answer row) = []
 
 -- the waiting answers
-abbrev pub answers_at : Waiting → What → List (ℕ × Ratio)
+abbrev pub answers_at : Waiting → WaitingKind → List (ℕ × Ratio)
 answers_at w (Node n) = []
 answers_at w (Entry row) = []
 answers_at w (Answer row) = (row, w.key) ∷ []

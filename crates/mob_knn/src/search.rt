@@ -10,20 +10,20 @@ ghost use Rattle.mob_stbox.specs.Boxes.{BoxOf};
 ghost use Rattle.mob_list.specs.declared.fault.Fault.TheVariants.{NoMemory};
 ghost use Rattle.mob_knn.specs.Nearest.{AreNearest, AreOfTrips, HasApproach, IsAskedBox, IsPassed, count_within, reach_of};
 ghost use Rattle.mob_knn.specs.Steps.{IsAdvanced, IsOnly, found_answer, IsEntry, IsReachedIn, HasUnfitPart};
-ghost use Rattle.mob_knn.specs.declared.waiting.What.TheVariants.{Node};
+ghost use Rattle.mob_knn.specs.declared.waiting.WaitingKind.TheVariants.{Node};
 ghost use Rattle.mob_knn.specs.Waits.{waiting_cmp};
 
 use crate::asked::{box_of_asked, let_go};
 use crate::fault::NearFault;
 use crate::trips::row_approach;
-use crate::waiting::{Waiting, What, open, wait};
+use crate::waiting::{Waiting, WaitingKind, open, wait};
 use mob_frac::Frac;
 use mob_list::fault::Fault;
 use mob_list::items::Items;
+use mob_list::steps::Steps;
 use mob_rtree::RTree;
 use mob_slice::{Moving, Operand, PlaneLine};
 use mob_stbox::StBox;
-use mob_steps::Steps;
 use std::alloc::Global;
 use std::collections::BinaryHeap;
 use std::sync::ledger::Ledger;
@@ -44,7 +44,7 @@ fn look<L: Ledger>(
 {
     steps.tick();
     match row_approach(alloc, trips, row, asked) {
-        Ok(Some(approach)) => wait(heap, approach, What::Answer(row)),
+        Ok(Some(approach)) => wait(heap, approach, WaitingKind::Answer(row)),
         Ok(None) => Ok(()),
         Err(passed) => Err(Fault::Because((row, passed))),
     }
@@ -78,9 +78,9 @@ fn advance<L: Ledger>(
     ensures err { IfErr result (OnCause (λ f. IsEntry first.now.what f.0 × HasUnfitPart trips.now (operand_of asked.now) f.0 f.1)) }
 {
     match first.what {
-        What::Node(n) => open(heap, tree.part(n), &first.key, area),
-        What::Entry(row) => look(alloc, trips, asked, row, heap, steps),
-        What::Answer(row) => tell(found, row, first.key),
+        WaitingKind::Node(n) => open(heap, tree.part(n), &first.key, area),
+        WaitingKind::Entry(row) => look(alloc, trips, asked, row, heap, steps),
+        WaitingKind::Answer(row) => tell(found, row, first.key),
     }
 }
 
@@ -106,7 +106,7 @@ fn search<L: Ledger>(
         return Ok(found);
     };
     let mut heap = BinaryHeap::new(alloc);
-    match wait(&mut heap, Frac::zero(), What::Node(root)) {
+    match wait(&mut heap, Frac::zero(), WaitingKind::Node(root)) {
         Ok(()) => (),
         Err(fault) => return Err(fault),
     }

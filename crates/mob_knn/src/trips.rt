@@ -6,7 +6,7 @@ ghost use Rattle.mob_slice.specs.Sides.{Slices, given_at, operand_of, pieces};
 ghost use Rattle.mob_slice.specs.Lines.{plane_value_of};
 ghost use Rattle.mob_near.specs.Approaches.{IsApproach};
 ghost use Rattle.mob_near.specs.Entries.{entries_of_approach};
-ghost use Rattle.mob_knn.specs.Nearest.{Trip, IsTrip, HasApproach};
+ghost use Rattle.mob_knn.specs.Nearest.{TripOf, IsTrip, HasApproach};
 ghost use Rattle.mob_knn.specs.Steps.{IsOnly, HasUnfitPart};
 
 use crate::asked::again;
@@ -29,7 +29,7 @@ fn trip_approach(
 
 // The trip of a row, if it has one.
 fn trip_at(trips: &[Option<Moving<PlaneLine>>], row: u32) -> Option<&Moving<PlaneLine>>
-    ensures there { MatchOption result ((trip : Trip) → IsTrip trips.now row trip → ⊥) (λ trip. IsTrip trips.now row trip.now) }
+    ensures there { MatchOption result ((trip : TripOf) → IsTrip trips.now row trip → ⊥) (λ trip. IsTrip trips.now row trip.now) }
 {
     let index = row as usize;
     if index >= trips.len() {

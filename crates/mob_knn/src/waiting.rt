@@ -11,9 +11,9 @@ ghost use Rattle.mob_list.specs.declared.fault.Fault.TheVariants.{NoMemory};
 ghost use Rattle.mob_knn.specs.Waits.{what_of, waiting_cmp, waiting_total, rank_of, waiting_number, waits_at, waits_of};
 
 use crate::fault::NearFault;
+use crate::gaps::Gap;
+use crate::gaps::measure::gap;
 use mob_frac::Frac;
-use mob_gaps::Gap;
-use mob_gaps::measure::gap;
 use mob_plane::greater;
 use mob_rtree::Child;
 use mob_stbox::StBox;
@@ -23,7 +23,7 @@ use std::collections::BinaryHeap;
 
 /// The kind of an item.
 #[derive(Clone, Copy, Drop)]
-pub enum What {
+pub enum WaitingKind {
     /// A node of the tree.
     Node(u32),
     /// The row of a trip.
@@ -38,19 +38,19 @@ pub struct Waiting {
     /// A lower bound of all approaches below a node or of an entry; the approach of an answer.
     pub key: Frac,
     /// Its kind.
-    pub what: What,
+    pub what: WaitingKind,
 }
 
-impl What {
+impl WaitingKind {
     // Among equal keys answers come last, so every row that may have the same approach is known by
     // then.
     fn rank(&self) -> u8
         ensures value { result ≡ rank_of self.now }
     {
         match self {
-            What::Node(_) => 0,
-            What::Entry(_) => 1,
-            What::Answer(_) => 2,
+            WaitingKind::Node(_) => 0,
+            WaitingKind::Entry(_) => 1,
+            WaitingKind::Answer(_) => 2,
         }
     }
 
@@ -58,9 +58,9 @@ impl What {
         ensures value { result ≡ waiting_number self.now }
     {
         match self {
-            What::Node(n) => *n,
-            What::Entry(row) => *row,
-            What::Answer(row) => *row,
+            WaitingKind::Node(n) => *n,
+            WaitingKind::Entry(row) => *row,
+            WaitingKind::Answer(row) => *row,
         }
     }
 }
@@ -120,17 +120,17 @@ impl PartialOrd for Waiting {
 }
 
 // A child of a node as an item.
-fn what_of(child: &Child) -> What
+fn what_of(child: &Child) -> WaitingKind
     ensures value { result ≡ what_of child.now }
 {
     match child {
-        Child::Node(n) => What::Node(*n),
-        Child::Entry(row) => What::Entry(*row),
+        Child::Node(n) => WaitingKind::Node(*n),
+        Child::Entry(row) => WaitingKind::Entry(*row),
     }
 }
 
 /// Pushes one more item onto the heap.
-pub fn wait(heap: &mut BinaryHeap<Waiting>, key: Frac, what: What) -> Result<(), NearFault>
+pub fn wait(heap: &mut BinaryHeap<Waiting>, key: Frac, what: WaitingKind) -> Result<(), NearFault>
     ensures more { OnOk result (IsPermutation (record { key = key; what = what } ∷ heap_items heap.old) (heap_items heap.new)) }
     ensures order { OnOk result (KeepsHeap waiting_cmp (heap_items heap.old) (heap_items heap.new)) }
     ensures err { IfErr result (λ e. e ≡ NoMemory) }

@@ -4,12 +4,10 @@
 -- There is one law here for each way to build a language: if the readers of the parts are exact, so
 -- is the reader built from them. So the law of a whole text is a term that follows the text's
 -- grammar. Heads has the facts on the bytes at the front of a text or after it; Lists has lists.
-use Rattle.std.proofs.Common.{◌≡◌, ℕ, [], ◌∷◌, ◌++◌, map, Bool, true, false, cond, Option, Some, None, refl, sym, ap, subst, ◌∙◌, append_assoc, arith, inl, inr, eqb}
-use Rattle.std.proofs.lemmas.Bool.{eqb-true}
-use Rattle.std.proofs.lemmas.List.{append-nil}
-use Rattle.std.specs.Char.{to_ascii_lowercase}
+use Rattle.std.{specs.Char.{to_ascii_lowercase}, proofs.Common.{◌≡◌, ℕ, [], ◌∷◌, ◌++◌, map, Bool, true, false, cond, Option, Some, None, refl, sym, ap, subst, ◌∙◌, append_assoc, arith, inl, inr, eqb}}
+use Rattle.std.{proofs.lemmas.Bool.{eqb-true}, proofs.lemmas.List.{append-nil}}
 use Rattle.mob_language.specs.Language.{Text, Language, ◌▷◌, ◌∣◌, Maybe, Means, Where, Word, AnyCase, OneOf, AreAll, ManyOf}
-use Rattle.mob_language.specs.Readers.{TextReader, ◌>>=◌, then_at, else_at, or_at, maybe_at, maybe_of, means_at, where_at, word_at, any_case_at, one_at, split_while, grown, many_at, ended, all_of}
+use Rattle.mob_language.specs.Readers.{TextReader, ◌>>=◌, then_at, else_at, or_at, maybe_at, maybe_of, means_at, text_where, word_at, any_case_at, one_at, split_while, grown, many_at, ended, all_of}
 
 -- the text after two texts, regrouped
 pub regrouped : (text a b rest : Text) → text ≡ a ++ b → text ++ rest ≡ a ++ (b ++ rest)
@@ -114,7 +112,7 @@ guarded false x y e = absurd cc
 
 -- the value of a text, if it passes a test
 pub where_exact : {A : Type 0} {l : Language A} {r : TextReader A} {F : Text → Type 0} (test : A → Bool)
-    → Exact l r F → Exact (Where test l) (where_at test r) F
+    → Exact l r F → Exact (Where test l) (text_where test r) F
 where_exact {A} {l} {r} {F} test p = record {
   sound = λ text rest v e.
       let a = bind_some (r text) (λ x. cond (test x.0) (Some x) None) (v, rest) e in

@@ -1,7 +1,6 @@
 -- Worked examples.
 use Rattle.std.proofs.Common.{◌≡◌, [], ◌∷◌, Some, None, codes, refl}
-use Rattle.mob_language.specs.Language.{AnyCase, Separated, Word, is_blank, spaced}
-use Rattle.mob_language.specs.Readers.{any_case_at, spaced_at, split_while, all_of}
+use Rattle.mob_language.{specs.Language.{AnyCase, Separated, Word, is_blank, spaced}, specs.Readers.{any_case_at, spaced_at, split_while, all_of}}
 
 any_case : AnyCase (codes "point") (codes "PoInt") tt
 any_case = refl

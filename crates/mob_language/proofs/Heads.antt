@@ -7,11 +7,9 @@
 --     Nothing r test   the reader r reads nothing if the next byte does not pass the test
 --     HasByte l        each text of l has a byte
 -- The laws of Exact are stated again in these words (then_stops, maybe_stops, or_stops, ..).
-use Rattle.std.proofs.Common.{◌≡◌, ℕ, [], ◌∷◌, ◌++◌, Bool, true, false, Some, None, refl, sym, ap, subst, ◌∙◌, inl, inr}
+use Rattle.std.{proofs.Common.{◌≡◌, ℕ, [], ◌∷◌, ◌++◌, Bool, true, false, Some, None, refl, sym, ap, subst, ◌∙◌, inl, inr}, proofs.lemmas.Bool.{ne_eqb, both_ways}, proofs.lemmas.List.{append-nil}}
 use Rattle.mob_language.specs.Language.{Text, Language, ◌▷◌, ◌∣◌, Maybe, Means, Where, Word, OneOf, AreAll, ManyOf, blanks, spaced, is_blank, in_middle, within_blanks}
-use Rattle.mob_language.specs.Readers.{TextReader, then_at, or_at, maybe_at, means_at, where_at, word_at, one_at, spaced_at, within_blanks_at}
-use Rattle.std.proofs.lemmas.Bool.{ne_eqb, both_ways}
-use Rattle.std.proofs.lemmas.List.{append-nil}
+use Rattle.mob_language.specs.Readers.{TextReader, then_at, or_at, maybe_at, means_at, text_where, word_at, one_at, spaced_at, within_blanks_at}
 use Rattle.mob_language.proofs.Exact.{Exact, Stops, Any, then_exact, or_exact, maybe_exact, means_exact, word_exact, many_exact}
 
 -- no text of the language begins with such a byte
@@ -81,7 +79,7 @@ then_nothing s h rest stops = rw (h rest stops) refl
 pub means_nothing : {A B : Type 0} (f : A → B) {r : TextReader A} {test : ℕ → Bool} → Nothing r test → Nothing (means_at f r) test
 means_nothing f h rest s = rw (h rest s) refl
 
-pub where_nothing : {A : Type 0} (p : A → Bool) {r : TextReader A} {test : ℕ → Bool} → Nothing r test → Nothing (where_at p r) test
+pub where_nothing : {A : Type 0} (p : A → Bool) {r : TextReader A} {test : ℕ → Bool} → Nothing r test → Nothing (text_where p r) test
 where_nothing p h rest s = rw (h rest s) refl
 
 pub or_nothing : {A : Type 0} {r s : TextReader A} {test : ℕ → Bool} → Nothing r test → Nothing s test → Nothing (or_at r s) test

@@ -1,8 +1,6 @@
 -- Readers of lists: one or more texts, with a text of another language between neighbours.
 use Rattle.std.proofs.Common.{◌≡◌, ℕ, zero, suc, ◌+◌, ◌-◌, ◌<◌, ◌≤◌, List, [], ◌∷◌, ◌++◌, length, Option, Some, None, refl, sym, ap, subst, ◌∙◌, append_assoc, arith, length-append}
-use Rattle.mob_language.specs.Language.{Text, Language, Separated}
-use Rattle.mob_language.specs.Readers.{TextReader, ◌>>=◌, more_items, items_at, separated_at}
-use Rattle.mob_language.proofs.Exact.{Reads, Exact, bind_some, some_is}
+use Rattle.mob_language.{specs.Language.{Text, Language, Separated}, specs.Readers.{TextReader, ◌>>=◌, more_items, items_at, separated_at}, proofs.Exact.{Reads, Exact, bind_some, some_is}}
 use Rattle.mob_language.proofs.Heads.{HasByte}
 
 prepend : {A : Type 0} (l : Language A) (s : Language Unit) (v : A) (vs : List A) (x y z : Text) → l x v → s y tt → Separated l s z vs → Separated l s (x ++ (y ++ z)) (v ∷ vs)

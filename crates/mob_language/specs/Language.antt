@@ -16,8 +16,7 @@
 --     behind w l        the word w followed by a text of l; it denotes the value of the latter
 --     Means f l         a text of l; if it denotes a there, it denotes f a here
 --     Where test l      a text of l whose value passes the test
-use Rattle.std.specs.Prelude.{◌≡◌, ℕ, List, [], ◌∷◌, ◌++◌, map, Bool, true, ◌&&◌, ◌||◌, nat_le, nat_eq, Option, Some, None, ◌⊎◌}
-use Rattle.std.specs.Char.{to_ascii_lowercase}
+use Rattle.std.{specs.Prelude.{◌≡◌, ℕ, List, [], ◌∷◌, ◌++◌, map, Bool, true, ◌&&◌, ◌||◌, nat_le, nat_eq, Option, Some, None, ◌⊎◌}, specs.Char.{to_ascii_lowercase}}
 
 -- a text as the list of its bytes
 abbrev pub Text : Type 0

@@ -1,6 +1,5 @@
 -- Texts of numbers that are not 0, by their digits.
-use Rattle.std.specs.Prelude.{ℕ, Bool, ◌&&◌, ◌||◌, not, nat_eq, nat_le, take_while}
-use Rattle.std.specs.List.{list_any}
+use Rattle.std.{specs.Prelude.{ℕ, Bool, ◌&&◌, ◌||◌, not, nat_eq, nat_le, take_while}, specs.List.{list_any}}
 use Rattle.mob_language.specs.Language.{Text, is_exponent_letter}
 
 -- a digit other than 0

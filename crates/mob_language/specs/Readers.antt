@@ -4,8 +4,7 @@
 -- as far as it can. A reader on lists lies between a language, which says what a text means, and
 -- the code, which scans the bytes: `proofs/` shows that each reader reads exactly the texts of its
 -- language, and the code returns what the reader does.
-use Rattle.std.specs.Prelude.{ℕ, zero, suc, List, [], ◌∷◌, length, Bool, true, false, cond, Option, Some, None, nat_eq}
-use Rattle.std.specs.Char.{to_ascii_lowercase}
+use Rattle.std.{specs.Prelude.{ℕ, zero, suc, List, [], ◌∷◌, length, Bool, true, false, cond, Option, Some, None, nat_eq}, specs.Char.{to_ascii_lowercase}}
 use Rattle.mob_language.specs.Language.{Text, is_blank, in_middle}
 
 abbrev pub TextReader : Type 0 → Type 0
@@ -42,8 +41,8 @@ abbrev pub means_at : {A B : Type 0} → (A → B) → TextReader A → TextRead
 means_at f r text = r text >>= λ x. Some (f x.0, x.1)
 
 -- the value that was read, if it passes the test
-abbrev pub where_at : {A : Type 0} → (A → Bool) → TextReader A → TextReader A
-where_at test r text = r text >>= λ x. cond (test x.0) (Some x) None
+abbrev pub text_where : {A : Type 0} → (A → Bool) → TextReader A → TextReader A
+text_where test r text = r text >>= λ x. cond (test x.0) (Some x) None
 
 -- a word
 abbrev pub word_at : Text → TextReader (Unit {0})

@@ -1,51 +1,32 @@
 -- The result of an aggregate on values of the type that it takes.
-use Rattle.std.proofs.Common.{◌≡◌, ◌∙◌, refl, sym, ap, subst, inl, inr, arith, true≢false, ℕ, ℤ, suc, ◌+◌, pos, nat_abs, List, [], ◌∷◌, length, map, Bool, true, false, not, cond, Option, Some, None, Ok}
-use Rattle.std.specs.Prelude.{◌⊎◌, ◌↔◌, ◌++◌, MatchOption, is_some, nat_eq, option_and_then, option_map, slice_get}
-use Rattle.std.specs.List.{AllByRecursion, AllZip, flat_map}
+use Rattle.std.{specs.Prelude.{◌⊎◌, ◌↔◌, ◌++◌, MatchOption, is_some, nat_eq, option_and_then, option_map, slice_get}, specs.List.{AllByRecursion, AllZip, flat_map}}
+use Rattle.std.proofs.Common.{◌≡◌, ◌∙◌, refl, sym, ap, subst, inl, inr, arith, true≢false, ℕ, ℤ, suc, ◌+◌, pos, nat_abs, List, [], ◌∷◌, length, map, Bool, true, false, not, cond, Option, Some, None}
+use Rattle.std.proofs.Common.{Ok}
 use Rattle.mob_list.proofs.Each.{each_on, each_parts}
-use Rattle.mob_ratio.specs.GcdLaws.{gcd_one_right}
-use Rattle.mob_ratio.specs.LowestLaws.{lowest_in}
-use Rattle.mob_ratio.specs.Order.{same}
-use Rattle.mob_ratio.specs.Ratio.{Ratio, whole, over}
-use Rattle.mob_ratio.proofs.Clear.{whole-over}
-use Rattle.mob_ratio.proofs.RatioLemmas.{over-lowest}
-use Rattle.mob_span.specs.Flags.{same_bool}
-use Rattle.mob_span.proofs.SpanLemmas.{some_instant}
-use Rattle.mob_slice.specs.CourseOf.{CourseOf, steady_course, line_course}
-use Rattle.mob_slice.specs.Slices.{value_at}
-use Rattle.mob_slice.specs.declared.slice.Slice.{Slice}
+use Rattle.mob_ratio.{specs.GcdLaws.{gcd_one_right}, specs.LowestLaws.{lowest_in}, specs.Order.{same}, specs.Ratio.{Ratio, whole, over}, proofs.Clear.{whole-over}, proofs.RatioLemmas.{over-lowest}}
+use Rattle.mob_span.{specs.Flags.{same_bool}, proofs.SpanLemmas.{some_instant}}
+use Rattle.mob_slice.{specs.CourseOf.{CourseOf, steady_course, line_course}, specs.Slices.{value_at}, specs.declared.slice.Slice.{Slice}}
 use Rattle.mob_written.specs.Values.{is_whole_number}
 use Rattle.mob_ast.specs.declared.types.SqlType.{SqlType}
-use Rattle.mob_ast.specs.declared.types.SqlType.TheVariants as sql
-use Rattle.mob_operators.specs.Aggregates.{aggregate_named, aggregate_type}
-use Rattle.mob_operators.specs.declared.aggregate.AggKind.{AggKind}
+use Rattle.mob_operators.{specs.Aggregates.{aggregate_named, aggregate_type}, specs.declared.aggregate.AggKind.{AggKind}}
 use Rattle.mob_operators.specs.declared.aggregate.AggKind.TheVariants.{CountAll, Count, Sum, TCount, TSum, TAnd, TOr}
-use Rattle.mob_typed.specs.declared.typed.Agg.{Agg}
-use Rattle.mob_typed.specs.Selects.{Output, TypedSelectParts}
-use Rattle.mob_typed.specs.Statements.{query}
-use Rattle.mob_typed.specs.Trees.{TypedTree, typed, none, more, type_of}
+use Rattle.mob_typed.{specs.declared.typed.Agg.{Agg}, specs.Selects.{Output, TypedSelectParts}, specs.Statements.{query}, specs.Trees.{TypedTree, typed, none, more, type_of}}
 use Rattle.mob_clauses.specs.Keys.{value_type}
 use Rattle.mob_typing.specs.WellTyped.{IsTypedItem, condition_alone}
-use Rattle.mob_value.specs.declared.value.Value.{Value}
-use Rattle.mob_value.specs.declared.value.Value.TheVariants.{Null, Number, MovingBool, MovingInt, MovingFrac}
+use Rattle.mob_value.{specs.declared.value.Value.{Value}, specs.declared.value.Value.TheVariants.{Null, Number, MovingBool, MovingInt, MovingFrac}}
 use Rattle.mob_value.specs.Moving.{AreNormalBy, line_function, or_nothing, plane_function, step_function}
 use Rattle.mob_ordinary.specs.Ordinary.{is_null}
-use Rattle.mob_catalog.specs.Catalogue.{Catalogue}
-use Rattle.mob_catalog.specs.OwnTypes.{IsValueOf}
-use Rattle.mob_meaning.specs.Scene.{Scene, scene}
-use Rattle.mob_meaning.specs.Values.{EvaluatesToItsValue}
-use Rattle.mob_operands.specs.Rows.{is_there}
-use Rattle.mob_operands.proofs.Forms.{OnForms, by_type}
-use Rattle.mob_operands.proofs.Whole.{int_sum, ints_there, tint_of}
+use Rattle.mob_catalog.{specs.Catalogue.{Catalogue}, specs.OwnTypes.{IsValueOf}}
+use Rattle.mob_meaning.{specs.Scene.{Scene, scene}, specs.Values.{EvaluatesToItsValue}}
+use Rattle.mob_operands.{specs.Rows.{is_there}, proofs.Forms.{OnForms, by_type}, proofs.Whole.{int_sum, ints_there, tint_of}}
 use Rattle.mob_tagg.specs.Aggregates.{all_hold, count, made_of, put_there, some_holds, total, values_at}
-use Rattle.mob_tail.specs.Aggregated.{IsOverTime, counted, known_of, line_there, numbers_of, one_there, one_where, step_there, truth_there}
+use Rattle.mob_tail.specs.Aggregated.{IsOverTime, counted_values, known_of, line_there, numbers_of, one_there, one_where, step_there, truth_there}
+use Rattle.mob_tail.{specs.GroupedAnswers.{AnswerColumn, IsArgumentOf, IsArgumentOn, IsColumnValue, agg_at, columns_from, columns_of}, specs.Groups.{first_value}}
 use Rattle.mob_join.specs.TypedFor.{HasStoredTypes, IsTypedFor}
-use Rattle.mob_tail.specs.GroupedAnswers.{Column, IsArgumentOf, IsArgumentOn, IsColumnValue, agg_at, columns_from, columns_of}
-use Rattle.mob_tail.specs.Groups.{first_value}
 use Rattle.mob_shell.specs.StoredTypes.{QueriesAreTyped}
-use Rattle.mob_laws.specs.AggregateValues.{AggregateRowsHaveMeanings, ArgumentsHaveMeaning, ColumnHasMeaning, HasMeaningOn, IsNullDue, IsResult, IsThereBy, TakesValue, RunColumnsHaveMeanings, TypedColumnsHaveMeanings}
-use Rattle.mob_laws.specs.ExpressionTypes.{HasItsType, TypedExpressionsHaveTheirTypes}
-use Rattle.mob_laws.proofs.ExpressionTypes.{leaf_of_type, null_of}
+use Rattle.mob_laws.specs.AggregateValues.{AggregateRowsHaveMeanings, ArgumentsHaveMeaning, ColumnHasMeaning, HasMeaningOn, IsNullDue, IsResult, IsThereBy, TakesValue, RunColumnsHaveMeanings}
+use Rattle.mob_laws.{specs.AggregateValues.{TypedColumnsHaveMeanings}, specs.ExpressionTypes.{HasItsType, TypedExpressionsHaveTheirTypes}, proofs.ExpressionTypes.{leaf_of_type, null_of}}
+use Rattle.mob_ast.specs.declared.types.SqlType.TheVariants as sql
 
 -- ---- lists of values
 -- what holds for each value that is not NULL holds for those that are left
@@ -164,10 +145,10 @@ module _ (vs : List Value) where
   taken_of a P forms h = known_all P vs (each_of a (λ v. (v ≡ Null) ⊎ P v) (inl refl) forms h)
 
   -- ---- counts and sums
-  count_result : (kind : AggKind) (n : ℕ) (v : Value) → (IsNullDue kind vs → ⊥) → v ≡ counted n → IsResult kind sql.Int vs v
+  count_result : (kind : AggKind) (n : ℕ) (v : Value) → (IsNullDue kind vs → ⊥) → v ≡ counted_values n → IsResult kind sql.Int vs v
   count_result kind n v never is = record {
     own = subst (IsValueOf sql.Int) (sym is) (record { form = refl; whole = whole_int (pos n) });
-    null = (λ e. let no : counted n ≡ Null = sym is ∙ e in absurd (cc), λ due. absurd (never due));
+    null = (λ e. let no : counted_values n ≡ Null = sym is ∙ e in absurd (cc), λ due. absurd (never due));
   }
 
   sum_result : (ty : SqlType) (v : Value) → AllByRecursion IsNumber vs → IsValueOf ty Null → ((x : Ratio) → x ≡ total (numbers_of vs) → IsValueOf ty (Number x)) → v ≡ or_nothing Number (made_of total (numbers_of vs)) → IsResult Sum ty vs v
@@ -341,7 +322,7 @@ each_tuple : (P : List ℕ → TypedTree → Type 0) (items : List Output) → (
 each_tuple P [] h = tt
 each_tuple P (o ∷ items) h = ((λ tuple. (h tuple).0), each_tuple P items (λ tuple. (h tuple).1))
 
-module _ (Q : Column → Type 0) (P : Output → Type 0) (R : Output → Option Agg → Type 0) (all : List (Option Agg)) (means : (o : Output) (a : Option Agg) → P o → R o a → Q (o.0, a)) where
+module _ (Q : AnswerColumn → Type 0) (P : Output → Type 0) (R : Output → Option Agg → Type 0) (all : List (Option Agg)) (means : (o : Output) (a : Option Agg) → P o → R o a → Q (o.0, a)) where
   each_column : (n : ℕ) (items : List Output) (aggs : List (Option Agg)) → ((k : ℕ) → slice_get all (n + k) ≡ slice_get aggs k) → AllByRecursion P items → AllZip R items aggs → AllByRecursion Q (columns_from all n items)
   each_column n [] aggs at h r = tt
   each_column n (o ∷ items) [] at h r = absurd r

@@ -1,17 +1,13 @@
 -- Scripts that differ only in CREATE INDEX statements load the same program.
+use Rattle.std.{specs.Prelude.{Result}, specs.List.{AllZip, flat_map}}
 use Rattle.std.proofs.Common.{◌≡◌, ◌∙◌, refl, sym, ap, ap₂, subst, ℕ, ℤ, ◌+◌, Bool, true, false, List, [], ◌∷◌, ◌++◌, append_assoc, append-nil, map, Option, Some, None, Ok, Err, nat_lt}
-use Rattle.std.specs.Prelude.{Result}
-use Rattle.std.specs.List.{AllZip, flat_map}
 use Rattle.mob_outside.specs.Told.{Contents, file_of}
 use Rattle.mob_value.specs.declared.value.Value.{Value}
-use Rattle.mob_catalog.specs.Constants.{IsConstant}
-use Rattle.mob_catalog.specs.Outcomes.{ConstantsHaveOneMeaning}
-use Rattle.mob_typed.specs.declared.typed.ConstText.{ConstText}
-use Rattle.mob_typed.specs.Statements.{ScriptOut, StatementOut, nothing, new_table, new_index, new_rows, rows_from, deletion, query, plan_of}
+use Rattle.mob_catalog.{specs.Constants.{IsConstant}, specs.Outcomes.{ConstantsHaveOneMeaning}}
+use Rattle.mob_typed.{specs.declared.typed.ConstText.{ConstText}, specs.Statements.{ScriptOut, StatementOut, nothing, new_table, new_index, new_rows, rows_from, deletion, query, plan_of}}
 use Rattle.mob_load.specs.Checks.{CheckParts, Checkpoint, bracket, checkpoints_from, checkpoints_of, checks_of, checks_up_to, file, in_order, literal, room, stands_before, table}
-use Rattle.mob_load.specs.Loads.{ContinuesBy, Halt, Loaded, LoadedIsRead, Loads, LoadsCheck, LoadsFile, LoadsScript, ProgramHasValues, greatest_rows, loaded_row_count, nothing_loaded, one_row, with_made_table, with_rows}
-use Rattle.mob_load.specs.Outcomes.{HasOneLoading}
-use Rattle.mob_load.specs.declared.program.Program.{Program}
+use Rattle.mob_load.specs.Loads.{ContinuesBy, Halt, Loaded, LoadedIsRead, Loads, LoadsCheck, LoadsFile, LoadsScript, ProgramHasValues, greatest_rows, loaded_row_count, nothing_loaded, one_row}
+use Rattle.mob_load.{specs.Loads.{with_made_table, with_rows}, specs.Outcomes.{HasOneLoading}, specs.declared.program.Program.{Program}}
 use Rattle.mob_laws.specs.IndexScripts.{DifferInIndexStatements, beside_indexes, unplaced_literal, without_indexes}
 
 -- ---- checks without literals and places

@@ -1,21 +1,14 @@
 -- Runs that differ only in indexes, statement by statement.
 use Rattle.std.proofs.Common.{◌≡◌, ◌∙◌, refl, sym, ap, ap₂, subst, ℕ, ℤ, List, [], ◌∷◌, ◌++◌, map, Ok}
 use Rattle.mob_value.specs.declared.value.Value.{Value}
-use Rattle.mob_typed.specs.Selects.{TypedSelectParts}
-use Rattle.mob_typed.specs.Statements.{StatementOut, nothing, new_table, new_index, new_rows, rows_from, deletion, query, plan_of}
+use Rattle.mob_typed.{specs.Selects.{TypedSelectParts}, specs.Statements.{StatementOut, nothing, new_table, new_index, new_rows, rows_from, deletion, query, plan_of}}
 use Rattle.mob_catalog.specs.Catalogue.{Catalogue, with_all_rows, with_deleted, with_row}
-use Rattle.mob_join.specs.Deleted.{first_rows}
-use Rattle.mob_join.specs.Query.{IsKept}
+use Rattle.mob_join.{specs.Deleted.{first_rows}, specs.Query.{IsKept}}
 use Rattle.mob_records.specs.AnswerText.{answer_text}
-use Rattle.mob_tail.specs.AnswerTexts.{answer_names}
-use Rattle.mob_tail.specs.Outcomes.{HasOneQueryAnswer}
-use Rattle.mob_shell.specs.Answers.{QueryAnswers}
-use Rattle.mob_shell.specs.Deletes.{table_of}
-use Rattle.mob_shell.specs.Runs.{RunState, RunsStatement, StatementLeaves, inserted_row, later_files, next_rows}
+use Rattle.mob_tail.{specs.AnswerTexts.{answer_names}, specs.Outcomes.{HasOneQueryAnswer}}
+use Rattle.mob_shell.{specs.Answers.{QueryAnswers}, specs.Deletes.{deleted_table}, specs.Runs.{RunState, RunsStatement, StatementLeaves, inserted_row, later_files, next_rows}}
 use Rattle.mob_shell.specs.SameAnswers.{DifferInIndexes}
-use Rattle.mob_laws.specs.IndexScripts.{Answered, answer_in, unplaced_select, unplaced_statement, without_indexes}
-use Rattle.mob_laws.proofs.Unplaced.{kept_alike}
-use Rattle.mob_laws.proofs.UnplacedAnswers.{answers_alike, names_same}
+use Rattle.mob_laws.{specs.IndexScripts.{Answered, answer_in, unplaced_select, unplaced_statement, without_indexes}, proofs.Unplaced.{kept_alike}, proofs.UnplacedAnswers.{answers_alike, names_same}}
 
 -- ---- the state of a run, without its indexes
 
@@ -52,7 +45,7 @@ record SomeAnswer (day : ℤ) (bare : Catalogue) (q : TypedSelectParts) (rows : 
   answers : QueryAnswers own catalogue day (Ok rows)
 
 abbrev BareStep : ℤ → RunState → StatementOut → RunState → List (List ℕ) → Type 0
-BareStep day s (deletion q) t answers = (kept : List (List ℕ)) × SomeKept day s.catalogue q kept × (t ≡ record s { catalogue = with_deleted (table_of q) (first_rows kept) s.catalogue }) × (answers ≡ [])
+BareStep day s (deletion q) t answers = (kept : List (List ℕ)) × SomeKept day s.catalogue q kept × (t ≡ record s { catalogue = with_deleted (deleted_table q) (first_rows kept) s.catalogue }) × (answers ≡ [])
 BareStep day s (query q) t answers = (rows : List (List (List ℕ))) × SomeAnswer day s.catalogue q rows × (t ≡ s) × (answers ≡ answer_text (answer_names q) rows ∷ [])
 BareStep day s (new_index n c name) t answers = (t ≡ s) × (answers ≡ [])
 BareStep day s x t answers = StatementLeaves day s x t × (answers ≡ [])
@@ -109,7 +102,7 @@ module _ (one : HasOneQueryAnswer) (day : ℤ) where
   one_step : (s : RunState) (x : StatementOut) (t u : RunState) (a b : List (List ℕ)) → BareStep day s x t a → BareStep day s x u b → (t ≡ u) × (a ≡ b)
   one_step s (deletion q) t u a b h k =
       let kept : h.0 ≡ k.0 = one_kept s.catalogue q h.0 k.0 h.1 k.1 in
-      (h.2 ∙ ap (λ (ks : List (List ℕ)). with_catalogue s (with_deleted (table_of q) (first_rows ks) s.catalogue)) kept ∙ sym k.2, h.3 ∙ sym k.3)
+      (h.2 ∙ ap (λ (ks : List (List ℕ)). with_catalogue s (with_deleted (deleted_table q) (first_rows ks) s.catalogue)) kept ∙ sym k.2, h.3 ∙ sym k.3)
   one_step s (query q) t u a b h k =
       let rows : h.0 ≡ k.0 = one_answer s.catalogue q h.0 k.0 h.1 k.1 in
       (h.2 ∙ sym k.2, h.3 ∙ ap (λ (rs : List (List (List ℕ))). answer_text (answer_names q) rs ∷ []) rows ∙ sym k.3)

@@ -1,27 +1,16 @@
 -- A script is typed without its CREATE INDEX statements as it is with them.
-use Rattle.std.proofs.Common.{◌≡◌, ◌∙◌, refl, ap, subst, ℕ, ◌+◌, List, [], ◌∷◌, ◌++◌, map, not, length, nat_le, Ok, Err}
-use Rattle.std.specs.Prelude.{Option, Result}
-use Rattle.mob_ast.specs.declared.refusal.Kind.TheVariants as kind
-use Rattle.mob_ast.specs.declared.refusal.Refusal.{Refusal}
-use Rattle.mob_ast.specs.declared.types.Quoted.{Quoted}
-use Rattle.mob_ast.specs.declared.types.SqlType.TheVariants.{TPoint}
-use Rattle.mob_ast.specs.declared.types.Word.{Word}
-use Rattle.mob_ast.specs.declared.types.TypeWord.{TypeWord}
-use Rattle.mob_ast.specs.Trees.{StatementParts, RowParts, empty, create_table, create_index, insert, copy, delete, select, explain}
-use Rattle.mob_typed.specs.declared.typed.ConstText.{ConstText}
-use Rattle.mob_typed.specs.Selects.{TypedSelectParts}
-use Rattle.mob_typed.specs.Statements.{ScriptOut, StatementOut, deletion, new_index, nothing, plan_of, query}
-use Rattle.mob_operators.specs.Lookup.{same_type}
-use Rattle.mob_operators.specs.Table.{is_one_of}
-use Rattle.mob_scope.specs.Answers.{◌>>=◌, found, unless}
-use Rattle.mob_scope.specs.declared.fault.Mistake.{Mistake}
-use Rattle.mob_scope.specs.Names.{column_of, has_entry}
+use Rattle.std.{specs.Prelude.{Option, Result}, proofs.Common.{◌≡◌, ◌∙◌, refl, ap, subst, ℕ, ◌+◌, List, [], ◌∷◌, ◌++◌, map, not, length, nat_le, Ok, Err}}
+use Rattle.mob_ast.{specs.declared.refusal.Refusal.{Refusal}, specs.declared.types.Quoted.{Quoted}, specs.declared.types.SqlType.TheVariants.{TPoint}, specs.declared.types.Word.{Word}}
+use Rattle.mob_ast.{specs.declared.types.TypeWord.{TypeWord}, specs.Trees.{StatementParts, RowParts, empty, create_table, create_index, insert, copy, delete, select, explain}}
+use Rattle.mob_typed.{specs.declared.typed.ConstText.{ConstText}, specs.Selects.{TypedSelectParts}, specs.Statements.{ScriptOut, StatementOut, deletion, new_index, nothing, plan_of, query}}
+use Rattle.mob_operators.{specs.Lookup.{same_type}, specs.Table.{is_one_of}}
+use Rattle.mob_scope.{specs.Answers.{◌>>=◌, found, unless}, specs.declared.fault.Mistake.{Mistake}, specs.Names.{column_of, has_entry}}
 use Rattle.mob_clauses.specs.Clauses.{rows_to_go}
-use Rattle.mob_typing.specs.Names.{NameLists, table_of}
-use Rattle.mob_typing.specs.Selects.{typed_select}
-use Rattle.mob_typing.specs.Statements.{Made, asked, copied, in_statement, good_delimiter, inserted, keeping, made_index, made_table, no_names, or_refused, put_statement, typed_from, typed_rows, typed_statement, with_columns, with_index}
-use Rattle.mob_laws.specs.IndexScripts.{beside_indexes, unplaced_literal, without_indexes}
-use Rattle.mob_laws.specs.BlankedScripts.{BlankedScriptsAreAccepted, blanked}
+use Rattle.mob_typing.{specs.Names.{NameLists, table_of}, specs.Selects.{typed_select}}
+use Rattle.mob_typing.specs.Statements.{Made, asked, copied, in_statement, good_delimiter, inserted, keeping, made_index, made_table, no_names, or_refused, put_statement, typed_from, typed_rows}
+use Rattle.mob_typing.specs.Statements.{typed_statement, with_columns, with_index}
+use Rattle.mob_laws.{specs.IndexScripts.{beside_indexes, unplaced_literal, without_indexes}, specs.BlankedScripts.{BlankedScriptsAreAccepted, blanked}}
+use Rattle.mob_ast.specs.declared.refusal.Kind.TheVariants as kind
 
 -- ---- one after another
 

@@ -1,60 +1,40 @@
 -- Each value of an expression of a typed query is of the expression's type: a leaf reads a stored
 -- value of it, and each operator has its row of the table.
-use Rattle.std.proofs.Common.{◌≡◌, ◌∙◌, arith, nat_abs, refl, sym, ap, subst, inl, inr, true≢false, ℕ, ℤ, zero, suc, List, [], ◌∷◌, map, Bool, true, false, cond, Option, Some, None}
-use Rattle.std.specs.Prelude.{◌≢◌, ◌==◌, ◌++◌, IfSome, IsTrue, pos, option_map, option_and_then, slice_get}
-use Rattle.std.specs.List.{AllByRecursion, AllZip, flat_map, list_all}
-use Rattle.std.specs.Option.{option_or}
+use Rattle.std.{specs.Prelude.{◌≢◌, ◌==◌, ◌++◌, IfSome, IsTrue, pos, option_map, option_and_then, slice_get}, specs.List.{AllByRecursion, AllZip, flat_map, list_all}, specs.Option.{option_or}}
 use Rattle.std.specs.Str.{bytes_eq}
+use Rattle.std.proofs.Common.{◌≡◌, ◌∙◌, arith, nat_abs, refl, sym, ap, subst, inl, inr, true≢false, ℕ, ℤ, zero, suc, List, [], ◌∷◌, map, Bool, true, false, cond, Option, Some, None}
 use Rattle.mob_list.proofs.Each.{each_both, each_map, each_on}
-use Rattle.mob_ratio.specs.GcdLaws.{gcd_one_right}
-use Rattle.mob_ratio.specs.LowestLaws.{lowest_in}
-use Rattle.mob_ratio.specs.Order.{same}
-use Rattle.mob_ratio.specs.Ratio.{Ratio, whole, ◌+ℚ◌, neg_ℚ}
-use Rattle.mob_ratio.proofs.Clear.{whole-over}
-use Rattle.mob_ratio.proofs.Field.{add_zero, sub_self}
-use Rattle.mob_ratio.proofs.Order.{same_exact}
-use Rattle.mob_ratio.proofs.RatioLemmas.{over-lowest}
+use Rattle.mob_ratio.{specs.GcdLaws.{gcd_one_right}, specs.LowestLaws.{lowest_in}, specs.Order.{same}, specs.Ratio.{Ratio, whole, ◌+ℚ◌, neg_ℚ}, proofs.Clear.{whole-over}}
+use Rattle.mob_ratio.{proofs.Field.{add_zero, sub_self}, proofs.Order.{same_exact}, proofs.RatioLemmas.{over-lowest}}
 use Rattle.mob_ast.specs.declared.types.SqlType.{SqlType}
-use Rattle.mob_ast.specs.declared.types.SqlType.TheVariants as sql
-use Rattle.mob_operators.specs.declared.operator.Form.{Form}
-use Rattle.mob_operators.specs.declared.operator.Op.{Op}
-use Rattle.mob_operators.specs.declared.operator.Op.TheVariants as op
-use Rattle.mob_operators.specs.Lookup.{Line, answer_of, found_in, given, operator_named, same_form, takes}
+use Rattle.mob_operators.{specs.declared.operator.Spelling.{Spelling}, specs.declared.operator.Op.{Op}, specs.Lookup.{Line, answer_of, found_in, given, operator_named, same_form, takes}}
 use Rattle.mob_operators.specs.Table.{table}
-use Rattle.mob_typed.specs.declared.typed.ConstText.{ConstText}
-use Rattle.mob_typed.specs.Selects.{Output, TypedSelectParts}
-use Rattle.mob_typed.specs.Statements.{ColumnList, deletion, query}
+use Rattle.mob_typed.{specs.declared.typed.ConstText.{ConstText}, specs.Selects.{Output, TypedSelectParts}, specs.Statements.{ColumnList, deletion, query}}
 use Rattle.mob_typed.specs.Trees.{TypedTree, typed, TypedTrees, none, more, type_of, arg_types}
-use Rattle.mob_clauses.specs.Conditions.{is_bool}
-use Rattle.mob_clauses.specs.Keys.{is_key}
+use Rattle.mob_clauses.{specs.Conditions.{is_bool}, specs.Keys.{is_key}}
 use Rattle.mob_expression.specs.Expressions.{can_cast_all}
-use Rattle.mob_typing.specs.WellTyped.{AreOperated, FitsArguments, HasOperatorRow, IsBehindSigns, IsGroup, IsOperated, behind_minus, behind_plus, column_type, condition_alone, expressions_of, is_division, the_number}
-use Rattle.mob_value.specs.Types.{is_of_type, read_as}
-use Rattle.mob_value.specs.Null.{value_or_null}
-use Rattle.mob_value.specs.declared.store.Table.{Table}
-use Rattle.mob_value.specs.declared.value.Value.{Value}
+use Rattle.mob_typing.specs.WellTyped.{AreOperated, FitsArguments, HasOperatorRow, IsBehindSigns, IsGroup, IsOperated, behind_minus, behind_plus, column_type, condition_alone, expressions_of}
+use Rattle.mob_typing.specs.WellTyped.{is_division, the_number}
+use Rattle.mob_value.{specs.Types.{is_of_type, read_as}, specs.Null.{value_or_null}, specs.declared.store.Table.{Table}, specs.declared.value.Value.{Value}}
 use Rattle.mob_value.specs.declared.value.Value.TheVariants.{Null, Number}
 use Rattle.mob_arith.specs.Sql.Arithmetic.{is_nil}
 use Rattle.mob_ordinary.specs.Ordinary.{negated, unchanged}
 use Rattle.mob_tuples.specs.Tuples.{no_row}
-use Rattle.mob_catalog.specs.Catalogue.{Catalogue}
-use Rattle.mob_catalog.specs.OwnTypes.{HasColumnTypes, IsValueOf}
-use Rattle.mob_catalog.specs.TypedTables.{HoldsTypedRows, HoldsTypedTables, head_columns}
+use Rattle.mob_catalog.{specs.Catalogue.{Catalogue}, specs.OwnTypes.{HasColumnTypes, IsValueOf}, specs.TypedTables.{HoldsTypedRows, HoldsTypedTables, head_columns}}
 use Rattle.mob_catalog.specs.declared.catalog.TableHead.{TableHead}
-use Rattle.mob_meaning.specs.Evaluation.{stop_of}
-use Rattle.mob_meaning.specs.Operators.{OperatorGives}
-use Rattle.mob_meaning.specs.Scene.{Scene, column_value, leaf_value, row_of_number, scene}
+use Rattle.mob_meaning.{specs.Evaluation.{stop_of}, specs.Operators.{OperatorGives}, specs.Scene.{Scene, column_value, leaf_value, row_of_number, scene}}
 use Rattle.mob_meaning.specs.Values.{OperandsHaveValues, TreeHasValue}
-use Rattle.mob_operands.specs.Rows.{CastsHaveMeanings, DividesByOther, HasMeaning, RowsHaveMeanings, SettledIsTheValue}
-use Rattle.mob_operands.proofs.Table.{each_line, line_passes, passes_on}
+use Rattle.mob_operands.{specs.Rows.{CastsHaveMeanings, DividesByOther, HasMeaning, RowsHaveMeanings, SettledIsTheValue}, proofs.Table.{each_line, line_passes, passes_on}}
 use Rattle.mob_join.specs.TypedFor.{AllHaveDivisors, AllHaveStoredTypes, DividesByNumber, HasDivisors, HasStoredType, HasStoredTypes, IsNotZero, IsTypedFor}
 use Rattle.mob_shell.specs.StoredTypes.{QueriesAreTyped}
 use Rattle.mob_laws.specs.ExpressionTypes.{HasItsType, RunExpressionsHaveTheirTypes, TypedExpressionsHaveTheirTypes}
+use Rattle.mob_ast.specs.declared.types.SqlType.TheVariants as sql
+use Rattle.mob_operators.specs.declared.operator.Op.TheVariants as op
 
 -- ---- the line that answers
 -- what holds for each operator of each line, on the types that the line takes, holds for the
 -- answers of the table
-module _ (P : Op → SqlType → List SqlType → Type 0) (form : Form) (name : List ℕ) (ts : List SqlType) (literal : Bool) (o : Op) (ty : SqlType) where
+module _ (P : Op → SqlType → List SqlType → Type 0) (form : Spelling) (name : List ℕ) (ts : List SqlType) (literal : Bool) (o : Op) (ty : SqlType) where
   abbrev LineHas : Line → Type 0
   LineHas l = (us : List SqlType) (lit : Bool) (t : SqlType) → takes l us lit ≡ true → given l.gives us ≡ Some t → AllByRecursion (λ (n : List ℕ × Op). P n.1 t us) l.names
 
@@ -112,7 +92,7 @@ table_settles : list_all (line_passes settles_bools) table ≡ true
 unfolding table
 table_settles = refl
 
-found_settles : (form : Form) (name : List ℕ) (ts : List SqlType) (literal : Bool) (o : Op) (ty : SqlType) → found_in table form name ts literal ≡ Some (o, ty) → settles_bools o ty ts ≡ true
+found_settles : (form : Spelling) (name : List ℕ) (ts : List SqlType) (literal : Bool) (o : Op) (ty : SqlType) → found_in table form name ts literal ≡ Some (o, ty) → settles_bools o ty ts ≡ true
 found_settles form name ts literal o ty = found_has (λ p t us. settles_bools p t us ≡ true) form name ts literal o ty table
     (each_on (λ l. line_passes settles_bools l ≡ true) (LineHas (λ p t us. settles_bools p t us ≡ true) form name ts literal o ty) (λ l h us lit t. passes_on settles_bools l h us lit t) table (each_line settles_bools table table_settles))
 

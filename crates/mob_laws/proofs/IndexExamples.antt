@@ -1,11 +1,9 @@
 -- Two scripts, the second of which makes an index.
 use Rattle.std.proofs.Common.{refl, codes, false, ℕ, [], ◌∷◌, None, Some}
 use Rattle.mob_ast.specs.declared.types.SqlType.TheVariants.{Int, TPoint}
-use Rattle.mob_operators.specs.declared.operator.Op.TheVariants as op
-use Rattle.mob_typed.specs.Trees.{typed, none}
-use Rattle.mob_typed.specs.Selects.{TypedSelectParts}
-use Rattle.mob_typed.specs.Statements.{ScriptOut, new_index, new_rows, new_table, nothing, query}
+use Rattle.mob_typed.{specs.Trees.{typed, none}, specs.Selects.{TypedSelectParts}, specs.Statements.{ScriptOut, new_index, new_rows, new_table, nothing, query}}
 use Rattle.mob_laws.specs.IndexScripts.{DifferInIndexStatements}
+use Rattle.mob_operators.specs.declared.operator.Op.TheVariants as op
 
 -- SELECT id FROM t, with `id` at this place
 abbrev selects : ℕ → TypedSelectParts

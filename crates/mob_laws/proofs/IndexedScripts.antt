@@ -1,20 +1,15 @@
 -- Scripts that differ only in CREATE INDEX statements have the same answers.
-use Rattle.std.proofs.Common.{◌≡◌, ◌∙◌, refl, sym, ap, subst, ℕ, ℤ, List, [], ◌∷◌, ◌++◌, map, Ok}
-use Rattle.std.specs.List.{AllByRecursion, concat}
+use Rattle.std.{specs.List.{AllByRecursion, concat}, proofs.Common.{◌≡◌, ◌∙◌, refl, sym, ap, subst, ℕ, ℤ, List, [], ◌∷◌, ◌++◌, map, Ok}}
 use Rattle.mob_typed.specs.Statements.{ScriptOut, StatementOut, nothing, new_index, deletion, query, plan_of}
 use Rattle.mob_outside.specs.Told.{Contents}
-use Rattle.mob_accept.specs.Accepts.{IsAccepted}
-use Rattle.mob_accept.specs.Outcomes.{HasOneScript}
+use Rattle.mob_accept.{specs.Accepts.{IsAccepted}, specs.Outcomes.{HasOneScript}}
 use Rattle.mob_catalog.specs.Outcomes.{ConstantsHaveOneMeaning}
-use Rattle.mob_load.specs.Loads.{LoadedIsRead, LoadsScript, ProgramHasValues}
-use Rattle.mob_load.specs.Outcomes.{HasOneLoading}
-use Rattle.mob_load.specs.declared.program.Program.{Program}
+use Rattle.mob_load.{specs.Loads.{LoadedIsRead, LoadsScript, ProgramHasValues}, specs.Outcomes.{HasOneLoading}, specs.declared.program.Program.{Program}}
 use Rattle.mob_tail.specs.Outcomes.{HasOneQueryAnswer}
 use Rattle.mob_statements.specs.Statements.{Ran}
 use Rattle.mob_shell.specs.Runs.{RunState, RunsStatement, StatementWrites, begin}
-use Rattle.mob_laws.specs.IndexScripts.{Answered, DifferInIndexStatements, HasNoExplain, IndexesChangeNoAnswer, IndexesWriteTheSame, IsNoExplain, WrittenIsAnswered, answer_in, unplaced_literal, without_indexes}
-use Rattle.mob_laws.proofs.BareLoads.{program_alike}
-use Rattle.mob_laws.proofs.BareRuns.{answered_alike}
+use Rattle.mob_laws.specs.IndexScripts.{Answered, DifferInIndexStatements, HasNoExplain, IndexesChangeNoAnswer, IndexesWriteTheSame, IsNoExplain, WrittenIsAnswered, answer_in, unplaced_literal}
+use Rattle.mob_laws.{specs.IndexScripts.{without_indexes}, proofs.BareLoads.{program_alike}, proofs.BareRuns.{answered_alike}}
 
 -- ---- the answers in the text
 

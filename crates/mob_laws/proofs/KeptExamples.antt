@@ -3,10 +3,8 @@
 -- no others; WHERE is true if the row of the first table is 0. The tuples are (0, no row) and (1,
 -- 0), and the first of them is kept.
 use Rattle.std.proofs.Common.{◌≡◌, ◌∙◌, ◌==◌, ◌&&◌, arith, inl, inr, refl, sym, ap, subst, get_or, zero, suc, ℕ, true, Option, Some, None, List, [], ◌∷◌, ◌++◌, slice_get, take}
-use Rattle.mob_tuples.specs.Tuples.{StandsIn, no_row}
-use Rattle.mob_tuples.specs.Visits.{Conditions, Meeting, on_at}
-use Rattle.mob_join.specs.KeptTuples.{AreThoseThatMeet, IsEntryOf, IsTupleOfFrom}
-use Rattle.mob_join.proofs.Members.{in_by_standing, stands_by_in}
+use Rattle.mob_tuples.{specs.Tuples.{StandsIn, no_row}, specs.Visits.{Conditions, Meeting, on_at}}
+use Rattle.mob_join.{specs.KeptTuples.{AreThoseThatMeet, IsEntryOf, IsTupleOfFrom}, proofs.Members.{in_by_standing, stands_by_in}}
 
 abbrev second_joined : Conditions
 second_joined = record { joined = λ place. place == 1; filtered = true }

@@ -1,12 +1,8 @@
 -- Kept tuples consist of live rows.
-use Rattle.std.proofs.Common.{◌≡◌, ◌+◌, arith, inl, inr, refl, subst, suc, ℕ, ℤ, Bool, true, false, List, [], ◌∷◌, Some, length, slice_get}
-use Rattle.std.specs.Prelude.{Option, is_some}
-use Rattle.mob_typed.specs.Selects.{TypedSelectParts, on_of}
-use Rattle.mob_typed.specs.Trees.{TypedTree}
+use Rattle.std.{specs.Prelude.{Option, is_some}, proofs.Common.{◌≡◌, ◌+◌, arith, inl, inr, refl, subst, suc, ℕ, ℤ, Bool, true, false, List, [], ◌∷◌, Some, length, slice_get}}
+use Rattle.mob_typed.{specs.Selects.{TypedSelectParts, on_of}, specs.Trees.{TypedTree}}
 use Rattle.mob_catalog.specs.Catalogue.{Catalogue, live_rows}
-use Rattle.mob_join.specs.KeptTuples.{IsEntryOf}
-use Rattle.mob_join.specs.Query.{IsTupleOf}
-use Rattle.mob_join.proofs.Members.{each_standing}
+use Rattle.mob_join.{specs.KeptTuples.{IsEntryOf}, specs.Query.{IsTupleOf}, proofs.Members.{each_standing}}
 use Rattle.mob_shell.specs.ReadAsStored.{AreLiveRows, IsLiveRow, IsLiveTuple}
 use Rattle.mob_laws.specs.KeptTuples.{KeptTuplesAreLive}
 

@@ -1,25 +1,17 @@
 -- Places change no value of an expression, and none of the tuples that a query keeps.
-use Rattle.std.proofs.Common.{◌≡◌, ◌∙◌, ◌⊎◌, refl, sym, ap, ap₂, subst, ℕ, zero, suc, ℤ, Bool, true, false, List, [], ◌∷◌, map, Option, Some, None, Ok}
 use Rattle.std.specs.Prelude.{is_some, option_and_then, option_map, slice_get}
-use mathlib.Core.Path.{transport}
+use Rattle.std.proofs.Common.{◌≡◌, ◌∙◌, ◌⊎◌, refl, sym, ap, ap₂, subst, ℕ, zero, suc, ℤ, Bool, true, false, List, [], ◌∷◌, map, Option, Some, None, Ok}
 use Rattle.mob_ast.specs.declared.types.SqlType.{SqlType}
-use Rattle.mob_typed.specs.Trees.{TypedTree, typed, TypedTrees, none, more, arg_types, type_of}
-use Rattle.mob_typed.specs.Selects.{TypedSelectParts, on_of}
-use Rattle.mob_value.specs.declared.value.Value.{Value}
-use Rattle.mob_value.specs.declared.value.Value.TheVariants.{Bool as Truth}
-use Rattle.mob_value.specs.declared.store.Store.{Store}
-use Rattle.mob_meaning.specs.Scene.{Scene, scene}
-use Rattle.mob_meaning.specs.Operators.{OperatorGives, IsFirstFormula}
-use Rattle.mob_meaning.specs.Evaluation.{OperandsEvaluateTo, TreeEvaluatesTo, stop_of, stops}
+use Rattle.mob_typed.{specs.Trees.{TypedTree, typed, TypedTrees, none, more, arg_types, type_of}, specs.Selects.{TypedSelectParts, on_of}}
+use Rattle.mob_value.{specs.declared.value.Value.{Value}, specs.declared.value.Value.TheVariants.{Bool as Truth}, specs.declared.store.Store.{Store}}
+use Rattle.mob_meaning.{specs.Scene.{Scene, scene}, specs.Operators.{OperatorGives, IsFirstFormula}, specs.Evaluation.{OperandsEvaluateTo, TreeEvaluatesTo, stop_of, stops}}
 use Rattle.mob_meaning.specs.Values.{OperandsHaveValues, TreeHasValue}
-use Rattle.mob_catalog.specs.Catalogue.{Catalogue, live_of}
-use Rattle.mob_catalog.specs.declared.catalog.TableHead.{TableHead}
+use Rattle.mob_catalog.{specs.Catalogue.{Catalogue, live_of}, specs.declared.catalog.TableHead.{TableHead}}
 use Rattle.mob_tuples.specs.Visits.{Conditions, Meeting, Visit}
-use Rattle.mob_join.specs.KeptTuples.{AreThoseThatMeet}
-use Rattle.mob_join.proofs.KeptTuples.{those_once}
-use Rattle.mob_join.specs.Query.{IsKept, IsMet, condition_at, conditions}
+use Rattle.mob_join.{specs.KeptTuples.{AreThoseThatMeet}, specs.Query.{IsKept, IsMet, condition_at, conditions}, proofs.KeptTuples.{those_once}}
 use Rattle.mob_shell.specs.SameAnswers.{DifferInIndexes}
 use Rattle.mob_laws.specs.IndexScripts.{all_unplaced, unplaced, unplaced_select}
+use mathlib.Core.Path.{transport}
 
 -- ---- expressions
 

@@ -1,24 +1,14 @@
 -- Places change no answer of a query.
-use Rattle.std.proofs.Common.{◌≡◌, refl, sym, ap, subst, ℕ, ℤ, Bool, true, false, List, [], ◌∷◌, map, Ok}
-use Rattle.std.specs.Prelude.{Result}
-use Rattle.std.specs.List.{AllZip}
-use Rattle.mob_typed.specs.Trees.{TypedTree}
-use Rattle.mob_typed.specs.Selects.{Output, TypedSelectParts}
-use Rattle.mob_value.specs.declared.value.Value.{Value}
-use Rattle.mob_value.specs.declared.store.Store.{Store}
+use Rattle.std.{specs.Prelude.{Result}, specs.List.{AllZip}, proofs.Common.{◌≡◌, refl, sym, ap, subst, ℕ, ℤ, Bool, true, false, List, [], ◌∷◌, map, Ok}}
+use Rattle.mob_typed.{specs.Trees.{TypedTree}, specs.Selects.{Output, TypedSelectParts}}
+use Rattle.mob_value.{specs.declared.value.Value.{Value}, specs.declared.store.Store.{Store}}
 use Rattle.mob_meaning.specs.Scene.{Scene, scene}
 use Rattle.mob_catalog.specs.Catalogue.{Catalogue}
-use Rattle.mob_arrange.specs.Keyed.{Keyed}
-use Rattle.mob_arrange.specs.Rows.{AreArranged}
-use Rattle.mob_tail.specs.Answers.{IsAnswerBy, IsAnswerOnKept, IsField, IsKey, IsTupleRow}
-use Rattle.mob_tail.specs.GroupedAnswers.{IsGroupRow}
-use Rattle.mob_tail.specs.Groups.{groups_on}
-use Rattle.mob_tail.specs.IsMadeOfEach.{IsMadeOfEach}
+use Rattle.mob_arrange.{specs.Keyed.{Keyed}, specs.Rows.{AreArranged}}
+use Rattle.mob_tail.{specs.Answers.{IsAnswerBy, IsAnswerOnKept, IsField, IsKey, IsTupleRow}, specs.GroupedAnswers.{IsGroupRow}, specs.Groups.{groups_on}, specs.IsMadeOfEach.{IsMadeOfEach}}
 use Rattle.mob_tail.specs.Outcomes.{HasOneQueryAnswer}
-use Rattle.mob_shell.specs.Answers.{QueryAnswers}
-use Rattle.mob_shell.specs.SameAnswers.{DifferInIndexes}
-use Rattle.mob_laws.specs.IndexScripts.{unplaced_key, unplaced_output, unplaced_select}
-use Rattle.mob_laws.proofs.Unplaced.{evaluated_bare, kept_alike}
+use Rattle.mob_shell.{specs.Answers.{QueryAnswers}, specs.SameAnswers.{DifferInIndexes}}
+use Rattle.mob_laws.{specs.IndexScripts.{unplaced_key, unplaced_output, unplaced_select}, proofs.Unplaced.{evaluated_bare, kept_alike}}
 use Rattle.mob_laws.proofs.UnplacedGroups.{fault_bare, groups_same, row_bare, zip_carried}
 
 made_mapped : {X Z Y F : Type 0} (R : X → Result Y F → Type 0) (Q : Z → Result Y F → Type 0) (f : X → Z) → ((x : X) (y : Y) → R x (Ok y) → Q (f x) (Ok y)) → (xs : List X) (ys : List Y) → IsMadeOfEach R xs (Ok ys) → IsMadeOfEach Q (map f xs) (Ok ys)

@@ -1,25 +1,17 @@
 -- Places change no group, and no value of an aggregate.
-use Rattle.std.proofs.Common.{◌≡◌, ◌∙◌, inl, inr, refl, subst, not, ℕ, ◌+◌, ℤ, Bool, List, [], ◌∷◌, ◌++◌, map, Option, Some, None, Ok}
-use Rattle.std.specs.Prelude.{Result, option_map}
-use Rattle.std.specs.List.{AllZip}
-use Rattle.mob_operators.specs.declared.aggregate.AggKind.{AggKind}
-use Rattle.mob_operators.specs.declared.aggregate.AggKind.TheVariants.{CountAll}
+use Rattle.std.{specs.Prelude.{Result, option_map}, specs.List.{AllZip}, proofs.Common.{◌≡◌, ◌∙◌, inl, inr, refl, subst, not, ℕ, ◌+◌, ℤ, Bool, List, [], ◌∷◌, ◌++◌, map, Option, Some, None, Ok}}
+use Rattle.mob_operators.{specs.declared.aggregate.AggKind.{AggKind}, specs.declared.aggregate.AggKind.TheVariants.{CountAll}}
 use Rattle.mob_slice.specs.declared.formula.Formula.{Formula}
-use Rattle.mob_typed.specs.declared.typed.Agg.{Agg}
-use Rattle.mob_typed.specs.Trees.{TypedTree, typed, none, more}
-use Rattle.mob_typed.specs.Selects.{Output, TypedSelectParts}
-use Rattle.mob_value.specs.declared.value.Value.{Value}
-use Rattle.mob_value.specs.declared.store.Store.{Store}
+use Rattle.mob_typed.{specs.declared.typed.Agg.{Agg}, specs.Trees.{TypedTree, typed, none, more}, specs.Selects.{Output, TypedSelectParts}}
+use Rattle.mob_value.{specs.declared.value.Value.{Value}, specs.declared.store.Store.{Store}}
 use Rattle.mob_literal.specs.Fields.{field_text}
-use Rattle.mob_meaning.specs.Evaluation.{PlacedFormula}
-use Rattle.mob_meaning.specs.Scene.{Scene, scene}
+use Rattle.mob_meaning.{specs.Evaluation.{PlacedFormula}, specs.Scene.{Scene, scene}}
 use Rattle.mob_groups.specs.Groups.{groups_by}
 use Rattle.mob_tagg.specs.Rows.{IsItem, IsRowFault, IsTuple, earlier}
 use Rattle.mob_arrange.specs.Keyed.{Keyed}
-use Rattle.mob_tail.specs.GroupedAnswers.{Column, IsAddingTo, IsArgumentOf, IsArgumentOn, IsColumnValue, IsGroupRow, IsGroupedFault, columns_from, columns_of, key_value, keys_from, item_of}
-use Rattle.mob_tail.specs.Groups.{column_on, first_value, group_fields, groups_on, is_bare, same_group, same_texts}
-use Rattle.mob_laws.specs.IndexScripts.{unplaced, unplaced_aggregate, unplaced_key, unplaced_output, unplaced_select}
-use Rattle.mob_laws.proofs.Unplaced.{evaluated_bare, picked_same}
+use Rattle.mob_tail.specs.GroupedAnswers.{AnswerColumn, IsAddingTo, IsArgumentOf, IsArgumentOn, IsColumnValue, IsGroupRow, IsGroupedFault, columns_from, columns_of, answer_key, keys_from, answer_item}
+use Rattle.mob_tail.specs.Groups.{column_on, first_value, group_fields, groups_on, is_bare_column, same_group, same_texts}
+use Rattle.mob_laws.{specs.IndexScripts.{unplaced, unplaced_aggregate, unplaced_key, unplaced_output, unplaced_select}, proofs.Unplaced.{evaluated_bare, picked_same}}
 
 -- ---- lists, one by one
 
@@ -58,7 +50,7 @@ module _ {T I J V F : Type 0} (E : T → I → Result V F → Type 0) (A : I →
 
 -- ---- columns
 
-abbrev unplaced_column : Column → Column
+abbrev unplaced_column : AnswerColumn → AnswerColumn
 unplaced_column c = (unplaced c.0, option_map unplaced_aggregate c.1)
 
 columns_same : (aggs : List (Option Agg)) (n : ℕ) (outputs : List Output) → map unplaced_column (columns_from aggs n outputs) ≡ columns_from (map (option_map unplaced_aggregate) aggs) n (map unplaced_output outputs)
@@ -81,7 +73,7 @@ no_fault : (place : ℕ) (g : Option Formula) → None ≡ option_map (at_place 
 no_fault place None h = refl
 no_fault place (Some x) h = absurd cc
 
-added_bare : (c : Column) (vs : List Value) (v : Value) → IsAddingTo c vs v None → IsAddingTo (unplaced_column c) vs v None
+added_bare : (c : AnswerColumn) (vs : List Value) (v : Value) → IsAddingTo c vs v None → IsAddingTo (unplaced_column c) vs v None
 added_bare (e, None) vs v h = h
 added_bare (e, Some agg) vs v h = (h.0, h.1, no_fault agg.place h.0 h.2)
 
@@ -89,7 +81,7 @@ module _ (q : TypedSelectParts) (store : Store) (day : ℤ) where
   abbrev bare : TypedSelectParts
   bare = unplaced_select q
 
-  argument_bare : (t : List ℕ) (c : Column) (v : Value) → IsArgumentOn q store day t c (Ok v) → IsArgumentOn bare store day t (unplaced_column c) (Ok v)
+  argument_bare : (t : List ℕ) (c : AnswerColumn) (v : Value) → IsArgumentOn q store day t c (Ok v) → IsArgumentOn bare store day t (unplaced_column c) (Ok v)
   argument_bare t (e, None) v h = h
   argument_bare t (e, Some agg) v h = argument_kind agg.kind (scene store q.from t day) e v h
 
@@ -102,7 +94,7 @@ module _ (q : TypedSelectParts) (store : Store) (day : ℤ) where
   fields_same : (t : List ℕ) → group_fields q store day t ≡ group_fields bare store day t
   fields_same t = texts_same (scene store q.from t day) q.groups
 
-  empty_same : (gs : List TypedTree) → is_bare gs ≡ is_bare (map unplaced gs)
+  empty_same : (gs : List TypedTree) → is_bare_column gs ≡ is_bare_column (map unplaced gs)
   empty_same [] = refl
   empty_same (g ∷ gs) = refl
 
@@ -114,7 +106,7 @@ module _ (q : TypedSelectParts) (store : Store) (day : ℤ) where
       let rows : IsRowFault (IsArgumentOn bare store day) IsAddingTo (same_group q store day) (map unplaced_column (columns_of q)) [] kept None =
       rows_bare (IsArgumentOn q store day) IsAddingTo (IsArgumentOn bare store day) IsAddingTo unplaced_column argument_bare added_bare (same_group q store day) (columns_of q) [] kept h in
       let columns : IsRowFault (IsArgumentOn bare store day) IsAddingTo (same_group q store day) (columns_of bare) [] kept None =
-      subst (λ (cs : List Column). IsRowFault (IsArgumentOn bare store day) IsAddingTo (same_group q store day) cs [] kept None) (columns_same q.aggs 0 q.items) rows in
+      subst (λ (cs : List AnswerColumn). IsRowFault (IsArgumentOn bare store day) IsAddingTo (same_group q store day) cs [] kept None) (columns_same q.aggs 0 q.items) rows in
       let groups : same_group q store day ≡ same_group bare store day = λ i t u. same_texts (fields_same t i) (fields_same u i) in
       subst (λ (same : List ℕ → List ℕ → Bool). IsRowFault (IsArgumentOn bare store day) IsAddingTo same (columns_of bare) [] kept None) groups columns
 
@@ -124,7 +116,7 @@ module _ (q : TypedSelectParts) (store : Store) (day : ℤ) where
   first_same [] e = refl
   first_same (t ∷ group) e = column_same (scene store q.from t day) e
 
-  column_bare : (group : List (List ℕ)) (c : Column) (v : Value) → IsColumnValue q store day group c v → IsColumnValue bare store day group (unplaced_column c) v
+  column_bare : (group : List (List ℕ)) (c : AnswerColumn) (v : Value) → IsColumnValue q store day group c v → IsColumnValue bare store day group (unplaced_column c) v
   column_bare group (e, None) v h = h ∙ first_same group e
   column_bare group (e, Some agg) v h = (
     h.0,
@@ -132,18 +124,18 @@ module _ (q : TypedSelectParts) (store : Store) (day : ℤ) where
     h.2,
   )
 
-  key_same : (group : List (List ℕ)) (values : List Value) (e : TypedTree) (o : Option ℕ) → key_value q store day group values e o ≡ key_value bare store day group values (unplaced e) o
+  key_same : (group : List (List ℕ)) (values : List Value) (e : TypedTree) (o : Option ℕ) → answer_key q store day group values e o ≡ answer_key bare store day group values (unplaced e) o
   key_same group values e None = first_same group e
   key_same group values e (Some n) = refl
 
   keys_same : (group : List (List ℕ)) (values : List Value) (n : ℕ) (keys : List (TypedTree × Bool)) → keys_from q store day group values n keys ≡ keys_from bare store day group values n (map unplaced_key keys)
   keys_same group values n [] = refl
-  keys_same group values n (k ∷ keys) = λ i. key_same group values k.0 (item_of q.key_items n) i ∷ keys_same group values (n + 1) keys i
+  keys_same group values n (k ∷ keys) = λ i. key_same group values k.0 (answer_item q.key_items n) i ∷ keys_same group values (n + 1) keys i
 
   pub row_bare : (group : List (List ℕ)) (row : Keyed) → IsGroupRow q store day group row → IsGroupRow bare store day group row
   row_bare group row h = record {
     values = h.values;
-    made = subst (λ (cs : List Column). AllZip (IsColumnValue bare store day group) cs h.values) (columns_same q.aggs 0 q.items)
+    made = subst (λ (cs : List AnswerColumn). AllZip (IsColumnValue bare store day group) cs h.values) (columns_same q.aggs 0 q.items)
         (zip_mapped (IsColumnValue q store day group) (IsColumnValue bare store day group) unplaced_column (column_bare group) (columns_of q) h.values h.made);
     fields = h.fields;
     keys = h.keys ∙ keys_same group h.values 0 q.keys;

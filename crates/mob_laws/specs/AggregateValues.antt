@@ -2,33 +2,23 @@
 --
 -- `IsAggregated` of `mob_tail` ignores a value of a form that it does not name, as it ignores NULL.
 -- In a typed query only NULL is such a value.
-use Rattle.std.specs.Prelude.{◌≡◌, ◌⊎◌, ◌↔◌, ℕ, ℤ, Bool, false, List, Option, Some, Ok, is_some, map, slice_get}
-use Rattle.std.specs.List.{AllByRecursion, AllZip}
+use Rattle.std.{specs.Prelude.{◌≡◌, ◌⊎◌, ◌↔◌, ℕ, ℤ, Bool, false, List, Option, Some, Ok, is_some, map, slice_get}, specs.List.{AllByRecursion, AllZip}}
 use Rattle.mob_ratio.specs.Ratio.{Ratio}
-use Rattle.mob_slice.specs.declared.line.Line.{Line}
-use Rattle.mob_slice.specs.declared.slice.Slice.{Slice}
+use Rattle.mob_slice.{specs.declared.line.Line.{Line}, specs.declared.slice.Slice.{Slice}}
 use Rattle.mob_ast.specs.declared.types.SqlType.{SqlType}
-use Rattle.mob_ast.specs.declared.types.SqlType.TheVariants as sql
-use Rattle.mob_operators.specs.declared.aggregate.AggKind.{AggKind}
-use Rattle.mob_operators.specs.declared.aggregate.AggKind.TheVariants.{CountAll, Count, Sum, TCount, TSum, TAnd, TOr}
-use Rattle.mob_typed.specs.declared.typed.Agg.{Agg}
-use Rattle.mob_typed.specs.Selects.{TypedSelectParts}
-use Rattle.mob_typed.specs.Statements.{query}
-use Rattle.mob_typed.specs.Trees.{TypedTree, type_of}
+use Rattle.mob_operators.{specs.declared.aggregate.AggKind.{AggKind}, specs.declared.aggregate.AggKind.TheVariants.{CountAll, Count, Sum, TCount, TSum, TAnd, TOr}}
+use Rattle.mob_typed.{specs.declared.typed.Agg.{Agg}, specs.Selects.{TypedSelectParts}, specs.Statements.{query}, specs.Trees.{TypedTree, type_of}}
 use Rattle.mob_clauses.specs.Keys.{value_type}
 use Rattle.mob_typing.specs.WellTyped.{IsAggregateOf}
-use Rattle.mob_value.specs.declared.value.Value.{Value}
-use Rattle.mob_value.specs.declared.value.Value.TheVariants.{Null, Number}
-use Rattle.mob_value.specs.Moving.{StepSlices}
-use Rattle.mob_catalog.specs.Catalogue.{Catalogue}
-use Rattle.mob_catalog.specs.OwnTypes.{IsValueOf}
+use Rattle.mob_value.{specs.declared.value.Value.{Value}, specs.declared.value.Value.TheVariants.{Null, Number}, specs.Moving.{SteadySlices}}
+use Rattle.mob_catalog.{specs.Catalogue.{Catalogue}, specs.OwnTypes.{IsValueOf}}
 use Rattle.mob_operands.specs.Rows.{is_there}
 use Rattle.mob_join.specs.TypedFor.{IsTypedFor}
-use Rattle.mob_tail.specs.Aggregated.{IsAggregated, known_of, line_there, lines_of, number_in, numbers_of, one_there, step_there, steps_of, truth_there, truths_of}
-use Rattle.mob_tail.specs.GroupedAnswers.{Column, IsArgumentOn, IsColumnValue, columns_of}
-use Rattle.mob_words.specs.declared.options.Settings.{Settings}
-use Rattle.mob_shell.specs.Inputs.{Input}
-use Rattle.mob_shell.specs.Program.{WritesFirst}
+use Rattle.mob_tail.specs.Aggregated.{IsAggregated, known_of, line_there, aggregate_lines, number_of_value, numbers_of, one_there, step_there, steps_of, truth_there, truths_of}
+use Rattle.mob_tail.specs.GroupedAnswers.{AnswerColumn, IsArgumentOn, IsColumnValue, columns_of}
+use Rattle.mob_arguments.specs.declared.options.Settings.{Settings}
+use Rattle.mob_shell.{specs.Inputs.{Input}, specs.Program.{WritesFirst}}
+use Rattle.mob_ast.specs.declared.types.SqlType.TheVariants as sql
 
 -- the types that an aggregate may give
 abbrev pub GivesType : AggKind → SqlType → Type 0
@@ -50,13 +40,13 @@ IsThereBy there v = (t : Ratio) → is_some (there v t) ≡ is_there t v
 abbrev pub TakesValue : AggKind → SqlType → Value → Type 0
 TakesValue CountAll ty v = Unit {0}
 TakesValue Count ty v = Unit {0}
-TakesValue Sum ty v = (n : Ratio) × (number_in v ≡ Some n)
+TakesValue Sum ty v = (n : Ratio) × (number_of_value v ≡ Some n)
 TakesValue TCount ty v = IsThereBy one_there v
-TakesValue TSum sql.TInt v = (m : StepSlices Ratio) × (steps_of v ≡ Some m) × IsThereBy step_there v
-TakesValue TSum sql.TFrac v = (m : List (Slice Line)) × (lines_of v ≡ Some m) × IsThereBy line_there v
+TakesValue TSum sql.TInt v = (m : SteadySlices Ratio) × (steps_of v ≡ Some m) × IsThereBy step_there v
+TakesValue TSum sql.TFrac v = (m : List (Slice Line)) × (aggregate_lines v ≡ Some m) × IsThereBy line_there v
 TakesValue TSum _ v = ⊥
-TakesValue TAnd ty v = (m : StepSlices Bool) × (truths_of v ≡ Some m) × IsThereBy truth_there v
-TakesValue TOr ty v = (m : StepSlices Bool) × (truths_of v ≡ Some m) × IsThereBy truth_there v
+TakesValue TAnd ty v = (m : SteadySlices Bool) × (truths_of v ≡ Some m) × IsThereBy truth_there v
+TakesValue TOr ty v = (m : SteadySlices Bool) × (truths_of v ≡ Some m) × IsThereBy truth_there v
 
 -- it takes each value but NULL
 abbrev pub TakesEachValue : AggKind → SqlType → List Value → Type 0
@@ -96,7 +86,7 @@ pub record ArgumentsHaveMeaning (e : TypedTree) (agg : Agg) (vs : List Value) : 
 
 -- A column of a grouped query has a meaning on a group of tuples: each value of it is NULL or of
 -- the type that typing gives it, and an aggregate has one on any values of its argument there.
-pub record ColumnHasMeaning (c : Catalogue) (q : TypedSelectParts) (day : ℤ) (group : List (List ℕ)) (column : Column) : Type 0 where
+pub record ColumnHasMeaning (c : Catalogue) (q : TypedSelectParts) (day : ℤ) (group : List (List ℕ)) (column : AnswerColumn) : Type 0 where
   pub own : (v : Value) → IsColumnValue q c.store day group column v → IsValueOf (value_type column.0 column.1) v
   pub arguments : (agg : Agg) (vs : List Value) → column.1 ≡ Some agg → AllZip (λ t w. IsArgumentOn q c.store day t column (Ok w)) group vs → ArgumentsHaveMeaning column.0 agg vs
 

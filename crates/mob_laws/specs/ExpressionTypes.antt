@@ -1,19 +1,13 @@
 -- Each value of an expression of a typed query is of the expression's type.
-use Rattle.std.specs.Prelude.{◌≡◌, ◌⊎◌, ℕ, ℤ, List, Some, slice_get}
-use Rattle.std.specs.List.{AllByRecursion}
-use Rattle.mob_typed.specs.Selects.{TypedSelectParts}
-use Rattle.mob_typed.specs.Statements.{deletion, query}
-use Rattle.mob_typed.specs.Trees.{TypedTree, type_of}
+use Rattle.std.{specs.Prelude.{◌≡◌, ◌⊎◌, ℕ, ℤ, List, Some, slice_get}, specs.List.{AllByRecursion}}
+use Rattle.mob_typed.{specs.Selects.{TypedSelectParts}, specs.Statements.{deletion, query}, specs.Trees.{TypedTree, type_of}}
 use Rattle.mob_typing.specs.WellTyped.{expressions_of}
 use Rattle.mob_value.specs.declared.value.Value.{Value}
-use Rattle.mob_catalog.specs.Catalogue.{Catalogue}
-use Rattle.mob_catalog.specs.OwnTypes.{IsValueOf}
-use Rattle.mob_meaning.specs.Scene.{Scene, scene}
-use Rattle.mob_meaning.specs.Values.{TreeHasValue}
+use Rattle.mob_catalog.{specs.Catalogue.{Catalogue}, specs.OwnTypes.{IsValueOf}}
+use Rattle.mob_meaning.{specs.Scene.{Scene, scene}, specs.Values.{TreeHasValue}}
 use Rattle.mob_join.specs.TypedFor.{IsTypedFor}
-use Rattle.mob_words.specs.declared.options.Settings.{Settings}
-use Rattle.mob_shell.specs.Inputs.{Input}
-use Rattle.mob_shell.specs.Program.{WritesFirst}
+use Rattle.mob_arguments.specs.declared.options.Settings.{Settings}
+use Rattle.mob_shell.{specs.Inputs.{Input}, specs.Program.{WritesFirst}}
 
 -- whatever value an expression has, it is NULL or one of the expression's type
 abbrev pub HasItsType : Scene → TypedTree → Type 0

@@ -1,18 +1,11 @@
 -- Scripts that differ in CREATE INDEX statements, and their answers.
-use Rattle.std.specs.Prelude.{◌≡◌, ℕ, ℤ, List, [], ◌∷◌, ◌++◌, Bool, map, option_map}
-use Rattle.std.specs.List.{AllByRecursion, concat, flat_map}
-use Rattle.mob_typed.specs.declared.typed.Agg.{Agg}
-use Rattle.mob_typed.specs.declared.typed.ConstText.{ConstText}
-use Rattle.mob_typed.specs.Trees.{TypedTree, typed, TypedTrees, none, more}
-use Rattle.mob_typed.specs.Selects.{Output, TypedSelectParts}
+use Rattle.std.{specs.Prelude.{◌≡◌, ℕ, ℤ, List, [], ◌∷◌, ◌++◌, Bool, map, option_map}, specs.List.{AllByRecursion, concat, flat_map}}
+use Rattle.mob_typed.{specs.declared.typed.Agg.{Agg}, specs.declared.typed.ConstText.{ConstText}, specs.Trees.{TypedTree, typed, TypedTrees, none, more}, specs.Selects.{Output, TypedSelectParts}}
 use Rattle.mob_typed.specs.Statements.{ScriptOut, StatementOut, nothing, new_table, new_index, new_rows, rows_from, deletion, query, plan_of}
-use Rattle.mob_words.specs.declared.options.Settings.{Settings}
+use Rattle.mob_arguments.specs.declared.options.Settings.{Settings}
 use Rattle.mob_accept.specs.Accepts.{IsAccepted}
 use Rattle.mob_load.specs.declared.program.Program.{Program}
-use Rattle.mob_shell.specs.Inputs.{Input}
-use Rattle.mob_shell.specs.Program.{IsProgram, ProgramWrites}
-use Rattle.mob_shell.specs.Runs.{RunState, RunsStatement, begin}
-use Rattle.mob_shell.specs.SameAnswers.{DifferInWorkers}
+use Rattle.mob_shell.{specs.Inputs.{Input}, specs.Program.{IsProgram, ProgramWrites}, specs.Runs.{RunState, RunsStatement, begin}, specs.SameAnswers.{DifferInWorkers}}
 
 -- ---- without places
 

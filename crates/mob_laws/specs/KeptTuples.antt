@@ -1,26 +1,16 @@
 -- The tuples that a query keeps, on which the SELECTs and the DELETEs of a run work: the tuples of
 -- rows for which WHERE is true.
-use Rattle.std.specs.Prelude.{◌≡◌, ℤ, ℕ, List, Some, Ok, slice_get}
-use Rattle.std.specs.List.{AllByRecursion}
-use Rattle.mob_typed.specs.Selects.{TypedSelectParts}
-use Rattle.mob_typed.specs.Statements.{deletion, query}
+use Rattle.std.{specs.Prelude.{◌≡◌, ℤ, ℕ, List, Some, Ok, slice_get}, specs.List.{AllByRecursion}}
+use Rattle.mob_typed.{specs.Selects.{TypedSelectParts}, specs.Statements.{deletion, query}}
 use Rattle.mob_catalog.specs.Catalogue.{Catalogue, with_deleted}
-use Rattle.mob_join.specs.Deleted.{first_rows}
-use Rattle.mob_join.specs.Query.{AreTuplesThatMeet, FailsOn, IsKept, IsMetAt, conditions}
-use Rattle.mob_join.specs.TypedFor.{IsTypedFor}
+use Rattle.mob_join.{specs.Deleted.{first_rows}, specs.Query.{AreTuplesThatMeet, FailsOn, IsKept, IsMetAt, conditions}, specs.TypedFor.{IsTypedFor}}
 use Rattle.mob_plan.specs.Plans.{planned}
 use Rattle.mob_probes.specs.Rows.{StepGives}
-use Rattle.mob_tuples.specs.Kept.{AreClean}
-use Rattle.mob_tuples.specs.Ranges.{AreAllVisits}
+use Rattle.mob_tuples.{specs.Kept.{AreClean}, specs.Ranges.{AreAllVisits}}
 use Rattle.mob_records.specs.AnswerText.{answer_text}
-use Rattle.mob_tail.specs.Answers.{IsAnswerOnKept}
-use Rattle.mob_tail.specs.AnswerTexts.{answer_names}
-use Rattle.mob_words.specs.declared.options.Settings.{Settings}
-use Rattle.mob_shell.specs.Deletes.{IsDeleted, table_of}
-use Rattle.mob_shell.specs.Inputs.{Input}
-use Rattle.mob_shell.specs.Program.{WritesFirst}
-use Rattle.mob_shell.specs.ReadAsStored.{IsLiveTuple}
-use Rattle.mob_shell.specs.Runs.{StatementWrites}
+use Rattle.mob_tail.{specs.Answers.{IsAnswerOnKept}, specs.AnswerTexts.{answer_names}}
+use Rattle.mob_arguments.specs.declared.options.Settings.{Settings}
+use Rattle.mob_shell.{specs.Deletes.{IsDeleted, deleted_table}, specs.Inputs.{Input}, specs.Program.{WritesFirst}, specs.ReadAsStored.{IsLiveTuple}, specs.Runs.{StatementWrites}}
 
 -- A query keeps exactly the tuples of its tables for which WHERE is true, each once, in order:
 -- `AreThoseThatMeet` of mob_join says it tuple by tuple, and entry by entry.
@@ -54,4 +44,4 @@ SelectsAnswerOnTuples = (settings : Settings) (input : Input) (count : ℕ) (tex
 abbrev pub DeletesTakeTuples : Type 0
 DeletesTakeTuples = (settings : Settings) (input : Input) (count : ℕ) (text : List ℕ) (run : WritesFirst settings input count text) (q : TypedSelectParts) (left : Catalogue)
     → slice_get run.out.statements count ≡ Some (deletion q) → IsDeleted q run.stands.catalogue settings.epoch left
-    → (kept : List (List ℕ)) × AreTuplesThatMeet q run.stands.catalogue settings.epoch kept × (left ≡ with_deleted (table_of q) (first_rows kept) run.stands.catalogue)
+    → (kept : List (List ℕ)) × AreTuplesThatMeet q run.stands.catalogue settings.epoch kept × (left ≡ with_deleted (deleted_table q) (first_rows kept) run.stands.catalogue)

@@ -1,27 +1,21 @@
 -- Each run of tokens that is counted as one expression is an expression of the grammar: one proof
 -- for all forms.
-use Rattle.std.proofs.Common.{◌≡◌, ◌==◌, ◌⊎◌, ◌↔◌, inl, inr, ℕ, List, [], ◌∷◌, Bool, true, false, cond, refl, sym, ap, subst, ◌∙◌}
-use Rattle.std.specs.Prelude.{codes}
-use Rattle.std.proofs.lemmas.Bool.{eqb-true}
+use Rattle.std.{specs.Prelude.{codes}, proofs.Common.{◌≡◌, ◌==◌, ◌⊎◌, ◌↔◌, inl, inr, ℕ, List, [], ◌∷◌, Bool, true, false, cond, refl, sym, ap, subst, ◌∙◌}, proofs.lemmas.Bool.{eqb-true}}
 use Rattle.mob_ast.specs.Trees.{StatementParts}
-use Rattle.mob_grammar.specs.declared.mark.Mark.{Mark}
-use Rattle.mob_grammar.specs.declared.mark.Mark.TheVariants.{Select, Delete, Dot, Times, Open, Semicolon}
-use Rattle.mob_grammar.specs.Marks.{is}
+use Rattle.mob_grammar.{specs.declared.mark.Mark.{Mark}, specs.declared.mark.Mark.TheVariants.{Select, Delete, Dot, Times, Open, Semicolon}, specs.Marks.{is}}
 use Rattle.mob_grammar.specs.TokenKinds.{TokenKinds, of_mark, names, numbers, strings, only_mark, ◌∪◌, where_so, kinds_in}
 use Rattle.mob_grammar.specs.Symbols.{Symbol, fixed, name, number, quoted, PlacedSymbol, sign, identifier, kind, among, begins, starts}
-use Rattle.mob_grammar.specs.Forms.{Listed, single, several, Sort, Meaning, Form, built, mark, a_name, a_number, a_string, a_type, an_expression, a_count_or_expression, made, both, behind, ended, choice, either, separated, Derives}
-use Rattle.mob_grammar.specs.Reading.{nullable, heads}
-use Rattle.mob_grammar.specs.Scripts.{string_form, signed_form, number_form, typed_form, const_form, row_form, column_type_form, create_table_form, create_index_form, create_form, insert_form, header_form, format_form, delimiter_form, options_form, copy_form, some_name_form, second_name_form, entry_form, joined_form, joins_form, source_form, sources_form, from_form, alias_form, item_form, direction_form, key_form, distinct_form, where_form, group_column_form, by_form, group_form, order_form, limit_form, ordering_form, select_form, delete_form, explain_form, statement_form, Statement}
-use Rattle.mob_grammar.proofs.Forms.{begun}
-use Rattle.mob_grammar.proofs.Heads.{begins_mark, not_this}
-use Rattle.mob_grammar.proofs.Marks.{same_mark}
-use Rattle.mob_grammar.proofs.Sets.{both_true, not_true, begins_left, begins_right, begins_where, lies_at}
-use Rattle.mob_lexemes.specs.declared.heavy.TokenStanding.{TokenStanding}
-use Rattle.mob_lexemes.specs.Weights.{outside, mark_counts}
-use Rattle.mob_lexemes.specs.Heavy.{begins_expressions, ends, standing_after}
-use Rattle.mob_lexemes.specs.Weighed.{AllLight, HasLightExpressions, ExpressionsAreTheGrammars}
-use Rattle.mob_lexemes.proofs.Walked.{Light, at, quiet, none_light}
-use Rattle.mob_lexemes.proofs.Walks.{start_is, Same, follow, same_tokens, skip, skip_at, type_skips, IsStop, Stops, reset, stop, pass, pass_name, dot_calm, count_calm, Walks, walks_then, then_walks, none_walks, both_walk, expression_walks}
+use Rattle.mob_grammar.specs.Forms.{Listed, single, several, Sort, Meaning, Form, built, mark, a_name, a_number, a_string, a_type, an_expression, a_count_or_expression, made, both, behind, ended}
+use Rattle.mob_grammar.{specs.Forms.{choice, either, separated, Derives}, specs.Reading.{nullable, heads}}
+use Rattle.mob_grammar.specs.Scripts.{string_form, signed_form, number_form, typed_form, const_form, row_form, column_type_form, create_table_form, create_index_form, create_form, insert_form}
+use Rattle.mob_grammar.specs.Scripts.{header_form, format_form, delimiter_form, options_form, copy_form, some_name_form, second_name_form, entry_form, joined_form, joins_form, source_form}
+use Rattle.mob_grammar.specs.Scripts.{sources_form, from_form, alias_form, item_form, direction_form, key_form, distinct_form, where_form, group_column_form, by_form, group_form, order_form}
+use Rattle.mob_grammar.{specs.Scripts.{limit_form, ordering_form, select_form, delete_form, explain_form, statement_form, Statement}, proofs.Forms.{begun}, proofs.Heads.{begins_mark, not_this}}
+use Rattle.mob_grammar.{proofs.Marks.{same_mark}, proofs.Sets.{both_true, not_true, begins_left, begins_right, begins_where, lies_at}}
+use Rattle.mob_lexemes.{specs.declared.heavy.TokenStanding.{TokenStanding}, specs.Weights.{outside, mark_counts}, specs.Heavy.{begins_expressions, ends, standing_after}}
+use Rattle.mob_lexemes.{specs.Weighed.{AllLight, HasLightExpressions, ExpressionsAreTheGrammars}, proofs.Walked.{Light, at, quiet, none_light}}
+use Rattle.mob_lexemes.proofs.Walks.{start_is, Same, follow, same_tokens, skip, skip_at, type_skips, IsStop, Stops, reset, stop, pass, pass_name, dot_calm, count_calm, Walks, walks_then, then_walks}
+use Rattle.mob_lexemes.proofs.Walks.{none_walks, both_walk, expression_walks}
 
 -- at the beginning of an expression, after so many counted tokens
 abbrev is_at : ℕ → TokenStanding → Bool

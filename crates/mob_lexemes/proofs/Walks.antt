@@ -1,20 +1,14 @@
 -- The walk along a script in the two ways to stand: outside the statements with expressions, where
 -- nothing is counted, and inside one, at the beginning of an expression.
 use Rattle.std.proofs.Common.{◌≡◌, ◌==◌, ◌≤◌, ◌⊎◌, ◌↔◌, inl, inr, ℕ, List, [], ◌∷◌, Bool, true, false, cond, refl, sym, ap, subst, ◌∙◌, arith}
-use Rattle.mob_ast.specs.declared.types.TypeWord.{TypeWord}
-use Rattle.mob_ast.specs.Trees.{Tree}
-use Rattle.mob_grammar.specs.declared.mark.Mark.{Mark}
-use Rattle.mob_grammar.specs.declared.mark.Mark.TheVariants.{Select, Delete, Dot, Times, Open, Close, Semicolon}
-use Rattle.mob_grammar.specs.Marks.{is}
+use Rattle.mob_ast.{specs.declared.types.TypeWord.{TypeWord}, specs.Trees.{Tree}}
+use Rattle.mob_grammar.{specs.declared.mark.Mark.{Mark}, specs.declared.mark.Mark.TheVariants.{Select, Delete, Dot, Times, Open, Close, Semicolon}, specs.Marks.{is}}
 use Rattle.mob_grammar.specs.Symbols.{Symbol, fixed, name, number, quoted, PlacedSymbol, sign, identifier, is_mark, is_sign, is_string_symbol, starts, is_literal}
-use Rattle.mob_grammar.specs.Symbols as grammar
-use Rattle.mob_grammar.specs.Expressions.{disjunction, Phrase, TypeName, plain, inner}
-use Rattle.mob_grammar.proofs.Steps.{told, token_is}
-use Rattle.mob_lexemes.specs.declared.heavy.TokenStanding.{TokenStanding}
-use Rattle.mob_lexemes.specs.Weights.{outside, is_function, counts, mark_counts}
-use Rattle.mob_lexemes.specs.Heavy.{begins_expressions, ends, selects_after, no_call_after, standing_after, is_heavy}
-use Rattle.mob_lexemes.specs.Weighed.{phrase_weight}
+use Rattle.mob_grammar.{specs.Expressions.{disjunction, Phrase, TypeName, plain, inner}, proofs.Steps.{told, token_is}}
+use Rattle.mob_lexemes.{specs.declared.heavy.TokenStanding.{TokenStanding}, specs.Weights.{outside, is_function, counts, mark_counts}}
+use Rattle.mob_lexemes.{specs.Heavy.{begins_expressions, ends, selects_after, no_call_after, standing_after, is_heavy}, specs.Weighed.{phrase_weight}}
 use Rattle.mob_lexemes.proofs.Walked.{Light, at, behind, quiet, never, name_quiet, Clear, along, column_is}
+use Rattle.mob_grammar.specs.Symbols as grammar
 
 -- ---- outside SELECT and DELETE nothing is counted
 idle_counts : (s : TokenStanding) → s.selects ≡ false → (x : Symbol) (l : List PlacedSymbol) → counts s x l ≡ false

@@ -1,17 +1,9 @@
 -- A comparison holds at some instant of two operands exactly if it does on some piece.
-use Rattle.std.specs.Prelude.{◌≡◌, ◌⊎◌, ◌↔◌, ◌||◌, Bool, true, false, List, [], ◌∷◌, Option, Some, None, refl}
-use Rattle.std.specs.List.{AllByRecursion}
-use Rattle.std.proofs.Common.{ap, sym, ◌∙◌, subst, true≢false, inl, inr}
+use Rattle.std.{specs.Prelude.{◌≡◌, ◌⊎◌, ◌↔◌, ◌||◌, Bool, true, false, List, [], ◌∷◌, Option, Some, None, refl}, specs.List.{AllByRecursion}, proofs.Common.{ap, sym, ◌∙◌, subst, true≢false, inl, inr}}
 use Rattle.mob_ratio.specs.Ratio.{Ratio}
-use Rattle.mob_span.specs.Span.{SpanOf, has}
-use Rattle.mob_span.specs.Pieces.{PiecesAreClear, piece_at}
-use Rattle.mob_span.specs.Meets.{PieceOf}
-use Rattle.mob_span.proofs.SpanLemmas.{some_instant}
-use Rattle.mob_slice.specs.Sides.{SideOf, OperandOf, side_at, pieces, given_at, has_slices}
-use Rattle.mob_lift.specs.Sometime.{IsSometime, IsEver, either}
-use Rattle.mob_lift.proofs.Walking.{walked}
-use Rattle.mob_lifted.proofs.Options.{none_some}
-use Rattle.mob_lift.proofs.PieceAt.{first_at, later_at, which_at, there, found, no_common, common_by}
+use Rattle.mob_span.{specs.Span.{SpanOf, has}, specs.Pieces.{PiecesAreClear, piece_at}, specs.Meets.{PieceOf}, proofs.SpanLemmas.{some_instant}}
+use Rattle.mob_slice.{specs.Sides.{SideOf, OperandOf, side_at, pieces, given_at, has_slices}, proofs.Options.{none_some}}
+use Rattle.mob_lift.{specs.Sometime.{IsSometime, IsEver, either}, proofs.Walking.{walked}, proofs.PieceAt.{first_at, later_at, which_at, there, found, no_common, common_by}}
 
 -- ---- the instants of the pieces
 module _ {P : Type 0} (span : P → SpanOf) (holds : P → Ratio → Bool) (meets : P → Bool) where

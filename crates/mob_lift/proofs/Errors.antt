@@ -1,6 +1,5 @@
 -- An error of one result type, as an error of another.
-use Rattle.std.specs.Prelude.{◌≡◌, Result, Err}
-use Rattle.std.proofs.Common.{ap}
+use Rattle.std.{specs.Prelude.{◌≡◌, Result, Err}, proofs.Common.{ap}}
 
 abbrev the_err : (A : Type 0) {E : Type 0} → E → Result A E
 the_err A x = Err x

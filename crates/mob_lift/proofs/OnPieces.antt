@@ -1,20 +1,10 @@
 -- The result of an operator on one piece, if it is one slice.
-use Rattle.std.specs.Prelude.{◌≡◌, true, List, [], ◌∷◌, Some, None, Result, Ok, Err, MatchResult, IfErr, refl}
-use Rattle.std.specs.List.{flat_map}
-use Rattle.std.proofs.Common.{ap, sym, ◌∙◌}
+use Rattle.std.{specs.Prelude.{◌≡◌, true, List, [], ◌∷◌, Some, None, Result, Ok, Err, MatchResult, IfErr, refl}, specs.List.{flat_map}, proofs.Common.{ap, sym, ◌∙◌}}
 use Rattle.mob_ratio.specs.Ratio.{Ratio}
-use Rattle.mob_span.specs.Span.{SpanOf, has_instant}
-use Rattle.mob_span.specs.Meets.{PieceOf}
-use Rattle.mob_slice.specs.Operands.{steady_value, steady_limit}
-use Rattle.mob_slice.specs.Sides.{SideOf, side_at, HasValues}
-use Rattle.mob_slice.specs.Entries.{Entry, IsFirst, IsJudged}
-use Rattle.mob_slice.specs.declared.slice.Slice.{Slice}
-use Rattle.mob_slice.specs.declared.steady.Steady.{Steady}
-use Rattle.mob_slice.specs.declared.formula.Formula.{Formula}
-use Rattle.mob_list.specs.declared.fault.Fault.{Fault}
-use Rattle.mob_list.specs.declared.fault.Fault.TheVariants.{Because, NoMemory}
-use Rattle.mob_lifted.proofs.OnOnePiece.{one_kept, one_steady}
-use Rattle.mob_lifted.proofs.Options.{none_some}
+use Rattle.mob_span.{specs.Span.{SpanOf, has_instant}, specs.Meets.{PieceOf}}
+use Rattle.mob_slice.{specs.Operands.{steady_value, steady_limit}, specs.Sides.{SideOf, side_at, HasValues}, specs.Entries.{Entry, IsFirst, IsJudged}, specs.declared.slice.Slice.{Slice}}
+use Rattle.mob_slice.{specs.declared.steady.Steady.{Steady}, specs.declared.formula.Formula.{Formula}, proofs.OnOnePiece.{one_kept, one_steady}, proofs.Options.{none_some}}
+use Rattle.mob_list.{specs.declared.fault.Fault.{Fault}, specs.declared.fault.Fault.TheVariants.{Because, NoMemory}}
 use Rattle.mob_lift.specs.Given.{AreOn, IsGiven, on_sides}
 
 -- one slice on a span, as a list

@@ -1,26 +1,12 @@
 -- The result of an operator on all pieces of two operands.
-use Rattle.std.specs.Prelude.{◌≡◌, true, ◌||◌, List, map, Some, None, option_map, Result, Err, IfOk, refl}
-use Rattle.std.specs.List.{flat_map}
-use Rattle.std.specs.Iterator.{Yields, Drains, YieldsFirstBy}
-use Rattle.std.proofs.Common.{ap, sym, ◌∙◌, subst}
-use Rattle.std.proofs.lemmas.Result.{IfOk-weaker}
+use Rattle.std.{specs.Prelude.{◌≡◌, true, ◌||◌, List, map, Some, None, option_map, Result, Err, IfOk, refl}, specs.List.{flat_map}, specs.Iterator.{Yields, Drains, YieldsFirstBy}}
+use Rattle.std.{proofs.Common.{ap, sym, ◌∙◌, subst}, proofs.lemmas.Result.{IfOk-weaker}}
 use Rattle.mob_ratio.specs.Ratio.{Ratio}
-use Rattle.mob_span.specs.Span.{SpanOf}
-use Rattle.mob_span.specs.Meets.{PieceOf}
-use Rattle.mob_span.specs.Pieces.{piece_at}
-use Rattle.mob_slice.specs.Sides.{SideOf, OperandOf, has_slices, pieces, piece_of}
-use Rattle.mob_slice.specs.Entries.{Entry, IsFirst, IsJudged}
-use Rattle.mob_slice.specs.declared.slice.Slice.{Slice}
-use Rattle.mob_slice.specs.declared.side.Piece.{Piece}
-use Rattle.mob_slice.specs.declared.formula.Formula.{Formula}
-use Rattle.mob_list.specs.declared.fault.Fault.{Fault}
-use Rattle.mob_list.specs.declared.fault.Fault.TheVariants.{Because}
-use Rattle.mob_slice.proofs.Yielded.{drained}
-use Rattle.mob_lift.proofs.PieceLaws.{map_at, twice, pieces_value}
-use Rattle.mob_lifted.specs.Piecewise.{IsPiecewise, IsFirstFailure}
-use Rattle.mob_lift.specs.Given.{AreOn, on_sides, AreLifted}
-use Rattle.mob_lift.proofs.Pointwise.{mapped_at}
-use Rattle.mob_lift.proofs.Judged.{judged}
+use Rattle.mob_span.{specs.Span.{SpanOf}, specs.Meets.{PieceOf}, specs.Pieces.{piece_at}}
+use Rattle.mob_slice.{specs.Sides.{SideOf, OperandOf, has_slices, pieces, piece_of}, specs.Entries.{Entry, IsFirst, IsJudged}, specs.declared.slice.Slice.{Slice}, specs.declared.side.Piece.{Piece}}
+use Rattle.mob_slice.{specs.declared.formula.Formula.{Formula}, specs.Piecewise.{IsPiecewise, IsFirstFailure}, proofs.Yielded.{drained}}
+use Rattle.mob_list.{specs.declared.fault.Fault.{Fault}, specs.declared.fault.Fault.TheVariants.{Because}}
+use Rattle.mob_lift.{specs.Given.{AreOn, on_sides, AreLifted}, proofs.PieceLaws.{map_at, twice, pieces_value}, proofs.Pointwise.{mapped_at}, proofs.Judged.{judged}}
 
 module _ {A X B Y D Z V : Type 0} (value : A → Ratio → Ratio → Ratio → X) (value' : B → Ratio → Ratio → Ratio → Y) (result : D → Ratio → Ratio → Ratio → Z) (start end : D → Z) (items : V → List (Slice D)) (op : X → Y → Z) where
   abbrev span : Piece A B X Y → SpanOf

@@ -1,17 +1,9 @@
 -- The piece of two operands that has an instant, and the operands there.
-use Rattle.std.specs.Prelude.{◌≡◌, ◌⊎◌, ◌||◌, Bool, true, false, cond, List, [], ◌∷◌, Option, Some, None, option_map, refl}
-use Rattle.std.proofs.Common.{ap, sym, ◌∙◌, inl, inr}
+use Rattle.std.{specs.Prelude.{◌≡◌, ◌⊎◌, ◌||◌, Bool, true, false, cond, List, [], ◌∷◌, Option, Some, None, option_map, refl}, proofs.Common.{ap, sym, ◌∙◌, inl, inr}}
 use Rattle.mob_ratio.specs.Ratio.{Ratio}
-use Rattle.mob_span.specs.Span.{SpanOf, has}
-use Rattle.mob_span.specs.Pieces.{PiecesAreClear, piece_at}
-use Rattle.mob_span.specs.Meets.{PieceOf}
-use Rattle.mob_span.proofs.Insides.{clear_has}
-use Rattle.mob_span.proofs.Shared.{AreAllClear, all_after}
-use Rattle.mob_slice.specs.Operands.{map_both}
-use Rattle.mob_slice.specs.Sides.{SideOf, OperandOf, side_at, pieces, given_at, has_slices}
-use Rattle.mob_lift.specs.Sometime.{HaveCommon}
-use Rattle.mob_lifted.proofs.Options.{none_some, same_some}
-use Rattle.mob_lift.proofs.PieceLaws.{pieces_value}
+use Rattle.mob_span.{specs.Span.{SpanOf, has}, specs.Pieces.{PiecesAreClear, piece_at}, specs.Meets.{PieceOf}, proofs.Insides.{clear_has}, proofs.Shared.{AreAllClear, all_after}}
+use Rattle.mob_slice.{specs.Operands.{map_both}, specs.Sides.{SideOf, OperandOf, side_at, pieces, given_at, has_slices}, proofs.Options.{none_some, same_some}}
+use Rattle.mob_lift.{specs.Sometime.{HaveCommon}, proofs.PieceLaws.{pieces_value}}
 
 -- ---- parts of time in order
 module _ {P : Type 0} (span : P → SpanOf) where

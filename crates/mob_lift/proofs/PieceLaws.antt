@@ -1,18 +1,9 @@
 -- Lemmas on the pieces of two operands.
-use Rattle.std.specs.Prelude.{◌≡◌, Bool, true, false, cond, ◌||◌, Option, Some, None, option_map, List, [], ◌∷◌, map, refl}
-use Rattle.std.proofs.Common.{ap, sym, ◌∙◌, true≢false}
+use Rattle.std.{specs.Prelude.{◌≡◌, Bool, true, false, cond, ◌||◌, Option, Some, None, option_map, List, [], ◌∷◌, map, refl}, specs.Option.{option_zip}, proofs.Common.{ap, sym, ◌∙◌, true≢false}}
 use Rattle.mob_ratio.specs.Ratio.{Ratio}
-use Rattle.mob_span.specs.Span.{SpanOf, has}
-use Rattle.mob_span.specs.Meets.{PieceOf, shared_pieces}
-use Rattle.mob_slice.specs.Slices.{value_at}
-use Rattle.mob_slice.proofs.LookUps.{value_by}
-use Rattle.mob_span.specs.Pieces.{piece_at}
-use Rattle.mob_slice.specs.Operands.{map_both}
-use Rattle.mob_slice.specs.Cut.{slice_value}
-use Rattle.mob_slice.specs.Sides.{SideOf, Moves, Stays, OperandOf, Slices, Base, pieces, side_at, has_slices, given_at}
-use Rattle.mob_slice.specs.declared.slice.Slice.{Slice}
-use Rattle.std.specs.Option.{option_zip}
-use Rattle.mob_span.proofs.MeetLaws.{meets_at, sides}
+use Rattle.mob_span.{specs.Span.{SpanOf, has}, specs.Meets.{PieceOf, shared_pieces}, specs.Pieces.{piece_at}, proofs.MeetLaws.{meets_at, sides}}
+use Rattle.mob_slice.{specs.Slices.{value_at}, specs.Operands.{map_both}, specs.Cut.{slice_value}, specs.Sides.{SideOf, Moves, Stays, OperandOf, Slices, Base, pieces, side_at, has_slices, given_at}}
+use Rattle.mob_slice.{specs.declared.slice.Slice.{Slice}, proofs.LookUps.{value_by}}
 
 -- a list of pieces made from others on the same spans
 module _ {P Q : Type 0} (span : P → SpanOf) (span' : Q → SpanOf) (f : P → Q) (same : (p : P) → span' (f p) ≡ span p) where

@@ -1,10 +1,6 @@
 -- A walk over the pieces of two operands: the answer so far, and the entries seen.
-use Rattle.std.specs.Prelude.{◌≡◌, List, [], ◌∷◌, Option, Some, None, refl}
-use Rattle.std.specs.List.{flat_map}
-use Rattle.std.proofs.Common.{ap, sym, ◌∙◌, subst}
-use Rattle.mob_slice.specs.Entries.{Entry, IsFirst}
-use Rattle.mob_slice.specs.declared.formula.Formula.{Formula}
-use Rattle.mob_lifted.proofs.Firsts.{first_joined, first_front}
+use Rattle.std.{specs.Prelude.{◌≡◌, List, [], ◌∷◌, Option, Some, None, refl}, specs.List.{flat_map}, proofs.Common.{ap, sym, ◌∙◌, subst}}
+use Rattle.mob_slice.{specs.Entries.{Entry, IsFirst}, specs.declared.formula.Formula.{Formula}, proofs.JoinedFirsts.{first_joined, first_front}}
 
 -- the answer so far, and then that of the pieces
 abbrev pub walked : {P V : Type 0} → (Option V → V → V) → (P → V) → Option V → List P → Option V

@@ -1,6 +1,5 @@
 -- Invariants of a loop that changes each entry of a list in place.
-use Rattle.std.proofs.Common.{◌≡◌, ◌∙◌, refl, ap, subst, ℕ, zero, suc, arith, ◌<◌, ◌≤◌, length, List, [], ◌∷◌, get_or, set}
-use Rattle.std.specs.List.{AllZip}
+use Rattle.std.{specs.List.{AllZip}, proofs.Common.{◌≡◌, ◌∙◌, refl, ap, subst, ℕ, zero, suc, arith, ◌<◌, ◌≤◌, length, List, [], ◌∷◌, get_or, set}}
 
 -- the first n entries are changed by R, and the others not at all
 abbrev pub AreChanged : {A : Type 0} → (A → A → Type 0) → ℕ → List A → List A → Type 0

@@ -1,7 +1,5 @@
 -- Lists whose every element has a property.
-use Rattle.std.specs.List.{AllByRecursion}
-use Rattle.std.specs.Prelude.{Some, slice_get}
-use Rattle.std.proofs.Common.{◌≡◌, ℕ, zero, suc, List, [], ◌∷◌, ◌++◌, drop, map, subst, take}
+use Rattle.std.{specs.List.{AllByRecursion}, specs.Prelude.{Some, slice_get}, proofs.Common.{◌≡◌, ℕ, zero, suc, List, [], ◌∷◌, ◌++◌, drop, map, subst, take}}
 
 -- a property of each element holds for any one of them
 pub one_of : {A : Type 0} (P : A → Type 0) (before after : List A) (x : A) → AllByRecursion P (before ++ x ∷ after) → P x

@@ -1,9 +1,7 @@
 -- Entries of a list.
+use Rattle.std.{specs.Prelude.{Contains, Some, slice_get, slice_index_or, slice_range}, specs.List.{AllByRecursion, AllZip, flat_map}}
 use Rattle.std.proofs.Common.{◌≡◌, ℕ, zero, suc, ◌+◌, ◌-◌, ◌<◌, ◌≤◌, List, [], ◌∷◌, ◌++◌, length, get_or, map, take, drop, refl, sym, ap, subst, arith, inl, inr, ◌⊎◌, add-one, drop-cons}
-use Rattle.std.specs.Prelude.{Contains, Some, slice_get, slice_index_or, slice_range}
-use Rattle.std.specs.List.{AllByRecursion, AllZip, flat_map}
-use Rattle.std.proofs.lemmas.List.{take_all}
-use Rattle.std.proofs.lemmas.List.Elements.{Contains-append_cases, Contains-append_left, Contains-append_right}
+use Rattle.std.{proofs.lemmas.List.{take_all}, proofs.lemmas.List.Elements.{Contains-append_cases, Contains-append_left, Contains-append_right}}
 
 pub first_in : {A : Type 0} (y : A) (ys : List A) → Contains (y ∷ ys) y
 first_in y ys = (0, omega arith, refl)

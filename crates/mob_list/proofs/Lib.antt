@@ -3,3 +3,6 @@ pub mod Entries
 pub mod Changing
 pub mod Faults
 pub mod Tests
+pub mod Rising
+pub mod Among
+pub mod Left

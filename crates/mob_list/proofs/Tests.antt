@@ -1,6 +1,5 @@
 -- Tests, and options by a test.
-use Rattle.std.proofs.Common.{◌≡◌, Bool, true, false, ◌&&◌, Option, Some, None, refl, sym, true≢false}
-use Rattle.std.specs.Prelude.{is_some}
+use Rattle.std.{specs.Prelude.{is_some}, proofs.Common.{◌≡◌, Bool, true, false, ◌&&◌, Option, Some, None, refl, sym, true≢false}}
 
 pub some_of : {X : Type 0} (o : Option X) → is_some o ≡ true → (x : X) × (o ≡ Some x)
 some_of None h = absurd (true≢false (sym h))

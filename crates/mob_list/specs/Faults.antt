@@ -1,6 +1,5 @@
 -- Why a call gave no answer.
-use Rattle.mob_list.specs.declared.fault.Fault.{Fault}
-use Rattle.mob_list.specs.declared.fault.Fault.TheVariants.{Because, NoMemory}
+use Rattle.mob_list.{specs.declared.fault.Fault.{Fault}, specs.declared.fault.Fault.TheVariants.{Because, NoMemory}}
 
 -- what holds of the cause of a fault; out of memory has none
 abbrev pub OnCause : {C : Type 0} → (C → Type 0) → Fault C → Type 0

@@ -1,18 +1,11 @@
 -- Texts whose first byte fails a test. The printed text of a temporal value is one if its values
 -- are.
-use Rattle.std.proofs.Common.{◌≡◌, ℕ, ℤ, List, [], ◌∷◌, ◌++◌, codes, Bool, true, false, cond, refl, sym, ap, subst}
-use Rattle.std.specs.Prelude.{not, Contains}
-use Rattle.std.specs.List.{list_all}
-use Rattle.mob_language.specs.Language.{Text, Language}
-use Rattle.mob_language.proofs.Exact.{Stops}
-use Rattle.mob_language.proofs.Heads.{NoHead, HasByte}
+use Rattle.std.{specs.Prelude.{not, Contains}, specs.List.{list_all}, proofs.Common.{◌≡◌, ℕ, ℤ, List, [], ◌∷◌, ◌++◌, codes, Bool, true, false, cond, refl, sym, ap, subst}}
+use Rattle.mob_language.{specs.Language.{Text, Language}, proofs.Exact.{Stops}, proofs.Heads.{NoHead, HasByte}}
 use Rattle.mob_list.proofs.Entries.{first_in}
-use Rattle.mob_slice.specs.declared.slice.Slice.{Slice}
-use Rattle.mob_slice.specs.CourseOf.{CourseOf}
-use Rattle.mob_written.specs.Printed.{Style, is_long, neighbour_groups, start_text, groups_text, set_text, moving_text}
-use Rattle.mob_written.specs.Style.{style_of}
-use Rattle.mob_literal.specs.Readable.{IsReadable}
-use Rattle.mob_literal.proofs.GroupSlices.{AllHoldTogether, are_groups}
+use Rattle.mob_slice.{specs.declared.slice.Slice.{Slice}, specs.CourseOf.{CourseOf}}
+use Rattle.mob_written.{specs.Printed.{Style, is_long, neighbour_groups, start_text, groups_text, set_text, moving_text}, specs.Style.{style_of}}
+use Rattle.mob_literal.{specs.Readable.{IsReadable}, proofs.GroupSlices.{AllHoldTogether, are_groups}}
 
 pub record IsBegun (test : ℕ → Bool) (text : Text) : Type 0 where
   pub first : ℕ

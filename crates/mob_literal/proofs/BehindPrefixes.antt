@@ -1,39 +1,26 @@
 -- A printed temporal value reads back as itself after each of the prefixes that its type admits.
-use Rattle.std.proofs.Common.{◌≡◌, ℕ, ℤ, List, [], ◌∷◌, ◌++◌, Bool, true, false, Option, Some, Ok, refl, sym, ap, subst, ◌∙◌}
-use Rattle.std.specs.Prelude.{nat_eq, Contains}
-use Rattle.std.specs.Char.{to_ascii_lowercase}
+use Rattle.std.{specs.Prelude.{nat_eq, Contains}, specs.Char.{to_ascii_lowercase}, proofs.Common.{◌≡◌, ℕ, ℤ, List, [], ◌∷◌, ◌++◌, Bool, true, false, Option, Some, Ok, refl, sym, ap, subst, ◌∙◌}}
 use Rattle.std.proofs.lemmas.Bool.{and_right, or_parts}
-use Rattle.mob_language.specs.Language.{Text, Language}
-use Rattle.mob_language.proofs.Exact.{Stops}
-use Rattle.mob_language.proofs.Heads.{stops_less, HasByte}
+use Rattle.mob_language.{specs.Language.{Text, Language}, proofs.Exact.{Stops}, proofs.Heads.{stops_less, HasByte}}
 use Rattle.mob_list.proofs.Entries.{first_in}
-use Rattle.mob_slice.specs.declared.slice.Slice.{Slice}
-use Rattle.mob_slice.specs.CourseOf.{CourseOf}
+use Rattle.mob_slice.{specs.declared.slice.Slice.{Slice}, specs.CourseOf.{CourseOf}}
 use Rattle.mob_numeral.specs.Verdict.{Lit}
-use Rattle.mob_written.specs.declared.written.Prefixes.{Prefixes}
-use Rattle.mob_written.specs.Prefix.{Prefix, interpolation, reference, without, ArePrefixes, admitted, remaining, says_step, is_first, begins_prefix}
-use Rattle.mob_written.specs.declared.written.Literal.{Literal}
-use Rattle.mob_written.specs.Literal.{Prefixed, literal}
-use Rattle.mob_written.specs.Printed.{moving_text}
-use Rattle.mob_written.specs.Style.{style_of}
-use Rattle.mob_literal.specs.Readable.{AreLevel, IsReadAgain, IsReadable}
-use Rattle.mob_literal.specs.Sound.{literals}
-use Rattle.mob_literal.proofs.Drawn.{IsLawful}
-use Rattle.mob_literal.proofs.Begun.{IsBegun, IsNoSign, begun_by, begun_stops, moving_begun}
+use Rattle.mob_written.{specs.declared.written.Prefixes.{Prefixes}, specs.Prefix.{Prefix, interpolation, reference, without_text, ArePrefixes, admitted, remaining, says_step, is_first, begins_prefix}}
+use Rattle.mob_written.{specs.declared.written.Literal.{Literal}, specs.Literal.{Prefixed, literal}, specs.Printed.{moving_text}, specs.Style.{style_of}, proofs.Small.{false_true}}
+use Rattle.mob_literal.{specs.Readable.{AreLevel, IsReadAgain, IsReadable}, specs.Sound.{literals}, proofs.Drawn.{IsLawful}, proofs.Begun.{IsBegun, IsNoSign, begun_by, begun_stops, moving_begun}}
 use Rattle.mob_literal.proofs.MovingAgain.{moving_again}
-use Rattle.mob_written.proofs.Small.{false_true}
 
 none_first : (letter c : ℕ) → is_first letter false c ≡ false
 none_first letter c = and_right (nat_eq (to_ascii_lowercase c) letter) false refl
 
 -- fewer prefixes have fewer first letters
-fewer_first : (p : Prefix) (a : Prefixes) (c : ℕ) → begins_prefix a c ≡ false → begins_prefix (without p a) c ≡ false
+fewer_first : (p : Prefix) (a : Prefixes) (c : ℕ) → begins_prefix a c ≡ false → begins_prefix (without_text p a) c ≡ false
 fewer_first interpolation a c h = let k = or_parts (is_first 105 a.step c) (is_first 115 a.srid c) h in rw (none_first 105 c, k.1) refl
 fewer_first reference a c h = let k = or_parts (is_first 105 a.step c) (is_first 115 a.srid c) h in rw (k.0, none_first 115 c) refl
 
 left_first : (before : List Prefix) (a : Prefixes) (c : ℕ) → begins_prefix a c ≡ false → begins_prefix (remaining a before) c ≡ false
 left_first [] a c h = h
-left_first (p ∷ before) a c h = left_first before (without p a) c (fewer_first p a c h)
+left_first (p ∷ before) a c h = left_first before (without_text p a) c (fewer_first p a c h)
 
 pub prefix_signs : (a : Prefixes) → IsNoSign (begins_prefix a)
 prefix_signs a = record { brace = refl; included = refl; left_out = refl }

@@ -1,10 +1,7 @@
 -- What the laws of courses say of courses between written values.
-use Rattle.std.proofs.Common.{◌≡◌, Bool, true, false, List, refl, ◌∙◌}
-use Rattle.std.specs.Prelude.{IsTrue, ◌↔◌}
-use Rattle.mob_ratio.specs.Ratio.{Ratio}
-use Rattle.mob_ratio.specs.Order.{before}
-use Rattle.mob_slice.specs.Course.{IsCourse}
-use Rattle.mob_slice.specs.CourseOf.{CourseOf, plain_course}
+use Rattle.std.{specs.Prelude.{IsTrue, ◌↔◌}, proofs.Common.{◌≡◌, Bool, true, false, List, refl, ◌∙◌}}
+use Rattle.mob_ratio.{specs.Ratio.{Ratio}, specs.Order.{before}}
+use Rattle.mob_slice.{specs.Course.{IsCourse}, specs.CourseOf.{CourseOf, plain_course}}
 use Rattle.mob_literal.specs.Slices.{drawn, arrives}
 
 -- the laws that the texts of a course need

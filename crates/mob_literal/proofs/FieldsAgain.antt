@@ -1,42 +1,25 @@
 -- The field of a value reads back as that value.
-use Rattle.std.proofs.Common.{◌≡◌, ℕ, ℤ, List, [], ◌∷◌, Bool, true, false, cond, Option, Some, None, refl, sym, subst, true≢false, Ok, rules}
-use Rattle.std.specs.Prelude.{nat_eq, is_some, ◌&&◌, ◌||◌}
+use Rattle.std.{specs.Prelude.{nat_eq, is_some, ◌&&◌, ◌||◌}, proofs.Common.{◌≡◌, ℕ, ℤ, List, [], ◌∷◌, Bool, true, false, cond, Option, Some, None, refl, sym, subst, true≢false, Ok, rules}}
 use Rattle.std.proofs.lemmas.Bool.{and_parts as both, eqb-true}
 use Rattle.mob_ratio.specs.Ratio.{Ratio}
 use Rattle.mob_frac.specs.Fits.{Fits}
-use Rattle.mob_geotext.specs.BoxText.{box_text, dimensions_text}
-use Rattle.mob_geotext.specs.PolygonText.{polygon_text}
-use Rattle.mob_geotext.specs.SpanText.{span_text, span_set_text}
-use Rattle.mob_language.specs.Language.{Text, is_digit, is_number_sign, is_exponent_letter}
-use Rattle.mob_language.proofs.Heads.{Apart}
+use Rattle.mob_geotext.{specs.BoxText.{box_text, dimensions_text}, specs.PolygonText.{polygon_text}, specs.SpanText.{span_text, span_set_text}}
+use Rattle.mob_language.{specs.Language.{Text, is_digit, is_number_sign, is_exponent_letter}, proofs.Heads.{Apart}}
 use Rattle.mob_plane.specs.declared.point.Point.{Point}
 use Rattle.mob_points.specs.PointText.{point_text}
 use Rattle.mob_span.specs.Span.{SpanOf}
-use Rattle.mob_stbox.specs.Boxes.{BoxOf, is_box, area_stands, span_stands}
-use Rattle.mob_stbox.specs.declared.area.Area.{Area}
-use Rattle.mob_slice.specs.declared.slice.Slice.{Slice}
-use Rattle.mob_slice.specs.CourseOf.{CourseOf}
+use Rattle.mob_stbox.{specs.Boxes.{BoxOf, is_box, area_stands, span_stands}, specs.declared.area.Area.{Area}}
+use Rattle.mob_slice.{specs.declared.slice.Slice.{Slice}, specs.CourseOf.{CourseOf}}
 use Rattle.mob_ast.specs.declared.types.SqlType.{SqlType}
-use Rattle.mob_ast.specs.declared.types.SqlType.TheVariants as sql
 use Rattle.mob_value.specs.declared.value.Value.{Value}
-use Rattle.mob_value.specs.declared.value.Value.TheVariants as value
-use Rattle.mob_numeral.specs.NumberText.{number_text}
-use Rattle.mob_scalar.specs.MomentText.{moment_text}
-use Rattle.mob_scalar.specs.Truth.{truth_text}
-use Rattle.mob_scalar.specs.Quoted.{quoted_text}
-use Rattle.mob_numeral.proofs.Again.{number_plain}
-use Rattle.mob_scalar.proofs.MomentAgain.{moment_plain}
-use Rattle.mob_numeral.proofs.WholeTexts.{number_head, number_byte}
-use Rattle.mob_scalar.proofs.WholeTexts.{moment_head, moment_byte}
-use Rattle.mob_written.specs.Printed.{moving_text}
-use Rattle.mob_written.specs.Style.{style_of}
-use Rattle.mob_scalar.specs.MomentText.{IsDated}
-use Rattle.mob_literal.specs.Readable.{IsReadable}
-use Rattle.mob_literal.specs.SqlReadable.{IsReadableAs}
-use Rattle.mob_literal.specs.SqlText.{SaysAs}
+use Rattle.mob_numeral.{specs.NumberText.{number_text}, proofs.Again.{number_plain}, proofs.WholeTexts.{number_head, number_byte}}
+use Rattle.mob_scalar.{specs.MomentText.{moment_text, IsDated}, specs.Truth.{truth_text}, specs.Quoted.{quoted_text}, proofs.MomentAgain.{moment_plain}, proofs.WholeTexts.{moment_head, moment_byte}}
+use Rattle.mob_written.{specs.Printed.{moving_text}, specs.Style.{style_of}}
+use Rattle.mob_literal.{specs.Readable.{IsReadable}, specs.SqlReadable.{IsReadableAs}, specs.SqlText.{SaysAs}}
 use Rattle.mob_literal.specs.Fields.{is_null_text, is_empty, is_null_field, doubled, undoubled, text_of_field, field_text}
-use Rattle.mob_literal.proofs.Begun.{IsBegun, IsNoSign, begun_front, begun_said, bracket_begun, readable_begun}
-use Rattle.mob_literal.proofs.SqlAgain.{value_again}
+use Rattle.mob_literal.{proofs.Begun.{IsBegun, IsNoSign, begun_front, begun_said, bracket_begun, readable_begun}, proofs.SqlAgain.{value_again}}
+use Rattle.mob_ast.specs.declared.types.SqlType.TheVariants as sql
+use Rattle.mob_value.specs.declared.value.Value.TheVariants as value
 
 -- ---- texts that do not begin with a backslash
 

@@ -1,28 +1,17 @@
 -- The slices of sound sequences, one sequence after another.
+use Rattle.std.{specs.Prelude.{◌&&◌, ◌||◌, not, ◌↔◌, slice_get}, specs.List.{list_all}}
 use Rattle.std.proofs.Common.{◌≡◌, true≢false, suc, ◌-◌, List, [], ◌∷◌, ◌++◌, length, Bool, true, false, cond, Option, Some, None, refl, sym, subst, ◌∙◌, arith, option_map, inl, inr}
 use Rattle.std.proofs.lemmas.Bool.{and_parts as both}
-use Rattle.std.specs.Prelude.{◌&&◌, ◌||◌, not, ◌↔◌, slice_get}
-use Rattle.std.specs.List.{list_all}
-use Rattle.mob_span.proofs.FirstOf.{or_else}
+use Rattle.mob_span.{specs.Span.{has}, proofs.FirstOf.{or_else}}
 use Rattle.mob_language.specs.Readers.{◌>>=◌}
-use Rattle.mob_ratio.specs.Ratio.{Ratio}
-use Rattle.mob_ratio.specs.Order.{before, up_to}
-use Rattle.mob_ratio.proofs.Order.{before-self}
+use Rattle.mob_ratio.{specs.Ratio.{Ratio}, specs.Order.{before, up_to}, proofs.Order.{before-self}}
 use Rattle.mob_list.proofs.Entries.{first_in, later_in, none_in, which_in}
-use Rattle.mob_span.specs.Span.{has}
-use Rattle.mob_slice.specs.declared.slice.Slice.{Slice}
-use Rattle.mob_slice.specs.CourseOf.{CourseOf}
-use Rattle.mob_slice.specs.Slices.{IsSound, IsOrdered, IsClearOf, OfHead, value_at}
-use Rattle.mob_normal.proofs.Regions.{is_left, left_has, left_clear, in_left}
-use Rattle.mob_normal.proofs.Runs.{value_at-append}
-use Rattle.mob_written.specs.declared.written.Written.{Written}
-use Rattle.mob_written.specs.declared.written.Sequence.{Sequence}
-use Rattle.mob_literal.specs.Sequences.{rises, SequenceAt}
-use Rattle.mob_literal.specs.Slices.{slices_of, made, stretch, instant_slice, arrives}
-use Rattle.mob_literal.specs.Sound.{ends_level, is_closed_alone, is_sound_sequence, clear_ends, is_before, are_in_order, is_sound, LitAt}
-use Rattle.mob_literal.specs.Flat.{made_sequence, made_all}
-use Rattle.mob_literal.proofs.Drawn.{IsLawful}
-use Rattle.mob_literal.proofs.SequenceLemmas.{slices_sequence, sequence_slices}
+use Rattle.mob_slice.{specs.declared.slice.Slice.{Slice}, specs.CourseOf.{CourseOf}, specs.Slices.{IsSound, IsRisingInTime, IsClearOf, OfHead, value_at}}
+use Rattle.mob_lift.{proofs.Regions.{is_left, left_has, left_clear, in_left}, proofs.Runs.{value_at-append}}
+use Rattle.mob_written.{specs.declared.written.Written.{Written}, specs.declared.written.Sequence.{Sequence}}
+use Rattle.mob_literal.{specs.Sequences.{rises, SequenceAt}, specs.Slices.{slices_of, made, stretch, instant_slice, arrives}}
+use Rattle.mob_literal.{specs.Sound.{ends_level, is_closed_alone, is_sound_sequence, clear_ends, is_before, are_in_order, is_sound, LitAt}, specs.Flat.{made_sequence, made_all}}
+use Rattle.mob_literal.{proofs.Drawn.{IsLawful}, proofs.SequenceLemmas.{slices_sequence, sequence_slices}}
 
 -- ---- a sequence has slices exactly if it is sound
 
@@ -119,7 +108,7 @@ tail_of : {C B : Type 0} (upper : Bool) (i j : Written B) (is : List (Written B)
 tail_of upper i j is [] h = tt
 tail_of upper i j is (r ∷ rest) h = h
 
-ordered_then : {C B : Type 0} (course : CourseOf C B) → IsLawful course → (step lower : Bool) (is : List (Written B)) (upper : Bool) (tail : List (Slice C)) → rises is ≡ true → starts lower is ≡ true → TailAfter upper is tail → IsOrdered course.start course.end tail → IsOrdered course.start course.end (slices_of course step lower is upper ++ tail)
+ordered_then : {C B : Type 0} (course : CourseOf C B) → IsLawful course → (step lower : Bool) (is : List (Written B)) (upper : Bool) (tail : List (Slice C)) → rises is ≡ true → starts lower is ≡ true → TailAfter upper is tail → IsRisingInTime course.start course.end tail → IsRisingInTime course.start course.end (slices_of course step lower is upper ++ tail)
 ordered_then course laws step lower [] upper tail up first after ordered = ordered
 ordered_then course laws step true (i ∷ []) true tail up first after ordered = (sound_point course laws i, head_point course i tail after, ordered)
 ordered_then course laws step false (i ∷ []) true tail up first after ordered = absurd cc
@@ -180,7 +169,7 @@ sound_in {C} {B} has_value course step q h =
     begins lower (i ∷ []) upper e = (both lower upper e).0
     begins lower (i ∷ j ∷ is) upper e = refl
 
-flat_ordered : {C B : Type 0} (has_value : B → Bool) (course : CourseOf C B) → IsLawful course → (step : Bool) (qs : List (Sequence (Written B))) → are_in_order qs ≡ true → list_all (is_sound_sequence has_value course step) qs ≡ true → IsOrdered course.start course.end (flat course step qs)
+flat_ordered : {C B : Type 0} (has_value : B → Bool) (course : CourseOf C B) → IsLawful course → (step : Bool) (qs : List (Sequence (Written B))) → are_in_order qs ≡ true → list_all (is_sound_sequence has_value course step) qs ≡ true → IsRisingInTime course.start course.end (flat course step qs)
 unfolding flat
 flat_ordered has_value course laws step [] order sound = tt
 flat_ordered has_value course laws step (q ∷ []) order sound =
@@ -197,7 +186,7 @@ flat_ordered has_value course laws step (q ∷ r ∷ qs) order sound =
 
 module _ {C B : Type 0} (course : CourseOf C B) where
   abbrev pub Ordered : List (Slice C) → Type 0
-  Ordered slices = IsOrdered course.start course.end slices
+  Ordered slices = IsRisingInTime course.start course.end slices
 
   none_left : (t : Ratio) (b : Slice C) (rest : List (Slice C)) → Ordered (b ∷ rest) → is_left t b.span ≡ true → value_at course.value (b ∷ rest) t ≡ None
   none_left t b [] n h = rw (left_has t b.span h) refl
@@ -256,7 +245,7 @@ module _ {C B : Type 0} (course : CourseOf C B) where
 
 -- the slices of sound sequences are ordered and have the values of the sequences
 pub record IsFlat {C B : Type 0} (course : CourseOf C B) (step : Bool) (qs : List (Sequence (Written B))) (slices : List (Slice C)) : Type 0 where
-  pub ordered : IsOrdered course.start course.end slices
+  pub ordered : IsRisingInTime course.start course.end slices
   pub same : (t : Ratio) (v : B) → (value_at course.value slices t ≡ Some v) ↔ LitAt course step qs t v
 
 pub is_flat : {C B : Type 0} (has_value : B → Bool) (course : CourseOf C B) → IsLawful course → (step : Bool) → (step ≡ false → course.steady ≡ false) → (qs : List (Sequence (Written B))) → is_sound has_value course step qs ≡ true → IsFlat course step qs (flat course step qs)

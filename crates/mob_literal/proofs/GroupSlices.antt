@@ -1,28 +1,17 @@
 -- The written instants of the groups of slices: they are sound sequences, and define the values of
 -- the slices.
+use Rattle.std.{specs.Prelude.{◌&&◌, ◌||◌, not, slice_get}, specs.List.{AllByRecursion, list_all}}
 use Rattle.std.proofs.Common.{◌≡◌, suc, ◌-◌, List, [], ◌∷◌, ◌++◌, length, map, Bool, true, false, cond, Option, Some, None, refl, sym, ap, subst, ◌∙◌, arith, inl, inr, ◌⊎◌}
 use Rattle.std.proofs.lemmas.Bool.{and_parts as both, and_from as and, not-true as not_true}
-use Rattle.std.specs.Prelude.{◌&&◌, ◌||◌, not, slice_get}
-use Rattle.std.specs.List.{AllByRecursion, list_all}
 use Rattle.mob_list.proofs.Each.{each_parts}
-use Rattle.mob_span.proofs.FirstOf.{or_else}
-use Rattle.mob_ratio.specs.Ratio.{Ratio}
-use Rattle.mob_ratio.specs.Order.{before, up_to, same}
-use Rattle.mob_ratio.proofs.Order.{before-back, before-neither, same_exact}
-use Rattle.mob_span.specs.Span.{has, has_instant}
-use Rattle.mob_slice.specs.declared.slice.Slice.{Slice}
-use Rattle.mob_slice.specs.CourseOf.{CourseOf}
-use Rattle.mob_slice.specs.Slices.{value_at}
-use Rattle.mob_normal.proofs.Runs.{value_at-append}
-use Rattle.mob_written.specs.declared.written.Written.{Written}
-use Rattle.mob_written.specs.declared.written.Sequence.{Sequence}
-use Rattle.mob_literal.specs.Sequences.{rises}
-use Rattle.mob_literal.specs.Slices.{slices_of, stretch, drawn}
-use Rattle.mob_literal.specs.Sound.{ends_level, is_closed_alone, is_sound_sequence, clear_ends, is_before, are_in_order, is_sound}
-use Rattle.mob_written.specs.Printed.{is_long, takes_up, shares_group, neighbour_groups, put_in_group}
-use Rattle.mob_literal.proofs.Drawn.{IsLawful, drawn_again, arrives_again}
-use Rattle.mob_literal.proofs.FlatLemmas.{flat, Ordered, ordered_rest}
+use Rattle.mob_span.{specs.Span.{has, has_instant}, proofs.FirstOf.{or_else}}
+use Rattle.mob_ratio.{specs.Ratio.{Ratio}, specs.Order.{before, up_to, same}, proofs.Order.{before-back, before-neither, same_exact}}
+use Rattle.mob_slice.{specs.declared.slice.Slice.{Slice}, specs.CourseOf.{CourseOf}, specs.Slices.{value_at}}
+use Rattle.mob_lift.proofs.Runs.{value_at-append}
+use Rattle.mob_written.{specs.declared.written.Written.{Written}, specs.declared.written.Sequence.{Sequence}, specs.Printed.{is_long, takes_up, shares_group, neighbour_groups, put_in_group}}
 use Rattle.mob_written.proofs.Small.{false_true}
+use Rattle.mob_literal.{specs.Sequences.{rises}, specs.Slices.{slices_of, stretch, drawn}, specs.Sound.{ends_level, is_closed_alone, is_sound_sequence, clear_ends, is_before, are_in_order, is_sound}}
+use Rattle.mob_literal.{proofs.Drawn.{IsLawful, drawn_again, arrives_again}, proofs.FlatLemmas.{flat, Ordered, ordered_rest}}
 
 -- the slices of all groups
 abbrev pub joined : {C : Type 0} → List (List (Slice C)) → List (Slice C)

@@ -1,29 +1,17 @@
 -- The printed text of slices is a literal with the sequences of their groups.
+use Rattle.std.{specs.Prelude.{◌&&◌, not, nat_eq}, specs.List.{AllByRecursion, list_all}}
 use Rattle.std.proofs.Common.{◌≡◌, ℤ, List, [], ◌∷◌, ◌++◌, map, codes, Bool, true, false, cond, Option, Some, refl, sym, ap, subst, ◌∙◌, append_assoc, inl, inr}
-use Rattle.std.specs.Prelude.{◌&&◌, not, nat_eq}
-use Rattle.std.specs.List.{AllByRecursion, list_all}
 use Rattle.mob_list.proofs.Each.{each_parts}
-use Rattle.mob_ratio.specs.Ratio.{Ratio}
-use Rattle.mob_ratio.specs.Order.{same}
-use Rattle.mob_language.specs.Language.{Text, Separated}
-use Rattle.mob_language.proofs.Exact.{Stops}
-use Rattle.mob_language.proofs.Heads.{within_said}
-use Rattle.mob_scalar.specs.MomentText.{moment_text}
-use Rattle.mob_scalar.proofs.BracketsSaid.{opening_said, closing_said, Each, listed_said, within_braces_said, IsMomentSaid}
-use Rattle.mob_slice.specs.declared.slice.Slice.{Slice}
-use Rattle.mob_slice.specs.CourseOf.{CourseOf}
-use Rattle.mob_written.specs.declared.written.Written.{Written}
-use Rattle.mob_written.specs.declared.written.Noted.{Noted}
-use Rattle.mob_written.specs.declared.written.Sequence.{Sequence}
-use Rattle.mob_written.specs.declared.written.Literal.{Literal}
-use Rattle.mob_written.specs.declared.written.Prefixes.{Prefixes}
-use Rattle.mob_written.specs.Prefix.{Prefix, ArePrefixes, remaining, says_step, begins_prefix}
-use Rattle.mob_scalar.specs.Brackets.{comma, with_commas}
-use Rattle.mob_written.specs.Literal.{at_sign, noted, sequence, members, alone, literal, temporal}
-use Rattle.mob_written.specs.Printed.{Style, is_long, takes_up, neighbour_groups, put_in_group, instant_text, instants_of, start_text, opening_text, closing_text, group_text, groups_text, set_text, moving_text}
-use Rattle.mob_written.specs.Style.{style_of}
+use Rattle.mob_ratio.{specs.Ratio.{Ratio}, specs.Order.{same}}
+use Rattle.mob_language.{specs.Language.{Text, Separated}, proofs.Exact.{Stops}, proofs.Heads.{within_said}}
+use Rattle.mob_scalar.{specs.MomentText.{moment_text}, specs.Brackets.{comma, with_commas}, proofs.BracketsSaid.{opening_said, closing_said, Each, listed_said, within_braces_said, IsMomentSaid}}
+use Rattle.mob_slice.{specs.declared.slice.Slice.{Slice}, specs.CourseOf.{CourseOf}}
+use Rattle.mob_written.{specs.declared.written.Written.{Written}, specs.declared.written.Noted.{Noted}, specs.declared.written.Sequence.{Sequence}, specs.declared.written.Literal.{Literal}}
+use Rattle.mob_written.{specs.declared.written.Prefixes.{Prefixes}, specs.Prefix.{Prefix, ArePrefixes, remaining, says_step, begins_prefix}}
+use Rattle.mob_written.specs.Literal.{at_sign, noted, sequence, set_members, alone, literal, temporal}
+use Rattle.mob_written.specs.Printed.{Style, is_long, takes_up, neighbour_groups, put_in_group, instant_text, instants_of, start_text, opening_text, closing_text, group_text, groups_text, set_text}
+use Rattle.mob_written.{specs.Printed.{moving_text}, specs.Style.{style_of}, proofs.Small.{false_true}}
 use Rattle.mob_literal.proofs.GroupSlices.{start_of, end_of, more, upper_of, sequence_of, AllHoldTogether, are_groups, joined}
-use Rattle.mob_written.proofs.Small.{false_true}
 
 -- ---- the printed sign
 
@@ -155,7 +143,7 @@ module _ {C B : Type 0} (course : CourseOf C B) (day : ℤ) (value : Text → Op
   groups_literal [] some h = absurd (some refl)
   groups_literal (group ∷ []) some h = inr (inl (record { meant = noted_of_group course group; said = h.0; is = refl }))
   groups_literal (group ∷ next ∷ groups) some h =
-      inl (within_braces_said {l = members entry} (with_commas (map (group_text style) (group ∷ next ∷ groups))) (map (noted_of_group course) (group ∷ next ∷ groups)) (inl (listed_said (sequence entry) (group_text style) (noted_of_group course) group (next ∷ groups) h)))
+      inl (within_braces_said {l = set_members entry} (with_commas (map (group_text style) (group ∷ next ∷ groups))) (map (noted_of_group course) (group ∷ next ∷ groups)) (inl (listed_said (sequence entry) (group_text style) (noted_of_group course) group (next ∷ groups) h)))
 
   -- ---- single instants
 
@@ -191,7 +179,7 @@ module _ {C B : Type 0} (course : CourseOf C B) (day : ℤ) (value : Text → Op
   set_literal [] some h = absurd (some refl)
   set_literal (s ∷ []) some h = inr (inr (record { meant = start_note s; said = start_said s h.0; is = refl }))
   set_literal (s ∷ r ∷ rest) some h =
-      inl (within_braces_said {l = members entry} (with_commas (map (start_text style) (s ∷ r ∷ rest))) (map alone (map start_note (s ∷ r ∷ rest)))
+      inl (within_braces_said {l = set_members entry} (with_commas (map (start_text style) (s ∷ r ∷ rest))) (map alone (map start_note (s ∷ r ∷ rest)))
       (inr (record { meant = map start_note (s ∷ r ∷ rest); said = listed_said entry (start_text style) start_note s (r ∷ rest) (starts_said (s ∷ r ∷ rest) h); is = refl })))
 
   -- ---- all of a text

@@ -1,23 +1,13 @@
 -- Examples, worked by hand: texts of numbers and points that change linearly. Here a number prints
 -- as its digit, a point as the digits of its coordinates in brackets, and a moment as the word day
 -- and the number of the day.
-use Rattle.std.proofs.Common.{◌≡◌, ℕ, ◌+◌, [], ◌∷◌, ◌++◌, Bool, true, false, Option, Some, None, codes, refl, nat_abs}
-use Rattle.std.specs.Prelude.{option_map, List}
-use Rattle.mob_ratio.specs.Ratio.{Ratio}
-use Rattle.mob_ratio.specs.Order.{before, same}
+use Rattle.std.{specs.Prelude.{option_map, List}, proofs.Common.{◌≡◌, ℕ, ◌+◌, [], ◌∷◌, ◌++◌, Bool, true, false, Option, Some, None, codes, refl, nat_abs}}
+use Rattle.mob_ratio.{specs.Ratio.{Ratio}, specs.Order.{before, same}}
 use Rattle.mob_language.specs.Language.{Text}
 use Rattle.mob_plane.specs.declared.point.Point.{Point}
-use Rattle.mob_slice.specs.declared.slice.Slice.{Slice}
-use Rattle.mob_slice.specs.declared.line.Line.{Line}
-use Rattle.mob_slice.specs.declared.line.PlaneLine.{PlaneLine}
-use Rattle.mob_slice.specs.CourseOf.{line_course, plane_course}
-use Rattle.mob_written.specs.declared.written.Written.{Written}
-use Rattle.mob_written.specs.declared.written.Sequence.{Sequence}
-use Rattle.mob_written.specs.Printed.{Style, moving_text}
-use Rattle.mob_written.specs.Values.{any_value}
-use Rattle.mob_literal.specs.Flat.{made_all}
-use Rattle.mob_literal.specs.Sound.{fitting_all, is_sound}
-use Rattle.mob_literal.proofs.Rows.{day, first_day, second_day, third_day}
+use Rattle.mob_slice.{specs.declared.slice.Slice.{Slice}, specs.declared.line.Line.{Line}, specs.declared.line.PlaneLine.{PlaneLine}, specs.CourseOf.{line_course, plane_course}}
+use Rattle.mob_written.{specs.declared.written.Written.{Written}, specs.declared.written.Sequence.{Sequence}, specs.Printed.{Style, moving_text}, specs.Values.{any_value}}
+use Rattle.mob_literal.{specs.Flat.{made_all}, specs.Sound.{fitting_all, is_sound}, proofs.Rows.{day, first_day, second_day, third_day}}
 
 abbrev day_text : Ratio → Text
 day_text t = codes "day " ++ (48 + nat_abs t.num) ∷ []

@@ -1,17 +1,13 @@
 -- Examples of whole texts of a tgeompoint: which of them are literals. Each is decided by
 -- computation.
 use Rattle.jiff_core.specs.Calendar.{days_from_civil, day_count, days_of_years, days_of_months}
-use Rattle.std.proofs.Common.{◌≡◌, Bool, true, false, pos, codes, refl}
-use Rattle.std.specs.Prelude.{is_some}
-use Rattle.mob_language.specs.Language.{Text}
-use Rattle.mob_language.specs.Readers.{all_of, items_at, separated_at}
-use Rattle.mob_numeral.specs.Blanks.{some_blanks_at}
-use Rattle.mob_numeral.specs.Fitting.{number_value_at}
+use Rattle.std.{specs.Prelude.{is_some}, proofs.Common.{◌≡◌, Bool, true, false, pos, codes, refl}}
+use Rattle.mob_language.{specs.Language.{Text}, specs.Readers.{all_of, items_at, separated_at}}
+use Rattle.mob_numeral.{specs.Blanks.{some_blanks_at}, specs.Fitting.{number_value_at}}
 use Rattle.mob_numeral.specs.NumberReaders.{numeral_at, sign_at, digits_at, tail_at, over_at, decimal_at, point_at, exponent_at, power_at}
-use Rattle.mob_scalar.specs.Brackets.{comma_at, opening_at, closing_at, open_brace_at, close_brace_at}
-use Rattle.mob_scalar.specs.CalendarReaders.{fixed_at, dash_at, date_at}
-use Rattle.mob_scalar.specs.MomentReaders.{two_digits_below_at, colon_at, decimals_at, below_at, quotient_at, second_part_at, seconds_at, clock_at, z_at, hours_at, zone_at, t_at, gap_at, time_at, moment_at}
-use Rattle.mob_scalar.specs.Moment.{seconds}
+use Rattle.mob_scalar.{specs.Brackets.{comma_at, opening_at, closing_at, open_brace_at, close_brace_at}, specs.CalendarReaders.{fixed_at, dash_at, date_at}}
+use Rattle.mob_scalar.specs.MomentReaders.{two_digits_below_at, colon_at, decimals_at, below_at, quotient_at, second_part_at, seconds_at, clock_at, z_at, hours_at, zone_at, t_at, gap_at, time_at}
+use Rattle.mob_scalar.{specs.MomentReaders.{moment_at}, specs.Moment.{seconds}}
 use Rattle.mob_points.specs.Points.{close_bracket_at, coordinates_at, written_point_at, srid_zero_at, behind_srid_at, point_value_at}
 use Rattle.mob_written.specs.Prefix.{admitted, prefix_at, one_prefix_at, prefixes_at}
 use Rattle.mob_written.specs.Literal.{at_sign_at, noted_at, instants_at, sequence_at, sequences_at, members_at, braced_at, temporal_literal_at, prefixed_at, temporal_at}

@@ -1,40 +1,18 @@
 -- The printed text of a tfrac or a tgeompoint reads back as that value: no part of it can be taken
 -- for a prefix.
 use Rattle.std.proofs.Common.{ℕ, ℤ, List, [], Bool, true, false, Option, Some, Ok, refl, rules}
-use Rattle.mob_ratio.specs.Ratio.{Ratio}
-use Rattle.mob_ratio.specs.Order.{same}
-use Rattle.mob_ratio.proofs.Order.{same_exact}
+use Rattle.mob_ratio.{specs.Ratio.{Ratio}, specs.Order.{same}, proofs.Order.{same_exact}}
 use Rattle.mob_frac.specs.Fits.{Fits}
-use Rattle.mob_language.specs.Language.{Text, is_digit, is_number_sign, is_exponent_letter}
-use Rattle.mob_language.proofs.Heads.{Apart}
-use Rattle.mob_plane.specs.Points.{same_point, same_point_exact}
-use Rattle.mob_plane.specs.declared.point.Point.{Point}
-use Rattle.mob_slice.specs.declared.slice.Slice.{Slice}
-use Rattle.mob_slice.specs.declared.line.Line.{Line}
-use Rattle.mob_slice.specs.declared.line.PlaneLine.{PlaneLine}
-use Rattle.mob_slice.specs.CourseOf.{CourseOf, line_course, plane_course}
-use Rattle.mob_slice.specs.LineLaws.{line_laws}
-use Rattle.mob_slice.specs.PlaneLaws.{plane_laws}
-use Rattle.mob_numeral.specs.Fitting.{number_value}
-use Rattle.mob_numeral.specs.NumberText.{number_text}
-use Rattle.mob_numeral.specs.Verdict.{Lit}
-use Rattle.mob_numeral.proofs.Again.{number_plain}
-use Rattle.mob_numeral.proofs.Fitted.{number_value_said}
+use Rattle.mob_language.{specs.Language.{Text, is_digit, is_number_sign, is_exponent_letter}, proofs.Heads.{Apart}}
+use Rattle.mob_plane.{specs.Points.{same_point, same_point_exact}, specs.declared.point.Point.{Point}}
+use Rattle.mob_slice.{specs.declared.slice.Slice.{Slice}, specs.declared.line.Line.{Line}, specs.declared.line.PlaneLine.{PlaneLine}, specs.CourseOf.{CourseOf, line_course, plane_course}}
+use Rattle.mob_slice.{specs.LineLaws.{line_laws}, specs.PlaneLaws.{plane_laws}}
+use Rattle.mob_numeral.{specs.Fitting.{number_value}, specs.NumberText.{number_text}, specs.Verdict.{Lit}, proofs.Again.{number_plain}, proofs.Fitted.{number_value_said}}
 use Rattle.mob_numeral.proofs.WholeTexts.{number_head, number_byte}
-use Rattle.mob_points.specs.Points.{point_value}
-use Rattle.mob_points.specs.PointText.{point_text}
-use Rattle.mob_points.proofs.PointsAgain.{point_plain, unreferenced}
-use Rattle.mob_written.specs.Prefix.{admitted, begins_prefix}
-use Rattle.mob_written.specs.Printed.{moving_text}
-use Rattle.mob_written.specs.Style.{style_of}
-use Rattle.mob_written.specs.Values.{any_value}
-use Rattle.mob_written.proofs.Small.{false_true}
-use Rattle.mob_literal.specs.Readable.{IsReadable, PointFits}
-use Rattle.mob_literal.specs.Sound.{literals}
-use Rattle.mob_literal.proofs.Begun.{IsBegun, begun_said, begun_stops, readable_begun}
-use Rattle.mob_literal.proofs.BehindPrefixes.{prefix_signs}
-use Rattle.mob_literal.proofs.Drawn.{IsLawful, lawful}
-use Rattle.mob_literal.proofs.MovingAgain.{moving_again}
+use Rattle.mob_points.{specs.Points.{point_value}, specs.PointText.{point_text}, proofs.PointsAgain.{point_plain, unreferenced}}
+use Rattle.mob_written.{specs.Prefix.{admitted, begins_prefix}, specs.Printed.{moving_text}, specs.Style.{style_of}, specs.Values.{any_value}, proofs.Small.{false_true}}
+use Rattle.mob_literal.{specs.Readable.{IsReadable, PointFits}, specs.Sound.{literals}, proofs.Begun.{IsBegun, begun_said, begun_stops, readable_begun}, proofs.BehindPrefixes.{prefix_signs}}
+use Rattle.mob_literal.{proofs.Drawn.{IsLawful, lawful}, proofs.MovingAgain.{moving_again}}
 
 -- a printed value reads back without a prefix if the text of none of its values begins as a prefix
 -- does

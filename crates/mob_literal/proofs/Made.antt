@@ -1,11 +1,8 @@
 -- The slices of a sequence as a loop makes them.
 use Rattle.std.proofs.Common.{◌≡◌, List, [], ◌∷◌, ◌++◌, Bool, true, false, Option, Some, None, refl, ap, ◌∙◌, arith, append_assoc, option_map}
-use Rattle.mob_ratio.specs.Ratio.{Ratio}
-use Rattle.mob_ratio.specs.Order.{before}
-use Rattle.mob_ratio.proofs.Order.{before-self}
+use Rattle.mob_ratio.{specs.Ratio.{Ratio}, specs.Order.{before}, proofs.Order.{before-self}}
 use Rattle.mob_span.specs.Span.{has_instant}
-use Rattle.mob_slice.specs.declared.slice.Slice.{Slice}
-use Rattle.mob_slice.specs.CourseOf.{CourseOf}
+use Rattle.mob_slice.{specs.declared.slice.Slice.{Slice}, specs.CourseOf.{CourseOf}}
 use Rattle.mob_written.specs.declared.written.Written.{Written}
 use Rattle.mob_literal.specs.Slices.{made, stretch, instant_slice, arrives}
 use Rattle.mob_scalar.proofs.Traversed.{with_list}

@@ -1,46 +1,22 @@
 -- The printed text of a temporal value reads back as that value.
-use Rattle.std.proofs.Common.{◌≡◌, ℕ, ℤ, ◌+◌, ◌≤◌, List, [], ◌∷◌, ◌++◌, length, map, Bool, true, false, Option, Some, Ok, refl, sym, ap, subst, ◌∙◌, arith, inl}
-use Rattle.std.specs.Prelude.{◌↔◌, IsTrue, Contains, MatchOption, not, nat_eq, nat_lt}
-use Rattle.std.specs.Char.{to_ascii_lowercase}
-use Rattle.std.specs.List.{list_all}
-use Rattle.mob_ratio.specs.Ratio.{Ratio}
-use Rattle.mob_ratio.specs.Order.{same}
-use Rattle.mob_ratio.proofs.Order.{same_exact}
-use Rattle.mob_slice.specs.Sameness.{same_bytes, same_bytes_exact}
-use Rattle.mob_language.specs.Language.{Text}
-use Rattle.mob_language.proofs.Exact.{Stops}
-use Rattle.mob_slice.specs.declared.slice.Slice.{Slice}
-use Rattle.mob_slice.specs.declared.steady.Steady.{Steady}
-use Rattle.mob_slice.specs.CourseOf.{CourseOf, steady_course}
-use Rattle.mob_slice.specs.SteadyLaws.{steady_laws}
-use Rattle.mob_slice.specs.Slices.{OfHead, IsClearOf, AreNormal, IsNormalPair, value_at}
-use Rattle.mob_numeral.specs.Verdict.{Lit}
-use Rattle.mob_scalar.specs.Truth.{truth_text}
-use Rattle.mob_numeral.specs.NumberText.{number_text}
-use Rattle.mob_scalar.specs.Quoted.{quoted_text}
-use Rattle.std.proofs.lemmas.List.{length-map}
+use Rattle.std.{specs.Prelude.{◌↔◌, IsTrue, Contains, MatchOption, not, nat_eq, nat_lt}, specs.Char.{to_ascii_lowercase}, specs.List.{list_all}}
+use Rattle.std.{proofs.Common.{◌≡◌, ℕ, ℤ, ◌+◌, ◌≤◌, List, [], ◌∷◌, ◌++◌, length, map, Bool, true, false, Option, Some, Ok, refl, sym, ap, subst, ◌∙◌, arith, inl}, proofs.lemmas.List.{length-map}}
 use Rattle.std.proofs.lemmas.Bool.{and_parts as both, and_right, not-true as not_true}
+use Rattle.mob_ratio.{specs.Ratio.{Ratio}, specs.Order.{same}, proofs.Order.{same_exact}}
+use Rattle.mob_slice.{specs.Sameness.{same_bytes, same_bytes_exact}, specs.declared.slice.Slice.{Slice}, specs.declared.steady.Steady.{Steady}, specs.CourseOf.{CourseOf, steady_course}}
+use Rattle.mob_slice.{specs.SteadyLaws.{steady_laws}, specs.Slices.{OfHead, IsClearOf, AreNormal, IsNormalPair, value_at}}
+use Rattle.mob_language.{specs.Language.{Text}, proofs.Exact.{Stops}}
+use Rattle.mob_numeral.{specs.Verdict.{Lit}, specs.NumberText.{number_text}, specs.Fitting.{number_value}, proofs.Fitted.{number_value_said}}
+use Rattle.mob_scalar.{specs.Truth.{truth_text}, specs.Quoted.{quoted_text}, specs.Traverse.{traverse}, proofs.TruthAgain.{truth_plain}, proofs.BracketsSaid.{moment_said}}
 use Rattle.mob_list.proofs.Entries.{all_by_each}
 use Rattle.mob_span.specs.Flags.{same_bool, same_bool_exact}
-use Rattle.mob_numeral.proofs.Fitted.{number_value_said}
-use Rattle.mob_scalar.proofs.TruthAgain.{truth_plain}
-use Rattle.mob_scalar.proofs.BracketsSaid.{moment_said}
-use Rattle.mob_written.specs.declared.written.Written.{Written}
-use Rattle.mob_written.specs.declared.written.Sequence.{Sequence}
-use Rattle.mob_scalar.specs.Traverse.{traverse}
-use Rattle.mob_literal.specs.Sound.{instant_count, written_of, fitting_sequence, fitting_all, is_sound, Defines, literals, steps}
-use Rattle.mob_written.specs.Printed.{is_long, neighbour_groups, instants_of, moving_text}
-use Rattle.mob_written.specs.Style.{style_of}
-use Rattle.mob_numeral.specs.Fitting.{number_value}
-use Rattle.mob_written.specs.Values.{any_value, is_whole_number, truth_value, quoted_value}
-use Rattle.mob_written.specs.Prefix.{Prefix, ArePrefixes, admitted, remaining, says_step, begins_prefix}
-use Rattle.mob_literal.specs.Sequences.{is_step}
-use Rattle.mob_literal.specs.Readable.{AreLevel, IsReadable, instants_in, AnyTruth, IsInt, IsText}
-use Rattle.mob_literal.proofs.Drawn.{IsLawful, lawful}
-use Rattle.mob_literal.proofs.FlatLemmas.{flat, Ordered, IsFlat, is_flat}
+use Rattle.mob_written.{specs.declared.written.Written.{Written}, specs.declared.written.Sequence.{Sequence}, specs.Printed.{is_long, neighbour_groups, instants_of, moving_text}}
+use Rattle.mob_written.{specs.Style.{style_of}, specs.Values.{any_value, is_whole_number, truth_value, quoted_value}, specs.Prefix.{Prefix, ArePrefixes, admitted, remaining, says_step, begins_prefix}}
+use Rattle.mob_written.proofs.Small.{false_true, some_none}
+use Rattle.mob_literal.{specs.Sound.{instant_count, written_of, fitting_sequence, fitting_all, is_sound, Defines, literals, steps}, specs.Sequences.{is_step}}
+use Rattle.mob_literal.{specs.Readable.{AreLevel, IsReadable, instants_in, AnyTruth, IsInt, IsText}, proofs.Drawn.{IsLawful, lawful}, proofs.FlatLemmas.{flat, Ordered, IsFlat, is_flat}}
 use Rattle.mob_literal.proofs.GroupSlices.{start_of, more, sequence_of, are_groups, joined, IsKept, AreKept, HasAll, is_short, sound_groups, flat_values}
 use Rattle.mob_literal.proofs.GroupTexts.{note, noted_of_group, printed_literal, written_text, IsSliceSaid, AreSaid, ArePoints, instants_are, printed_said}
-use Rattle.mob_written.proofs.Small.{false_true, some_none}
 
 -- ---- the numbers of the sequences fit, and there are as many instants as are printed
 

@@ -1,23 +1,13 @@
 -- A literal has at most one reading, and so has the text of an SQL value.
-use Rattle.std.proofs.Common.{◌≡◌, ℕ, ℤ, List, Bool, Option, Some, None, refl, sym}
-use Rattle.std.specs.Prelude.{◌↔◌, MatchOption}
-use Rattle.mob_language.specs.Readers.{TextReader}
-use Rattle.mob_language.proofs.Exact.{one_value}
-use Rattle.mob_normal.proofs.Unique.{unique, OneList}
-use Rattle.mob_numeral.specs.Verdict.{HasOneReading}
-use Rattle.mob_numeral.proofs.Settled.{settled}
-use Rattle.mob_slice.specs.declared.slice.Slice.{Slice}
-use Rattle.mob_slice.specs.CourseOf.{CourseOf, plain_course}
+use Rattle.std.{specs.Prelude.{◌↔◌, MatchOption}, proofs.Common.{◌≡◌, ℕ, ℤ, List, Bool, Option, Some, None, refl, sym}}
+use Rattle.mob_language.{specs.Readers.{TextReader}, proofs.Exact.{one_value}}
+use Rattle.mob_lift.proofs.Unique.{unique, OneList}
+use Rattle.mob_numeral.{specs.Verdict.{HasOneReading}, proofs.Settled.{settled}}
+use Rattle.mob_slice.{specs.declared.slice.Slice.{Slice}, specs.CourseOf.{CourseOf, plain_course}, specs.Slices.{value_at}, specs.Course.{IsCourse}}
 use Rattle.mob_ratio.specs.Ratio.{Ratio}
-use Rattle.mob_slice.specs.Slices.{value_at}
-use Rattle.mob_slice.specs.Course.{IsCourse}
-use Rattle.mob_written.specs.declared.written.Written.{Written}
-use Rattle.mob_written.specs.declared.written.Sequence.{Sequence}
-use Rattle.mob_written.specs.ValueText.{IsValueText}
-use Rattle.mob_literal.specs.Sequences.{is_step}
-use Rattle.mob_literal.specs.Sound.{fitting_all, Defines, literals}
-use Rattle.mob_written.specs.Prefix.{admitted}
+use Rattle.mob_written.{specs.declared.written.Written.{Written}, specs.declared.written.Sequence.{Sequence}, specs.ValueText.{IsValueText}, specs.Prefix.{admitted}}
 use Rattle.mob_written.proofs.LiteralExact.{noted_entry, temporal_exact}
+use Rattle.mob_literal.{specs.Sequences.{is_step}, specs.Sound.{fitting_all, Defines, literals}}
 
 -- two options with the same values are equal
 pub one_option : {B : Type 0} (o p : Option B) → ((x : B) → (o ≡ Some x) ↔ (p ≡ Some x)) → o ≡ p

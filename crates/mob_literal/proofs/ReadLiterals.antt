@@ -1,36 +1,17 @@
 -- The answers of the reader of temporal values.
-use Rattle.std.proofs.Common.{◌≡◌, ℕ, ℤ, List, [], ◌∷◌, ◌++◌, map, Bool, true, false, cond, Option, Some, None, Ok, Err, refl, sym, ap, subst, ◌∙◌, inl, inr}
-use Rattle.std.proofs.lemmas.Bool.{and_parts as both}
-use Rattle.std.specs.Prelude.{◌&&◌, ◌||◌, MatchOption}
-use Rattle.std.specs.List.{list_all}
+use Rattle.std.{specs.Prelude.{◌&&◌, ◌||◌, MatchOption}, specs.List.{list_all}}
+use Rattle.std.{proofs.Common.{◌≡◌, ℕ, ℤ, List, [], ◌∷◌, ◌++◌, map, Bool, true, false, cond, Option, Some, None, Ok, Err, refl, sym, ap, subst, ◌∙◌, inl, inr}, proofs.lemmas.Bool.{and_parts as both}}
 use Rattle.mob_ratio.specs.Ratio.{Ratio}
-use Rattle.mob_language.specs.Language.{Text, Language, Separated}
-use Rattle.mob_language.specs.Readers.{TextReader, ◌>>=◌, all_of}
-use Rattle.mob_language.proofs.Exact.{is_said, not_said, bind_some}
-use Rattle.mob_numeral.specs.Verdict.{Lit}
-use Rattle.mob_numeral.specs.declared.fault.ReadText.{ReadText}
-use Rattle.mob_numeral.specs.declared.fault.ReadText.TheVariants.{NotText, Limit, TooLarge, Unsound, NoMemory}
-use Rattle.mob_slice.specs.declared.slice.Slice.{Slice}
-use Rattle.mob_slice.specs.CourseOf.{CourseOf}
-use Rattle.mob_slice.specs.Slices.{value_at, IsNormal}
-use Rattle.mob_written.specs.declared.written.Written.{Written}
-use Rattle.mob_written.specs.declared.written.Noted.{Noted}
-use Rattle.mob_written.specs.declared.written.Sequence.{Sequence}
-use Rattle.mob_written.specs.declared.written.Literal.{Literal}
-use Rattle.mob_written.specs.declared.written.Prefixes.{Prefixes}
-use Rattle.mob_written.specs.Prefix.{admitted}
-use Rattle.mob_scalar.specs.Brackets.{comma}
-use Rattle.mob_written.specs.Literal.{noted, sequence, alone, members, literal, temporal, noted_at, temporal_at}
-use Rattle.mob_written.specs.ValueText.{IsValueText}
-use Rattle.mob_literal.specs.Sequences.{is_step, rises}
-use Rattle.mob_literal.specs.Slices.{slices_of}
-use Rattle.mob_scalar.specs.Traverse.{traverse}
-use Rattle.mob_literal.specs.Sound.{is_over_limit, written_of, fitting_sequence, fitting_all, is_closed_alone, is_sound_sequence, ends_level, are_in_order, is_sound, Defines, fitting_literal, written_literals, literals}
-use Rattle.mob_literal.specs.Flat.{made_all}
-use Rattle.mob_written.proofs.LiteralExact.{noted_entry, temporal_exact}
-use Rattle.mob_literal.proofs.Drawn.{IsLawful}
-use Rattle.mob_literal.proofs.FlatLemmas.{flat, all_is, IsFlat, is_flat}
-use Rattle.mob_written.proofs.Small.{false_true, cons_nil, some_none}
+use Rattle.mob_language.{specs.Language.{Text, Language, Separated}, specs.Readers.{TextReader, ◌>>=◌, all_of}, proofs.Exact.{is_said, not_said, bind_some}}
+use Rattle.mob_numeral.{specs.Verdict.{Lit}, specs.declared.fault.ReadText.{ReadText}, specs.declared.fault.ReadText.TheVariants.{NotText, Limit, TooLarge, Unsound, NoMemory}}
+use Rattle.mob_slice.{specs.declared.slice.Slice.{Slice}, specs.CourseOf.{CourseOf}, specs.Slices.{value_at, IsNormal}}
+use Rattle.mob_written.{specs.declared.written.Written.{Written}, specs.declared.written.Noted.{Noted}, specs.declared.written.Sequence.{Sequence}, specs.declared.written.Literal.{Literal}}
+use Rattle.mob_written.{specs.declared.written.Prefixes.{Prefixes}, specs.Prefix.{admitted}, specs.Literal.{noted, sequence, alone, set_members, literal, temporal, noted_at, temporal_at}}
+use Rattle.mob_written.{specs.ValueText.{IsValueText}, proofs.LiteralExact.{noted_entry, temporal_exact}, proofs.Small.{false_true, cons_nil, some_none}}
+use Rattle.mob_scalar.{specs.Brackets.{comma}, specs.Traverse.{traverse}}
+use Rattle.mob_literal.{specs.Sequences.{is_step, rises}, specs.Slices.{slices_of}}
+use Rattle.mob_literal.specs.Sound.{is_over_limit, written_of, fitting_sequence, fitting_all, is_closed_alone, is_sound_sequence, ends_level, are_in_order, is_sound, Defines, fitting_literal}
+use Rattle.mob_literal.{specs.Sound.{written_literals, literals}, specs.Flat.{made_all}, proofs.Drawn.{IsLawful}, proofs.FlatLemmas.{flat, all_is, IsFlat, is_flat}}
 
 abbrev some : {A : Type 0} → A → Option A
 some x = Some x
@@ -60,7 +41,7 @@ alone_full : {A : Type 0} (is : List A) → is_some_list is ≡ true → is_full
 alone_full [] h = h
 alone_full (i ∷ is) h = refl
 
-members_full : {A : Type 0} (entry : Language A) (text : Text) (qs : List (Sequence A)) → members entry text qs → is_full qs ≡ true
+members_full : {A : Type 0} (entry : Language A) (text : Text) (qs : List (Sequence A)) → set_members entry text qs → is_full qs ≡ true
 members_full {A} entry text qs said = elim said [
   | inl s ↦ sequences_full entry text qs s
   | inr i ↦ subst (λ (x : List (Sequence A)). is_full x ≡ true) (sym i.is) (alone_full i.meant (list_some entry comma text i.meant i.said))

@@ -1,20 +1,13 @@
 -- Examples, worked by hand: printed texts and fields. Here a moment prints as the word day and the
 -- number of the day.
 use Rattle.std.proofs.Common.{◌≡◌, ℕ, ◌+◌, [], ◌∷◌, ◌++◌, Bool, true, false, Some, None, codes, refl, pos, nat_abs, arith}
-use Rattle.mob_ratio.specs.GcdLaws.{gcd_one_right}
-use Rattle.mob_ratio.specs.LowestLaws.{lowest_in}
-use Rattle.mob_ratio.specs.Ratio.{Ratio}
-use Rattle.mob_ratio.specs.Order.{before, same}
+use Rattle.mob_ratio.{specs.GcdLaws.{gcd_one_right}, specs.LowestLaws.{lowest_in}, specs.Ratio.{Ratio}, specs.Order.{before, same}}
 use Rattle.mob_language.specs.Language.{Text}
-use Rattle.mob_slice.specs.declared.slice.Slice.{Slice}
-use Rattle.mob_slice.specs.declared.steady.Steady.{Steady}
-use Rattle.mob_slice.specs.CourseOf.{plain_course, steady_course}
-use Rattle.mob_slice.specs.Sameness.{same_bytes}
+use Rattle.mob_slice.{specs.declared.slice.Slice.{Slice}, specs.declared.steady.Steady.{Steady}, specs.CourseOf.{plain_course, steady_course}, specs.Sameness.{same_bytes}}
+use Rattle.mob_written.{specs.Prefix.{admitted, prefix_at, one_prefix_at, prefixes_at}, specs.Printed.{Style, moving_text}}
+use Rattle.mob_literal.specs.Fields.{is_null_field, doubled, undoubled, text_of_field, field_text}
 use Rattle.mob_ast.specs.declared.types.SqlType.TheVariants as sql
 use Rattle.mob_value.specs.declared.value.Value.TheVariants as value
-use Rattle.mob_written.specs.Prefix.{admitted, prefix_at, one_prefix_at, prefixes_at}
-use Rattle.mob_written.specs.Printed.{Style, moving_text}
-use Rattle.mob_literal.specs.Fields.{is_null_field, doubled, undoubled, text_of_field, field_text}
 
 abbrev pub day : ℕ → Ratio
 day n = record { num = pos n; den = 1; lowest = lowest_in (pos n) 1 (omega arith) (gcd_one_right n) }

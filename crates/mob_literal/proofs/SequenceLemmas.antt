@@ -1,18 +1,12 @@
 -- The slices of a sequence have the values of the sequence.
-use Rattle.std.proofs.Common.{◌≡◌, List, [], ◌∷◌, Bool, true, false, cond, Option, Some, None, refl, sym, ap, subst, ◌∙◌, arith, inl, inr, ◌⊎◌}
+use Rattle.std.{specs.Prelude.{Contains, ◌&&◌, ◌||◌}, proofs.Common.{◌≡◌, List, [], ◌∷◌, Bool, true, false, cond, Option, Some, None, refl, sym, ap, subst, ◌∙◌, arith, inl, inr, ◌⊎◌}}
 use Rattle.std.proofs.lemmas.Bool.{and_parts as both, and_from as and, not-true as not_true}
-use Rattle.std.specs.Prelude.{Contains, ◌&&◌, ◌||◌}
-use Rattle.mob_ratio.specs.Ratio.{Ratio}
-use Rattle.mob_ratio.specs.Order.{before, up_to}
-use Rattle.mob_ratio.proofs.Order.{before-self, before-back, before-trans, before-neither}
+use Rattle.mob_ratio.{specs.Ratio.{Ratio}, specs.Order.{before, up_to}, proofs.Order.{before-self, before-back, before-trans, before-neither}}
 use Rattle.mob_list.proofs.Entries.{first_in, later_in, none_in, which_in}
 use Rattle.mob_span.specs.Span.{has}
-use Rattle.mob_slice.specs.Slices.{value_at}
-use Rattle.mob_slice.specs.CourseOf.{CourseOf}
+use Rattle.mob_slice.{specs.Slices.{value_at}, specs.CourseOf.{CourseOf}}
 use Rattle.mob_written.specs.declared.written.Written.{Written}
-use Rattle.mob_literal.specs.Sequences.{SequenceAt, IsValueFrom, IsNextAfter, reaches, rises}
-use Rattle.mob_literal.specs.Slices.{slices_of, stretch, instant_slice, drawn}
-use Rattle.mob_literal.proofs.Drawn.{IsLawful}
+use Rattle.mob_literal.{specs.Sequences.{SequenceAt, IsValueFrom, IsNextAfter, reaches_to, rises}, specs.Slices.{slices_of, stretch, instant_slice, drawn}, proofs.Drawn.{IsLawful}}
 
 upto_self : (a : Ratio) → up_to a a ≡ true
 upto_self a = grind (arith, before-self a)
@@ -26,15 +20,15 @@ upto_trans a b c h k = grind (arith, h, k, before-trans c a b, before-neither b 
 never_both : (a b : Ratio) → before a b ≡ true → up_to b a ≡ true → ⊥
 never_both a b h k = absurd (grind (arith, h, k))
 
-reaches_upto : (included : Bool) (a b : Ratio) → reaches included a b ≡ true → up_to a b ≡ true
+reaches_upto : (included : Bool) (a b : Ratio) → reaches_to included a b ≡ true → up_to a b ≡ true
 reaches_upto true a b h = grind (arith, h, before-back a b)
 reaches_upto false a b h = grind (arith, h, before-back a b)
 
-before_reaches : (included : Bool) (a b : Ratio) → before a b ≡ true → reaches included a b ≡ true
+before_reaches : (included : Bool) (a b : Ratio) → before a b ≡ true → reaches_to included a b ≡ true
 before_reaches true a b h = rw h refl
 before_reaches false a b h = rw h refl
 
-upto_reaches : (a b : Ratio) → up_to a b ≡ true → reaches true a b ≡ true
+upto_reaches : (a b : Ratio) → up_to a b ≡ true → reaches_to true a b ≡ true
 upto_reaches a b h = grind (arith, h)
 
 -- the first of the instants is not later than any other
@@ -145,7 +139,7 @@ module _ {C B : Type 0} (course : CourseOf C B) (laws : IsLawful course) where
   -- ---- from slices to the sequence
 
   -- the span of the last instant
-  point_within : (step lower upper : Bool) (i : Written B) (t : Ratio) (v : B) → reaches lower i.instant t ≡ true → up_to t i.instant ≡ true → upper ≡ true → i.value ≡ v → SequenceAt course step lower (i ∷ []) upper t v
+  point_within : (step lower upper : Bool) (i : Written B) (t : Ratio) (v : B) → reaches_to lower i.instant t ≡ true → up_to t i.instant ≡ true → upper ≡ true → i.value ≡ v → SequenceAt course step lower (i ∷ []) upper t v
   point_within step lower upper i t v a b u e = record {
     within = record {
       begun = (i, first_in i [], a);
@@ -164,7 +158,7 @@ module _ {C B : Type 0} (course : CourseOf C B) (laws : IsLawful course) where
   }
 
   -- from the first instant to the second
-  first_stretch : (step lower upper : Bool) (i j : Written B) (is : List (Written B)) (t : Ratio) (v : B) → rises (i ∷ j ∷ is) ≡ true → reaches lower i.instant t ≡ true → before t j.instant ≡ true → course.value (drawn course step i.value j.value) i.instant j.instant t ≡ v → SequenceAt course step lower (i ∷ j ∷ is) upper t v
+  first_stretch : (step lower upper : Bool) (i j : Written B) (is : List (Written B)) (t : Ratio) (v : B) → rises (i ∷ j ∷ is) ≡ true → reaches_to lower i.instant t ≡ true → before t j.instant ≡ true → course.value (drawn course step i.value j.value) i.instant j.instant t ≡ v → SequenceAt course step lower (i ∷ j ∷ is) upper t v
   first_stretch step lower upper i j is t v up a b e =
       let r = both (before i.instant j.instant) (rises (j ∷ is)) up in
       record {
@@ -221,7 +215,7 @@ module _ {C B : Type 0} (course : CourseOf C B) (laws : IsLawful course) where
   pub slices_sequence : (step lower : Bool) (is : List (Written B)) (upper : Bool) (t : Ratio) (v : B) → rises is ≡ true → value_at course.value (slices_of course step lower is upper) t ≡ Some v → SequenceAt course step lower is upper t v
   slices_sequence step lower [] upper t v up h = absurd cc
   slices_sequence step lower (i ∷ []) true t v up h = elim (looked (has (instant_slice course lower i).span t) (course.value (course.make i.value i.value) i.instant i.instant t) None v h) [
-    | inl s ↦ let b = both (reaches lower i.instant t) (before t i.instant || (true && up_to t i.instant)) s.0 in point_within step lower true i t v b.0 (reaches_upto true t i.instant b.1) refl (sym (laws.level i.value i.instant i.instant t) ∙ s.1)
+    | inl s ↦ let b = both (reaches_to lower i.instant t) (before t i.instant || (true && up_to t i.instant)) s.0 in point_within step lower true i t v b.0 (reaches_upto true t i.instant b.1) refl (sym (laws.level i.value i.instant i.instant t) ∙ s.1)
     | inr n ↦ absurd (none_some v n.1)
   ]
     where
@@ -230,7 +224,7 @@ module _ {C B : Type 0} (course : CourseOf C B) (laws : IsLawful course) where
   slices_sequence step lower (i ∷ []) false t v up h = absurd cc
   slices_sequence step lower (i ∷ j ∷ is) upper t v up h = elim (looked (has (stretch course step lower i j).span t) (course.value (drawn course step i.value j.value) i.instant j.instant t) (value_at course.value (slices_of course step true (j ∷ is) upper) t) v h) [
     | inl s ↦
-        let b = both (reaches lower i.instant t) (before t j.instant || (false && up_to t j.instant)) s.0 in
+        let b = both (reaches_to lower i.instant t) (before t j.instant || (false && up_to t j.instant)) s.0 in
         first_stretch step lower upper i j is t v up b.0 (only (before t j.instant) b.1) s.1
     | inr n ↦ later_stretch step lower upper i j is t v up (slices_sequence step true (j ∷ is) upper t v (both (before i.instant j.instant) (rises (j ∷ is)) up).1 n.1)
   ]
@@ -242,11 +236,11 @@ module _ {C B : Type 0} (course : CourseOf C B) (laws : IsLawful course) where
   -- ---- from the sequence to slices
 
   -- an instant at which a sequence of one instant has a value
-  only_one : (step lower upper : Bool) (i : Written B) (t : Ratio) (v : B) → SequenceAt course step lower (i ∷ []) upper t v → (reaches lower i.instant t ≡ true) × (reaches upper t i.instant ≡ true) × (up_to i.instant t ≡ true) × (i.value ≡ v)
+  only_one : (step lower upper : Bool) (i : Written B) (t : Ratio) (v : B) → SequenceAt course step lower (i ∷ []) upper t v → (reaches_to lower i.instant t ≡ true) × (reaches_to upper t i.instant ≡ true) × (up_to i.instant t ≡ true) × (i.value ≡ v)
   only_one step lower upper i t v s =
       let after = is_it (λ (x : Written B). up_to x.instant t ≡ true) s.by s.last.listed s.last.not_later in (
-        is_it (λ (x : Written B). reaches lower x.instant t ≡ true) s.within.begun.0 s.within.begun.1 s.within.begun.2,
-        is_it (λ (x : Written B). reaches upper t x.instant ≡ true) s.within.not_ended.0 s.within.not_ended.1 s.within.not_ended.2,
+        is_it (λ (x : Written B). reaches_to lower x.instant t ≡ true) s.within.begun.0 s.within.begun.1 s.within.begun.2,
+        is_it (λ (x : Written B). reaches_to upper t x.instant ≡ true) s.within.not_ended.0 s.within.not_ended.1 s.within.not_ended.2,
         after,
         value_of_last step i t v after (is_it (λ (x : Written B). IsValueFrom course step (i ∷ []) x t v) s.by s.last.listed s.value),
       )
@@ -257,11 +251,11 @@ module _ {C B : Type 0} (course : CourseOf C B) (laws : IsLawful course) where
         | inr n ↦ absurd (none_in x n)
       ]
 
-  has_point : (lower : Bool) (i : Written B) (t : Ratio) → reaches lower i.instant t ≡ true → up_to t i.instant ≡ true → has (instant_slice course lower i).span t ≡ true
-  has_point lower i t a b = and (reaches lower i.instant t) (before t i.instant || (true && up_to t i.instant)) a (upto_reaches t i.instant b)
+  has_point : (lower : Bool) (i : Written B) (t : Ratio) → reaches_to lower i.instant t ≡ true → up_to t i.instant ≡ true → has (instant_slice course lower i).span t ≡ true
+  has_point lower i t a b = and (reaches_to lower i.instant t) (before t i.instant || (true && up_to t i.instant)) a (upto_reaches t i.instant b)
 
-  has_stretch : (step lower : Bool) (i j : Written B) (t : Ratio) → reaches lower i.instant t ≡ true → before t j.instant ≡ true → has (stretch course step lower i j).span t ≡ true
-  has_stretch step lower i j t a b = and (reaches lower i.instant t) (before t j.instant || (false && up_to t j.instant)) a (before_reaches false t j.instant b)
+  has_stretch : (step lower : Bool) (i j : Written B) (t : Ratio) → reaches_to lower i.instant t ≡ true → before t j.instant ≡ true → has (stretch course step lower i j).span t ≡ true
+  has_stretch step lower i j t a b = and (reaches_to lower i.instant t) (before t j.instant || (false && up_to t j.instant)) a (before_reaches false t j.instant b)
 
   not_stretch : (step lower : Bool) (i j : Written B) (t : Ratio) → up_to j.instant t ≡ true → has (stretch course step lower i j).span t ≡ false
   not_stretch step lower i j t h = grind (arith, h)
@@ -277,7 +271,7 @@ module _ {C B : Type 0} (course : CourseOf C B) (laws : IsLawful course) where
           begun = (s.by, here, upto_reaches s.by.instant t s.last.not_later);
           not_ended = elim (which_in i (j ∷ is) end.0 end.1) [
             | inl same ↦
-                let back : up_to t i.instant ≡ true = reaches_upto upper t i.instant (subst (λ (x : Written B). reaches upper t x.instant ≡ true) (sym same) end.2) in
+                let back : up_to t i.instant ≡ true = reaches_upto upper t i.instant (subst (λ (x : Written B). reaches_to upper t x.instant ≡ true) (sym same) end.2) in
                 absurd (never_both i.instant j.instant r.0 (upto_trans j.instant t i.instant from_j back))
             | inr later ↦ (end.0, later, end.2)
           ];
@@ -301,12 +295,12 @@ module _ {C B : Type 0} (course : CourseOf C B) (laws : IsLawful course) where
           absurd (never_both i.instant j.instant first (subst (λ (x : Written B). up_to j.instant x.instant ≡ true) (sym same) at_by))
 
   -- the sequence has begun at its first instant
-  first_begins : (step lower upper : Bool) (i j : Written B) (is : List (Written B)) (t : Ratio) (v : B) → rises (i ∷ j ∷ is) ≡ true → (s : SequenceAt course step lower (i ∷ j ∷ is) upper t v) → before t j.instant ≡ true → reaches lower i.instant t ≡ true
+  first_begins : (step lower upper : Bool) (i j : Written B) (is : List (Written B)) (t : Ratio) (v : B) → rises (i ∷ j ∷ is) ≡ true → (s : SequenceAt course step lower (i ∷ j ∷ is) upper t v) → before t j.instant ≡ true → reaches_to lower i.instant t ≡ true
   first_begins step lower upper i j is t v up s ends =
       let r = both (before i.instant j.instant) (rises (j ∷ is)) up in
       let begun = s.within.begun in
       elim (which_in i (j ∷ is) begun.0 begun.1) [
-        | inl same ↦ subst (λ (x : Written B). reaches lower x.instant t ≡ true) (sym same) begun.2
+        | inl same ↦ subst (λ (x : Written B). reaches_to lower x.instant t ≡ true) (sym same) begun.2
         | inr later ↦ absurd (never_both t j.instant ends (upto_trans j.instant begun.0.instant t (rise_first j is begun.0 r.1 later) (reaches_upto lower begun.0.instant t begun.2)))
       ]
 

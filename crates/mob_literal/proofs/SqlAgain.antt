@@ -1,20 +1,15 @@
 -- The printed text of an SQL value reads back as that value.
 use Rattle.std.proofs.Common.{ℤ, refl, Ok}
 use Rattle.mob_ast.specs.declared.types.SqlType.{SqlType}
-use Rattle.mob_ast.specs.declared.types.SqlType.TheVariants as sql
 use Rattle.mob_value.specs.declared.value.Value.{Value}
-use Rattle.mob_value.specs.declared.value.Value.TheVariants as value
 use Rattle.mob_numeral.proofs.Again.{number_again, whole_again}
-use Rattle.mob_scalar.proofs.TruthAgain.{truth_again}
-use Rattle.mob_scalar.proofs.MomentAgain.{moment_again}
-use Rattle.mob_literal.specs.SqlText.{SaysAs, value_text}
-use Rattle.mob_literal.specs.SqlReadable.{IsReadableAs}
-use Rattle.mob_points.proofs.PointsAgain.{point_again}
-use Rattle.mob_geotext.proofs.BoxesAgain.{box_again}
-use Rattle.mob_geotext.proofs.PolygonsAgain.{polygon_again}
-use Rattle.mob_geotext.proofs.SpansAgain.{span_again, span_set_again}
-use Rattle.mob_literal.proofs.MovingAgain.{truths_again, numbers_again, texts_again}
+use Rattle.mob_scalar.{proofs.TruthAgain.{truth_again}, proofs.MomentAgain.{moment_again}}
+use Rattle.mob_literal.{specs.SqlText.{SaysAs, value_text}, specs.SqlReadable.{IsReadableAs}, proofs.MovingAgain.{truths_again, numbers_again, texts_again}}
 use Rattle.mob_literal.proofs.LinesAgain.{lines_again, plane_lines_again}
+use Rattle.mob_points.proofs.PointsAgain.{point_again}
+use Rattle.mob_geotext.{proofs.BoxesAgain.{box_again}, proofs.PolygonsAgain.{polygon_again}, proofs.SpansAgain.{span_again, span_set_again}}
+use Rattle.mob_ast.specs.declared.types.SqlType.TheVariants as sql
+use Rattle.mob_value.specs.declared.value.Value.TheVariants as value
 
 pub value_again : (type : SqlType) (day : ℤ) (v : Value) → IsReadableAs type day v → SaysAs type day (value_text day v) (Ok v)
 value_again sql.Bool day (value.Bool b) h = (b, refl, truth_again b)

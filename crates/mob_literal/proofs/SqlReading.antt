@@ -1,40 +1,22 @@
 -- The text of an SQL value has at most one reading.
-use Rattle.std.proofs.Common.{◌≡◌, ◌≢◌, ℤ, false, true, Ok, Err, sym, ap, ◌∙◌}
-use Rattle.std.specs.Prelude.{Result}
-use Rattle.mob_ratio.specs.Order.{same}
-use Rattle.mob_ratio.proofs.Order.{same_exact}
+use Rattle.std.{specs.Prelude.{Result}, proofs.Common.{◌≡◌, ◌≢◌, ℤ, false, true, Ok, Err, sym, ap, ◌∙◌}}
+use Rattle.mob_ratio.{specs.Order.{same}, proofs.Order.{same_exact}}
 use Rattle.mob_language.specs.Language.{Text}
 use Rattle.mob_span.specs.Flags.{same_bool, same_bool_exact}
-use Rattle.mob_slice.specs.Sameness.{same_bytes, same_bytes_exact}
-use Rattle.mob_slice.specs.SteadyLaws.{steady_laws}
-use Rattle.mob_slice.specs.LineLaws.{line_laws}
-use Rattle.mob_slice.specs.PlaneLaws.{plane_laws}
+use Rattle.mob_slice.{specs.Sameness.{same_bytes, same_bytes_exact}, specs.SteadyLaws.{steady_laws}, specs.LineLaws.{line_laws}, specs.PlaneLaws.{plane_laws}}
 use Rattle.mob_slice.specs.CourseOf.{line_course, plane_course}
 use Rattle.mob_plane.specs.Points.{same_point}
-use Rattle.mob_points.specs.Points.{points, point_value}
-use Rattle.mob_points.proofs.OnePoint.{one_point}
-use Rattle.mob_geotext.specs.Boxes.{boxes}
-use Rattle.mob_geotext.specs.Polygons.{polygons}
-use Rattle.mob_geotext.specs.Spans.{spans, span_sets}
-use Rattle.mob_geotext.proofs.BoxesAgain.{one_box}
-use Rattle.mob_geotext.proofs.OneReadings.{one_span, one_span_set, one_polygon}
+use Rattle.mob_points.{specs.Points.{points, point_value}, proofs.OnePoint.{one_point}}
+use Rattle.mob_geotext.{specs.Boxes.{boxes}, specs.Polygons.{polygons}, specs.Spans.{spans, span_sets}, proofs.BoxesAgain.{one_box}, proofs.OneReadings.{one_span, one_span_set, one_polygon}}
 use Rattle.mob_ast.specs.declared.types.SqlType.{SqlType}
-use Rattle.mob_ast.specs.declared.types.SqlType.TheVariants as sql
 use Rattle.mob_value.specs.declared.value.Value.{Value}
-use Rattle.mob_value.specs.declared.value.Value.TheVariants as value
-use Rattle.mob_numeral.specs.declared.fault.ReadText.{ReadText}
-use Rattle.mob_numeral.specs.declared.fault.ReadText.TheVariants.{NoMemory}
-use Rattle.mob_numeral.specs.Verdict.{TextForm, HasOneReading}
-use Rattle.mob_numeral.specs.Numbers.{numbers, whole_numbers}
-use Rattle.mob_scalar.specs.Moments.{moments}
-use Rattle.mob_scalar.specs.Truth.{truths}
-use Rattle.mob_scalar.proofs.OneReadings.{one_number, one_whole, one_moment, one_truth}
-use Rattle.mob_numeral.proofs.Settled.{settled}
-use Rattle.mob_literal.specs.Sound.{literals, steps}
-use Rattle.mob_numeral.specs.Fitting.{number_value}
+use Rattle.mob_numeral.{specs.declared.fault.ReadText.{ReadText}, specs.declared.fault.ReadText.TheVariants.{NoMemory}, specs.Verdict.{TextForm, HasOneReading}, specs.Numbers.{numbers, whole_numbers}}
+use Rattle.mob_numeral.{specs.Fitting.{number_value}, proofs.Settled.{settled}}
+use Rattle.mob_scalar.{specs.Moments.{moments}, specs.Truth.{truths}, proofs.OneReadings.{one_number, one_whole, one_moment, one_truth}}
+use Rattle.mob_literal.{specs.Sound.{literals, steps}, specs.SqlText.{texts, SaysInForm, SaysAs}, proofs.OneReading.{one_reading}}
 use Rattle.mob_written.specs.Values.{any_value, is_whole_number, truth_values, number_values, quoted_values, point_values, truth_value, quoted_value}
-use Rattle.mob_literal.specs.SqlText.{texts, SaysInForm, SaysAs}
-use Rattle.mob_literal.proofs.OneReading.{one_reading}
+use Rattle.mob_ast.specs.declared.types.SqlType.TheVariants as sql
+use Rattle.mob_value.specs.declared.value.Value.TheVariants as value
 
 module _ {S V : Type 0} (f : TextForm S V) (made : V → Value) (one : HasOneReading f) (text : Text) where
   err : ReadText → Result V ReadText

@@ -1,26 +1,16 @@
 -- Each value in the slices of a step literal is a value of the type, since it is one of the written
 -- values.
-use Rattle.std.proofs.Common.{◌≡◌, refl, sym, subst, true≢false, ℤ, List, [], ◌∷◌, Bool, true, false, Option, Some, None, Ok, inl, inr}
-use Rattle.std.proofs.lemmas.Bool.{and_parts as both}
-use Rattle.std.specs.Prelude.{Contains, MatchOption}
-use Rattle.std.specs.List.{AllByRecursion, list_all}
+use Rattle.std.{specs.Prelude.{Contains, MatchOption}, specs.List.{AllByRecursion, list_all}}
+use Rattle.std.{proofs.Common.{◌≡◌, refl, sym, subst, true≢false, ℤ, List, [], ◌∷◌, Bool, true, false, Option, Some, None, Ok, inl, inr}, proofs.lemmas.Bool.{and_parts as both}}
 use Rattle.mob_ratio.specs.Ratio.{Ratio}
 use Rattle.mob_span.proofs.SpanLemmas.{some_instant}
 use Rattle.mob_language.specs.Language.{Text}
 use Rattle.mob_list.proofs.Entries.{none_in, which_in, all_by_each, each_of_all}
 use Rattle.mob_numeral.specs.Verdict.{Lit}
-use Rattle.mob_slice.specs.CourseOf.{steady_course}
-use Rattle.mob_slice.specs.Operands.{steady_limit, steady_value}
-use Rattle.mob_slice.specs.Slices.{IsSound}
-use Rattle.mob_slice.specs.declared.slice.Slice.{Slice}
-use Rattle.mob_slice.specs.declared.steady.Steady.{Steady}
-use Rattle.mob_slice.proofs.LookUps.{found_value}
-use Rattle.mob_slice.proofs.OneAt.{one_slice_at}
-use Rattle.mob_slice.proofs.Orders.{ordered, all_sound}
-use Rattle.mob_written.specs.declared.written.Written.{Written}
-use Rattle.mob_written.specs.declared.written.Sequence.{Sequence}
-use Rattle.mob_literal.specs.Sequences.{IsValueFrom, is_step}
-use Rattle.mob_literal.specs.Sound.{Defines, LitAt, fitting_all, is_sound, is_sound_sequence, are_in_order, steps}
+use Rattle.mob_slice.{specs.CourseOf.{steady_course}, specs.Operands.{steady_limit, steady_value}, specs.Slices.{IsSound}, specs.declared.slice.Slice.{Slice}, specs.declared.steady.Steady.{Steady}}
+use Rattle.mob_slice.{proofs.LookUps.{found_value}, proofs.OneAt.{one_slice_at}, proofs.Orders.{ordered, all_sound}}
+use Rattle.mob_written.{specs.declared.written.Written.{Written}, specs.declared.written.Sequence.{Sequence}}
+use Rattle.mob_literal.{specs.Sequences.{IsValueFrom, is_step}, specs.Sound.{Defines, LitAt, fitting_all, is_sound, is_sound_sequence, are_in_order, steps}}
 
 module _ {A : Type 0} (test : A → Bool) where
   -- a test that all entries pass is passed by each of them

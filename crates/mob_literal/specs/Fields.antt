@@ -3,10 +3,10 @@ use Rattle.std.specs.Prelude.{ℤ, [], ◌∷◌, codes, Bool, true, false, ◌&
 use Rattle.mob_language.specs.Language.{Text}
 use Rattle.mob_slice.specs.Sameness.{same_bytes}
 use Rattle.mob_ast.specs.declared.types.SqlType.{SqlType}
-use Rattle.mob_ast.specs.declared.types.SqlType.TheVariants as sql
 use Rattle.mob_value.specs.declared.value.Value.{Value}
-use Rattle.mob_value.specs.declared.value.Value.TheVariants as value
 use Rattle.mob_literal.specs.SqlText.{value_text}
+use Rattle.mob_ast.specs.declared.types.SqlType.TheVariants as sql
+use Rattle.mob_value.specs.declared.value.Value.TheVariants as value
 
 -- the field \N
 abbrev pub is_null_text : Text → Bool

@@ -1,11 +1,8 @@
 -- The slices of sequences.
-use Rattle.std.specs.Prelude.{List, [], ◌∷◌, ◌++◌, Bool, false, cond, Option, Some, None}
-use Rattle.std.specs.List.{list_all}
+use Rattle.std.{specs.Prelude.{List, [], ◌∷◌, ◌++◌, Bool, false, cond, Option, Some, None}, specs.List.{list_all}}
 use Rattle.mob_language.specs.Readers.{◌>>=◌}
-use Rattle.mob_slice.specs.declared.slice.Slice.{Slice}
-use Rattle.mob_slice.specs.CourseOf.{CourseOf}
-use Rattle.mob_written.specs.declared.written.Written.{Written}
-use Rattle.mob_written.specs.declared.written.Sequence.{Sequence}
+use Rattle.mob_slice.{specs.declared.slice.Slice.{Slice}, specs.CourseOf.{CourseOf}}
+use Rattle.mob_written.{specs.declared.written.Written.{Written}, specs.declared.written.Sequence.{Sequence}}
 use Rattle.mob_literal.specs.Slices.{made}
 
 -- the slices of one sequence, if it is sound

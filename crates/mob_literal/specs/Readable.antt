@@ -1,25 +1,16 @@
 -- When the printed text of a point, a span, a span set, a box or a temporal value reads back as
 -- that value.
-use Rattle.std.specs.Prelude.{◌≡◌, ◌≢◌, ◌+◌, ◌≤◌, ℕ, ℤ, List, [], ◌∷◌, length, Contains, Bool, true, Option, Some}
-use Rattle.std.specs.Str.{is_utf8}
+use Rattle.std.{specs.Prelude.{◌≡◌, ◌≢◌, ◌+◌, ◌≤◌, ℕ, ℤ, List, [], ◌∷◌, length, Contains, Bool, true, Option, Some}, specs.Str.{is_utf8}}
 use Rattle.mob_ratio.specs.Ratio.{Ratio}
 use Rattle.mob_frac.specs.Fits.{Fits}
-use Rattle.mob_geotext.specs.BoxText.{HasDatedSides}
-use Rattle.mob_geotext.specs.Printable.{HasDatedEnds, HaveDatedEnds}
-use Rattle.mob_language.specs.Language.{Text}
-use Rattle.mob_language.proofs.Exact.{Stops}
+use Rattle.mob_geotext.{specs.BoxText.{HasDatedSides}, specs.Printable.{HasDatedEnds, HaveDatedEnds}}
+use Rattle.mob_language.{specs.Language.{Text}, proofs.Exact.{Stops}}
 use Rattle.mob_plane.specs.declared.point.Point.{Point}
 use Rattle.mob_scalar.specs.MomentText.{IsDated}
-use Rattle.mob_slice.specs.declared.slice.Slice.{Slice}
-use Rattle.mob_slice.specs.CourseOf.{CourseOf}
-use Rattle.mob_slice.specs.Slices.{IsNormal}
-use Rattle.mob_span.specs.Span.{SpanOf, has_instant}
+use Rattle.mob_slice.{specs.declared.slice.Slice.{Slice}, specs.CourseOf.{CourseOf}, specs.Slices.{IsNormal}}
+use Rattle.mob_span.{specs.Span.{SpanOf, has_instant}, specs.Sets.{IsSpanSet}}
 use Rattle.mob_stbox.specs.Boxes.{BoxOf, is_box}
-use Rattle.mob_span.specs.Sets.{IsSpanSet}
-use Rattle.mob_written.specs.declared.written.Prefixes.{Prefixes}
-use Rattle.mob_written.specs.Prefix.{begins_prefix}
-use Rattle.mob_written.specs.Printed.{Style, neighbour_groups, instants_of}
-use Rattle.mob_written.specs.Style.{style_of}
+use Rattle.mob_written.{specs.declared.written.Prefixes.{Prefixes}, specs.Prefix.{begins_prefix}, specs.Printed.{Style, neighbour_groups, instants_of}, specs.Style.{style_of}}
 
 -- the number of instants that the groups print
 abbrev pub instants_in : {C B : Type 0} → Style C B → List (List (Slice C)) → ℕ

@@ -5,8 +5,7 @@
 -- instant between two neighbouring ones has the value of the course from the one value to the
 -- other. The two brackets say whether the first and the last instant belong to the sequence.
 use Rattle.std.specs.Prelude.{◌≡◌, List, [], ◌∷◌, Contains, Bool, true, false, cond, ◌&&◌, ◌||◌, ◌⊎◌}
-use Rattle.mob_ratio.specs.Ratio.{Ratio}
-use Rattle.mob_ratio.specs.Order.{before, up_to}
+use Rattle.mob_ratio.{specs.Ratio.{Ratio}, specs.Order.{before, up_to}}
 use Rattle.mob_slice.specs.CourseOf.{CourseOf}
 use Rattle.mob_written.specs.declared.written.Written.{Written}
 
@@ -17,14 +16,14 @@ pub record IsLastBy {B : Type 0} (instants : List (Written B)) (t : Ratio) (i : 
   pub last : (j : Written B) → Contains instants j → up_to j.instant t ≡ true → up_to j.instant i.instant ≡ true
 
 -- a is before b, or equals b and the bracket includes it
-abbrev pub reaches : Bool → Ratio → Ratio → Bool
-reaches included a b = before a b || (included && up_to a b)
+abbrev pub reaches_to : Bool → Ratio → Ratio → Bool
+reaches_to included a b = before a b || (included && up_to a b)
 
 -- t is in the span of the sequence: after one of its instants and before one of them, or equal to
 -- one that a bracket includes
 pub record IsInSequence {B : Type 0} (lower_inc : Bool) (instants : List (Written B)) (upper_inc : Bool) (t : Ratio) : Type 0 where
-  pub begun : (i : Written B) × Contains instants i × (reaches lower_inc i.instant t ≡ true)
-  pub not_ended : (j : Written B) × Contains instants j × (reaches upper_inc t j.instant ≡ true)
+  pub begun : (i : Written B) × Contains instants i × (reaches_to lower_inc i.instant t ≡ true)
+  pub not_ended : (j : Written B) × Contains instants j × (reaches_to upper_inc t j.instant ≡ true)
 
 -- a literal has step interpolation by its prefix, or because the courses of its type are steady
 abbrev pub is_step : Bool → Bool → Bool

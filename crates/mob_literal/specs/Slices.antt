@@ -1,8 +1,7 @@
 -- The slices of a sequence.
 use Rattle.std.specs.Prelude.{List, [], ◌∷◌, Bool, true, false, cond, Option, Some, None, option_map}
 use Rattle.mob_ratio.specs.Order.{before}
-use Rattle.mob_slice.specs.declared.slice.Slice.{Slice}
-use Rattle.mob_slice.specs.CourseOf.{CourseOf}
+use Rattle.mob_slice.{specs.declared.slice.Slice.{Slice}, specs.CourseOf.{CourseOf}}
 use Rattle.mob_written.specs.declared.written.Written.{Written}
 
 -- the course from one written value to the next; under step interpolation it is constant

@@ -1,26 +1,14 @@
 -- The conditions on the sequences of a temporal literal, and the value that they define.
 use Rattle.std.specs.Prelude.{◌≡◌, ◌↔◌, ℕ, ◌+◌, ◌-◌, List, [], ◌∷◌, length, Contains, slice_get, Bool, true, false, ◌&&◌, ◌||◌, not, nat_lt, Option, Some, None, MatchOption, ℤ}
 use Rattle.std.specs.List.{list_all}
-use Rattle.mob_ratio.specs.Ratio.{Ratio}
-use Rattle.mob_ratio.specs.Order.{before, up_to}
-use Rattle.mob_language.specs.Language.{Text}
-use Rattle.mob_language.specs.Readers.{◌>>=◌}
-use Rattle.mob_slice.specs.declared.slice.Slice.{Slice}
-use Rattle.mob_slice.specs.declared.steady.Steady.{Steady}
-use Rattle.mob_slice.specs.CourseOf.{CourseOf, steady_course}
-use Rattle.mob_slice.specs.Slices.{value_at, IsNormal}
+use Rattle.mob_ratio.{specs.Ratio.{Ratio}, specs.Order.{before, up_to}}
+use Rattle.mob_language.{specs.Language.{Text}, specs.Readers.{◌>>=◌}}
+use Rattle.mob_slice.{specs.declared.slice.Slice.{Slice}, specs.declared.steady.Steady.{Steady}, specs.CourseOf.{CourseOf, steady_course}, specs.Slices.{value_at, IsNormal}}
 use Rattle.mob_numeral.specs.Verdict.{TextForm}
 use Rattle.mob_scalar.specs.Traverse.{traverse}
-use Rattle.mob_written.specs.declared.written.Written.{Written}
-use Rattle.mob_written.specs.declared.written.Noted.{Noted}
-use Rattle.mob_written.specs.declared.written.Sequence.{Sequence}
-use Rattle.mob_written.specs.declared.written.Literal.{Literal}
-use Rattle.mob_written.specs.Neighbours.{all_neighbours}
-use Rattle.mob_literal.specs.Sequences.{SequenceAt, is_step, rises}
-use Rattle.mob_literal.specs.Slices.{arrives}
-use Rattle.mob_written.specs.declared.written.Prefixes.{Prefixes}
-use Rattle.mob_written.specs.Prefix.{admitted}
-use Rattle.mob_written.specs.Literal.{noted, temporal}
+use Rattle.mob_written.{specs.declared.written.Written.{Written}, specs.declared.written.Noted.{Noted}, specs.declared.written.Sequence.{Sequence}, specs.declared.written.Literal.{Literal}}
+use Rattle.mob_written.{specs.Neighbours.{all_neighbours}, specs.declared.written.Prefixes.{Prefixes}, specs.Prefix.{admitted}, specs.Literal.{noted, temporal}}
+use Rattle.mob_literal.{specs.Sequences.{SequenceAt, is_step, rises}, specs.Slices.{arrives}}
 
 -- the number of instants of the sequences
 abbrev pub instant_count : {A : Type 0} → List (Sequence A) → ℕ

@@ -3,19 +3,16 @@ use Rattle.std.specs.Prelude.{ℤ}
 use Rattle.mob_ratio.specs.Order.{same}
 use Rattle.mob_frac.specs.Fits.{Fits}
 use Rattle.mob_span.specs.Flags.{same_bool}
-use Rattle.mob_slice.specs.Sameness.{same_bytes}
-use Rattle.mob_slice.specs.CourseOf.{steady_course, line_course, plane_course}
+use Rattle.mob_slice.{specs.Sameness.{same_bytes}, specs.CourseOf.{steady_course, line_course, plane_course}}
 use Rattle.mob_ast.specs.declared.types.SqlType.{SqlType}
-use Rattle.mob_ast.specs.declared.types.SqlType.TheVariants as sql
 use Rattle.mob_value.specs.declared.value.Value.{Value}
-use Rattle.mob_value.specs.declared.value.Value.TheVariants as value
 use Rattle.mob_numeral.specs.NumberText.{number_text}
-use Rattle.mob_scalar.specs.Truth.{truth_text}
-use Rattle.mob_scalar.specs.Quoted.{quoted_text}
-use Rattle.mob_scalar.specs.MomentText.{IsDated}
+use Rattle.mob_scalar.{specs.Truth.{truth_text}, specs.Quoted.{quoted_text}, specs.MomentText.{IsDated}}
 use Rattle.mob_geotext.specs.PolygonText.{IsReadablePolygon}
 use Rattle.mob_points.specs.PointText.{point_text}
 use Rattle.mob_literal.specs.Readable.{IsReadable, AnyTruth, IsInt, PointFits, IsReadableSpan, IsReadableSet, IsReadableBox, IsText}
+use Rattle.mob_ast.specs.declared.types.SqlType.TheVariants as sql
+use Rattle.mob_value.specs.declared.value.Value.TheVariants as value
 
 -- the value is one of the type, and its printed text reads back as that value
 abbrev pub IsReadableAs : SqlType → ℤ → Value → Type 0

@@ -3,33 +3,18 @@ use Rattle.std.specs.Prelude.{◌≡◌, ℤ, [], true, false, Result, Ok, Err}
 use Rattle.mob_ratio.specs.Order.{same}
 use Rattle.mob_language.specs.Language.{Text}
 use Rattle.mob_span.specs.Flags.{same_bool}
-use Rattle.mob_slice.specs.Sameness.{same_bytes}
-use Rattle.mob_slice.specs.CourseOf.{steady_course, line_course, plane_course}
+use Rattle.mob_slice.{specs.Sameness.{same_bytes}, specs.CourseOf.{steady_course, line_course, plane_course}}
 use Rattle.mob_ast.specs.declared.types.SqlType.{SqlType}
-use Rattle.mob_ast.specs.declared.types.SqlType.TheVariants as sql
 use Rattle.mob_value.specs.declared.value.Value.{Value}
-use Rattle.mob_value.specs.declared.value.Value.TheVariants as value
-use Rattle.mob_numeral.specs.declared.fault.ReadText.{ReadText}
-use Rattle.mob_numeral.specs.Verdict.{TextForm, Lit}
-use Rattle.mob_numeral.specs.Numbers.{numbers, whole_numbers}
-use Rattle.mob_numeral.specs.NumberText.{number_text}
-use Rattle.mob_scalar.specs.Moments.{moments}
-use Rattle.mob_scalar.specs.MomentText.{moment_text}
-use Rattle.mob_scalar.specs.Truth.{truths, truth_text}
-use Rattle.mob_scalar.specs.Quoted.{quoted_text}
-use Rattle.mob_points.specs.Points.{point_value, points}
-use Rattle.mob_points.specs.PointText.{point_text}
-use Rattle.mob_geotext.specs.Spans.{spans, span_sets}
-use Rattle.mob_geotext.specs.SpanText.{span_text, span_set_text}
-use Rattle.mob_geotext.specs.Polygons.{polygons}
-use Rattle.mob_geotext.specs.PolygonText.{polygon_text}
-use Rattle.mob_geotext.specs.Boxes.{boxes}
+use Rattle.mob_numeral.{specs.declared.fault.ReadText.{ReadText}, specs.Verdict.{TextForm, Lit}, specs.Numbers.{numbers, whole_numbers}, specs.NumberText.{number_text}, specs.Fitting.{number_value}}
+use Rattle.mob_scalar.{specs.Moments.{moments}, specs.MomentText.{moment_text}, specs.Truth.{truths, truth_text}, specs.Quoted.{quoted_text}}
+use Rattle.mob_points.{specs.Points.{point_value, points}, specs.PointText.{point_text}}
+use Rattle.mob_geotext.{specs.Spans.{spans, span_sets}, specs.SpanText.{span_text, span_set_text}, specs.Polygons.{polygons}, specs.PolygonText.{polygon_text}, specs.Boxes.{boxes}}
 use Rattle.mob_geotext.specs.BoxText.{box_text}
 use Rattle.mob_literal.specs.Sound.{literals, steps}
-use Rattle.mob_numeral.specs.Fitting.{number_value}
-use Rattle.mob_written.specs.Values.{any_value, is_whole_number, truth_value, quoted_value}
-use Rattle.mob_written.specs.Printed.{moving_text}
-use Rattle.mob_written.specs.Style.{style_of}
+use Rattle.mob_written.{specs.Values.{any_value, is_whole_number, truth_value, quoted_value}, specs.Printed.{moving_text}, specs.Style.{style_of}}
+use Rattle.mob_ast.specs.declared.types.SqlType.TheVariants as sql
+use Rattle.mob_value.specs.declared.value.Value.TheVariants as value
 
 -- every text is its own value
 abbrev pub texts : TextForm Text Text

@@ -9,8 +9,8 @@ ghost use Rattle.mob_slice.specs.CourseOf.{course_of};
 ghost use Rattle.mob_literal.specs.Flat.{made_sequence, made_all};
 
 use crate::slicing::slices_of;
+use mob_lift::normal::normal;
 use mob_list::items::Items;
-use mob_normal::normal;
 use mob_scalar::{Epoch, ReadText, fitting_each};
 use mob_slice::{Course, Moving, Slice};
 use mob_written::written::{Literal, Noted, Sequence, Written};

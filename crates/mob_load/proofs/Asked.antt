@@ -1,16 +1,12 @@
 -- The names that the checks of a script ask for are those of its COPY statements.
-use Rattle.std.proofs.Common.{◌≡◌, ◌∙◌, ◌⊎◌, inl, inr, refl, sym, ap, subst, arith, Bool, true, false, ℕ, zero, suc, ◌+◌, ◌≤◌, ◌<◌, List, [], ◌∷◌, ◌++◌, length, length-append, take, take-append-drop, drop, get_or, map, Option, Some, None}
-use Rattle.std.specs.Prelude.{slice_get}
-use Rattle.std.specs.List.{flat_map}
-use Rattle.std.proofs.lemmas.Grind.{flat_map-append}
+use Rattle.std.{specs.Prelude.{slice_get}, specs.List.{flat_map}}
+use Rattle.std.proofs.Common.{◌≡◌, ◌∙◌, ◌⊎◌, inl, inr, refl, sym, ap, subst, arith, Bool, true, false, ℕ, zero, suc, ◌+◌, ◌≤◌, ◌<◌, List, [], ◌∷◌, ◌++◌, length, length-append, take, take-append-drop}
+use Rattle.std.{proofs.Common.{drop, get_or, map, Option, Some, None}, proofs.lemmas.Grind.{flat_map-append}}
 use Rattle.std.proofs.lemmas.List.{append-nil, append_assoc, take-append-le, take_all, take_more, drop_more, map-append}
-use Rattle.mob_typed.specs.declared.typed.ConstText.{ConstText}
-use Rattle.mob_typed.specs.Statements.{ScriptOut, StatementOut, nothing, new_table, new_index, new_rows, rows_from, deletion, query, plan_of}
+use Rattle.mob_typed.{specs.declared.typed.ConstText.{ConstText}, specs.Statements.{ScriptOut, StatementOut, nothing, new_table, new_index, new_rows, rows_from, deletion, query, plan_of}}
 use Rattle.mob_load.specs.Checks.{CheckParts, check_seen, literal, Checkpoint, bracket, checkpoints_of, checkpoints_from, stands_before, checks_up_to, in_order, checks_of}
-use Rattle.mob_load.specs.declared.check.Check.{Check}
-use Rattle.mob_load.specs.Fronts.{AreFilesFor, AsksForAll, AsksForSome, IsAskedLast}
+use Rattle.mob_load.{specs.declared.check.Check.{Check}, specs.Fronts.{AreFilesFor, AsksForAll, AsksForSome, IsAskedLast}, specs.Loads.{names_of, names_in, copied_file, copied_files}}
 use Rattle.mob_outside.specs.Told.{AsksFor, Contents, KeepsFiles}
-use Rattle.mob_load.specs.Loads.{names_of, names_in, copied_file, copied_files}
 
 -- the names at checkpoints
 abbrev names_at : List Checkpoint → List (List ℕ)

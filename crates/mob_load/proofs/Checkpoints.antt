@@ -1,10 +1,8 @@
 -- The checkpoints of a script among its checks.
 use Rattle.std.proofs.Common.{◌≡◌, ◌∙◌, refl, ap, Bool, true, false, List, [], ◌∷◌, ◌++◌, map}
 use Rattle.mob_typed.specs.declared.typed.ConstText.{ConstText}
-use Rattle.mob_load.specs.Checks.{CheckParts, literal, table, room, file, Checkpoint, checkpoints_from, stands_before, checks_up_to, in_order}
-use Rattle.mob_load.specs.Loads.{literal_of}
-use Rattle.mob_load.specs.Order.{checkpoint_in, checkpoints_in, LooksAtCheckpoints}
-use Rattle.mob_load.proofs.Values.{NoLiterals, no_all}
+use Rattle.mob_load.{specs.Checks.{CheckParts, literal, table, room, file, Checkpoint, checkpoints_from, stands_before, checks_up_to, in_order}, specs.Loads.{literal_of}}
+use Rattle.mob_load.{specs.Order.{checkpoint_in, checkpoints_in, LooksAtCheckpoints}, proofs.Values.{NoLiterals, no_all}}
 
 -- a check that is not a literal is a checkpoint
 pub own_checkpoint : (check : CheckParts) → literal_of check ≡ [] → checkpoint_in check ≡ check ∷ []

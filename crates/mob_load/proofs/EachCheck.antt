@@ -1,6 +1,5 @@
 -- What holds of each literal and of each checkpoint holds of each check.
-use Rattle.std.proofs.Common.{◌≡◌, refl, Bool, true, false, List, [], ◌∷◌}
-use Rattle.std.specs.List.{AllByRecursion}
+use Rattle.std.{specs.List.{AllByRecursion}, proofs.Common.{◌≡◌, refl, Bool, true, false, List, [], ◌∷◌}}
 use Rattle.mob_typed.specs.declared.typed.ConstText.{ConstText}
 use Rattle.mob_list.proofs.Each.{each_map}
 use Rattle.mob_load.specs.Checks.{CheckParts, literal, Checkpoint, stands_before, checks_up_to, in_order}

@@ -1,8 +1,6 @@
 -- What holds of each checkpoint of a statement.
-use Rattle.std.proofs.Common.{◌≡◌, refl, ℕ, List, [], ◌∷◌, map}
-use Rattle.std.specs.List.{AllByRecursion}
-use Rattle.mob_typed.specs.Statements.{ColumnList}
-use Rattle.mob_typed.specs.Statements.{StatementOut, nothing, new_table, new_index, new_rows, rows_from, deletion, query, plan_of}
+use Rattle.std.{specs.List.{AllByRecursion}, proofs.Common.{◌≡◌, refl, ℕ, List, [], ◌∷◌, map}}
+use Rattle.mob_typed.specs.Statements.{ColumnList, StatementOut, nothing, new_table, new_index, new_rows, rows_from, deletion, query, plan_of}
 use Rattle.mob_load.specs.Checks.{Checkpoint, bracket, file, checkpoint, checkpoints_of, table}
 
 -- the checkpoints of a statement are brackets, a file or a new table

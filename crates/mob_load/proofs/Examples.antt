@@ -1,11 +1,8 @@
 -- Example checks, in written order.
-use Rattle.std.proofs.Common.{◌≡◌, refl, arith, inl, inr, ℕ, [], ◌∷◌, Some}
-use Rattle.std.specs.Prelude.{codes}
+use Rattle.std.{specs.Prelude.{codes}, proofs.Common.{◌≡◌, refl, arith, inl, inr, ℕ, [], ◌∷◌, Some}}
 use Rattle.mob_ast.specs.declared.types.SqlType.TheVariants.{Int}
-use Rattle.mob_typed.specs.declared.typed.ConstText.{ConstText}
-use Rattle.mob_typed.specs.Statements.{ScriptOut, nothing, new_table, new_rows, rows_from}
+use Rattle.mob_typed.{specs.declared.typed.ConstText.{ConstText}, specs.Statements.{ScriptOut, nothing, new_table, new_rows, rows_from}, specs.Written.{IsWritten}}
 use Rattle.mob_load.specs.Checks.{literal, table, room, file, checks_of}
-use Rattle.mob_typed.specs.Written.{IsWritten}
 
 constant : ℕ → ℕ → ConstText
 constant n p = record { ty = Int; text = codes "1"; statement = n; place = p }

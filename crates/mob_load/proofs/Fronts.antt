@@ -1,14 +1,11 @@
 -- The bytes read of a file are its front.
-use Rattle.std.proofs.Common.{arith, ◌≡◌, ◌∙◌, ap, sym, subst, ℕ, ◌+◌, ◌≤◌, List, [], ◌++◌, length, take, Some, None, Ok, Err, ℤ, inl, inr, true, true≢false}
 use Rattle.std.specs.Prelude.{Option, IfSome, OnErr, Result, is_err}
-use Rattle.std.proofs.lemmas.Bool.{cases_lt}
-use Rattle.mob_value.specs.declared.value.Value.{Value}
-use Rattle.mob_catalog.specs.declared.fault.FileFault.{FileFault}
+use Rattle.std.{proofs.Common.{arith, ◌≡◌, ◌∙◌, ap, sym, subst, ℕ, ◌+◌, ◌≤◌, List, [], ◌++◌, length, take, Some, None, Ok, Err, ℤ, inl, inr, true, true≢false}, proofs.lemmas.Bool.{cases_lt}}
 use Rattle.std.proofs.lemmas.List.{length-take, length-take-le, append-nil, take_all, take-append-le}
-use Rattle.mob_outside.specs.Told.{Contents, Opens}
-use Rattle.mob_outside.specs.Streams.{ReadsPart, ReadsTo}
+use Rattle.mob_value.specs.declared.value.Value.{Value}
+use Rattle.mob_catalog.{specs.declared.fault.FileFault.{FileFault}, specs.TableFile.{file_limit, Column, IsTable, FileFails}}
+use Rattle.mob_outside.{specs.Told.{Contents, Opens}, specs.Streams.{ReadsPart, ReadsTo}}
 use Rattle.mob_load.specs.Fronts.{IsFront, IsLeftOf}
-use Rattle.mob_catalog.specs.TableFile.{file_limit, Column, IsTable, FileFails}
 
 -- the bytes read up to the limit, or to one byte past it, are the front
 read_front : (limit : ℕ) (a b : Option (List ℕ)) (bytes : List ℕ) → ReadsTo limit a b bytes → IfSome a (λ whole. bytes ≡ take (limit + 1) whole)

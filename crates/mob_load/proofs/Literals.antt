@@ -1,17 +1,12 @@
 -- A refused literal.
 use Rattle.std.proofs.Common.{◌≡◌, ◌≢◌, ◌⊎◌, refl, inl, inr, ap, ℤ, Err}
-use Rattle.mob_ast.specs.Kinds.{no_memory}
-use Rattle.mob_ast.specs.declared.refusal.Kind.{Kind}
-use Rattle.mob_ast.specs.declared.refusal.Kind.TheVariants as kind
-use Rattle.mob_ast.specs.declared.refusal.Refusal.{Refusal}
+use Rattle.mob_ast.{specs.Kinds.{no_memory}, specs.declared.refusal.Kind.{Kind}, specs.declared.refusal.Refusal.{Refusal}}
 use Rattle.mob_numeral.specs.declared.fault.ReadText.{ReadText}
-use Rattle.mob_numeral.specs.declared.fault.ReadText.TheVariants as text
-use Rattle.mob_catalog.specs.Constants.{ConstantFails}
-use Rattle.mob_catalog.specs.Faults.{IsKindOfFault}
+use Rattle.mob_catalog.{specs.Constants.{ConstantFails}, specs.Faults.{IsKindOfFault}}
 use Rattle.mob_typed.specs.declared.typed.ConstText.{ConstText}
-use Rattle.mob_load.specs.Loads.{Loaded, LoadsLiteral, LoadsTo}
-use Rattle.mob_load.specs.declared.program.LoadEnd.{LoadEnd}
-use Rattle.mob_load.specs.declared.program.LoadEnd.TheVariants.{Refused, NoMemory}
+use Rattle.mob_load.{specs.Loads.{Loaded, LoadsLiteral, LoadsTo}, specs.declared.program.LoadEnd.{LoadEnd}, specs.declared.program.LoadEnd.TheVariants.{Refused, NoMemory}}
+use Rattle.mob_ast.specs.declared.refusal.Kind.TheVariants as kind
+use Rattle.mob_numeral.specs.declared.fault.ReadText.TheVariants as text
 
 -- no text is refused for a failed allocation
 never_memory : (f : ReadText) (k : Kind) → IsKindOfFault f k → k ≢ kind.NoMemory

@@ -1,17 +1,11 @@
 -- The tables of a typed script have at most 64 columns.
+use Rattle.std.{specs.List.{AllByRecursion}, specs.Prelude.{OnOk, slice_get}}
 use Rattle.std.proofs.Common.{◌≡◌, sym, subst, arith, ℕ, zero, suc, ◌+◌, ◌≤◌, ◌<◌, List, [], ◌∷◌, ◌++◌, length, map, get_or, Result, Ok, Err}
-use Rattle.std.specs.List.{AllByRecursion}
-use Rattle.std.specs.Prelude.{OnOk, slice_get}
 use Rattle.mob_ast.specs.Trees.{StatementParts}
-use Rattle.mob_typed.specs.declared.typed.ConstText.{ConstText}
-use Rattle.mob_typed.specs.Statements.{ColumnList, ScriptOut, StatementOut, new_table}
-use Rattle.mob_typing.specs.Statements.{typed_script}
-use Rattle.mob_typing.specs.WellTyped.{IsTypedStatement, tables_behind, AreTypedStatements}
-use Rattle.mob_typing.proofs.WalkedScripts.{typing_gives_well_typed}
-use Rattle.mob_load.specs.Checks.{check_seen, literal, Checkpoint, checkpoints_of, checkpoints_from, in_order, checks_of}
-use Rattle.mob_load.specs.declared.check.Check.{Check}
-use Rattle.mob_load.specs.Loads.{Loaded, nothing_loaded, with_made_table as add_table, IsNarrow, AreNarrow, HasNarrow, columns_or_none}
-use Rattle.mob_load.proofs.EachCheck.{order_each}
+use Rattle.mob_typed.{specs.declared.typed.ConstText.{ConstText}, specs.Statements.{ColumnList, ScriptOut, StatementOut, new_table}}
+use Rattle.mob_typing.{specs.Statements.{typed_script}, specs.WellTyped.{IsTypedStatement, tables_behind, AreTypedStatements}, proofs.WalkedScripts.{typing_gives_well_typed}}
+use Rattle.mob_load.{specs.Checks.{check_seen, literal, Checkpoint, checkpoints_of, checkpoints_from, in_order, checks_of}, specs.declared.check.Check.{Check}}
+use Rattle.mob_load.{specs.Loads.{Loaded, nothing_loaded, with_made_table as add_table, IsNarrow, AreNarrow, HasNarrow, columns_or_none}, proofs.EachCheck.{order_each}}
 use Rattle.mob_load.proofs.EachCheckpoint.{each_checkpoint}
 use Rattle.mob_list.proofs.Each.{each_both}
 

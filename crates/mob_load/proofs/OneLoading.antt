@@ -1,15 +1,11 @@
 -- Loading has one outcome.
-use Rattle.std.proofs.Common.{◌≡◌, ◌∙◌, sym, ap, subst, ℕ, ℤ, ◌-◌, List, [], ◌∷◌, Option, Some, None, Ok, Err}
-use Rattle.std.specs.Prelude.{Result}
+use Rattle.std.{specs.Prelude.{Result}, proofs.Common.{◌≡◌, ◌∙◌, sym, ap, subst, ℕ, ℤ, ◌-◌, List, [], ◌∷◌, Option, Some, None, Ok, Err}}
 use Rattle.mob_outside.specs.Told.{Contents, file_of}
-use Rattle.mob_catalog.specs.Outcomes.{HasOneFault, HasOneTable, NeverReadAndRefused}
-use Rattle.mob_catalog.specs.declared.fault.FileFault.{FileFault}
-use Rattle.mob_catalog.proofs.OneMeaning.{one_value, one_refusal, value_or_refusal}
+use Rattle.mob_catalog.{specs.Outcomes.{HasOneFault, HasOneTable, NeverReadAndRefused}, specs.declared.fault.FileFault.{FileFault}, proofs.OneMeaning.{one_value, one_refusal, value_or_refusal}}
 use Rattle.mob_typed.specs.declared.typed.ConstText.{ConstText}
 use Rattle.mob_load.specs.Checks.{CheckParts, literal, table, room, file, checks_of}
-use Rattle.mob_load.specs.Loads.{ContinuesBy, Halt, Loaded, Loads, LoadsCheck, LoadsFile, LoadsLiteral, loaded_columns, greatest_rows, nothing_loaded, refused, loaded_row_count, table_refused, with_file, with_value}
-use Rattle.mob_load.specs.Outcomes.{HasOneLoading, LoadsOneProgram}
-use Rattle.mob_load.specs.declared.program.Program.{Program}
+use Rattle.mob_load.specs.Loads.{ContinuesBy, Halt, Loaded, Loads, LoadsCheck, LoadsFile, LoadsLiteral, loaded_columns, greatest_rows, nothing_loaded, refused, loaded_row_count, table_refused}
+use Rattle.mob_load.{specs.Loads.{with_file, with_value}, specs.Outcomes.{HasOneLoading, LoadsOneProgram}, specs.declared.program.Program.{Program}}
 
 one_read : (day : ℤ) (c : ConstText) (l : Loaded) (r q : Result Loaded Halt) → LoadsLiteral day c l r → LoadsLiteral day c l q → r ≡ q
 one_read day c l (Ok m) (Ok n) h k = ap Ok (h.2 ∙ ap (with_value l) (one_value day c h.0 k.0 h.1 k.1) ∙ sym k.2)

@@ -1,14 +1,10 @@
 -- What a script has read, whatever its files are.
-use Rattle.std.proofs.Common.{◌≡◌, refl, sym, subst, ℕ, ℤ, List, [], ◌∷◌, Option, Some, Result, Ok, Err}
-use Rattle.std.specs.Prelude.{OnOk}
-use Rattle.std.proofs.lemmas.Slice.Eq.{bytes_eq-Decides}
+use Rattle.std.{specs.Prelude.{OnOk}, proofs.Common.{◌≡◌, refl, sym, subst, ℕ, ℤ, List, [], ◌∷◌, Option, Some, Result, Ok, Err}, proofs.lemmas.Slice.Eq.{bytes_eq-Decides}}
 use Rattle.mob_outside.specs.Told.{Contents, file_of}
 use Rattle.mob_typed.specs.Statements.{ScriptOut}
 use Rattle.mob_load.specs.Checks.{CheckParts, file, checks_of}
 use Rattle.mob_load.specs.Loads.{Loaded, Halt, Loads, LoadsCheck, LoadsFile, LoadsTo, LoadedIsRead, ContinuesBy, OnRead, ReadsCheck, ReadsChecks, ReadsScript, nothing_loaded}
-use Rattle.mob_load.specs.declared.program.LoadEnd.{LoadEnd}
-use Rattle.mob_load.specs.declared.program.LoadEnd.TheVariants.{Refused, TableRefused, ReadFault, NoMemory}
-use Rattle.mob_load.specs.declared.program.Program.{Program}
+use Rattle.mob_load.{specs.declared.program.LoadEnd.{LoadEnd}, specs.declared.program.LoadEnd.TheVariants.{Refused, TableRefused, ReadFault, NoMemory}, specs.declared.program.Program.{Program}}
 
 -- the meaning of a good result
 pub on_loads : {A : Type 0} (P : Result Loaded Halt → Type 0) (r : Result A LoadEnd) (after : Loaded) → LoadsTo r after P → OnOk r (P (Ok after))

@@ -1,21 +1,14 @@
 -- One check after another.
-use Rattle.std.proofs.Common.{◌≡◌, ◌∙◌, inl, inr, refl, sym, ap, subst, arith, ℕ, ℤ, ◌-◌, ◌+◌, ◌≤◌, rules, List, [], ◌∷◌, ◌++◌, take, Option, Some, None, Result, Ok, Err}
-use Rattle.std.specs.Prelude.{IfSome}
+use Rattle.std.{specs.Prelude.{IfSome}, proofs.Common.{◌≡◌, ◌∙◌, inl, inr, refl, sym, ap, subst, arith, ℕ, ℤ, ◌-◌, ◌+◌, ◌≤◌, rules, List, [], ◌∷◌, ◌++◌, take, Option, Some, None, Result, Ok, Err}}
 use Rattle.std.proofs.lemmas.List.{append-nil}
 use Rattle.mob_ast.specs.declared.refusal.Kind.{Kind}
-use Rattle.mob_outside.specs.Faults.{Rose}
-use Rattle.mob_outside.specs.Told.{Contents, file_of, KeepsFiles, MayAskFor}
-use Rattle.mob_typed.specs.Statements.{ColumnList}
-use Rattle.mob_typed.specs.Statements.{ScriptOut}
-use Rattle.mob_load.specs.declared.program.Program.{Program}
-use Rattle.mob_load.specs.Checks.{CheckParts, file, checks_of}
-use Rattle.mob_load.specs.Fronts.{AreFilesFor, AsksForSome, IsFront, OnFiles}
-use Rattle.mob_catalog.specs.Faults.{file_fault}
-use Rattle.mob_catalog.specs.TableFile.{file_limit, FileFails}
-use Rattle.mob_load.proofs.Fronts.{table_front, fails_front}
-use Rattle.mob_load.specs.Loads.{LoadsTo, Halt, HasFaultCause, IsLoadOutcome, refused, table_refused, Loaded, Loads, LoadsScript, LoadsCheck, LoadsFile, RefusesFile, ChecksStopBy, ContinuesBy, copied_files, loaded_columns, greatest_rows, loaded_row_count, nothing_loaded}
-use Rattle.mob_load.specs.declared.program.LoadEnd.{LoadEnd}
-use Rattle.mob_load.specs.declared.program.LoadEnd.TheVariants.{Refused, TableRefused, ReadFault, NoMemory}
+use Rattle.mob_outside.{specs.Faults.{Rose}, specs.Told.{Contents, file_of, KeepsFiles, MayAskFor}}
+use Rattle.mob_typed.specs.Statements.{ColumnList, ScriptOut}
+use Rattle.mob_load.{specs.declared.program.Program.{Program}, specs.Checks.{CheckParts, file, checks_of}, specs.Fronts.{AreFilesFor, AsksForSome, IsFront, OnFiles}}
+use Rattle.mob_load.specs.Loads.{LoadsTo, Halt, HasFaultCause, IsLoadOutcome, refused, table_refused, Loaded, Loads, LoadsScript, LoadsCheck, LoadsFile, RefusesFile, ChecksStopBy, ContinuesBy}
+use Rattle.mob_load.{specs.Loads.{copied_files, loaded_columns, greatest_rows, loaded_row_count, nothing_loaded}, specs.declared.program.LoadEnd.{LoadEnd}}
+use Rattle.mob_load.{specs.declared.program.LoadEnd.TheVariants.{Refused, TableRefused, ReadFault, NoMemory}, proofs.Fronts.{table_front, fails_front}}
+use Rattle.mob_catalog.{specs.Faults.{file_fault}, specs.TableFile.{file_limit, FileFails}}
 
 -- a refused file
 pub file_refused : (day : ℤ) (t : ℕ) (name copy bytes : List ℕ) (l : Loaded) (columns : ColumnList) (room rec field : ℕ) (k : Kind)

@@ -3,13 +3,10 @@ use Rattle.std.proofs.Common.{◌≡◌, refl, sym, subst, ℕ, ℤ, ◌+◌, Li
 use Rattle.mob_ast.specs.declared.refusal.Kind.{Kind}
 use Rattle.mob_outside.specs.Told.{Contents, file_of}
 use Rattle.mob_typed.specs.Statements.{ScriptOut}
-use Rattle.mob_load.specs.Checks.{CheckParts, literal, table, room, file, checks_of}
-use Rattle.mob_load.specs.Fronts.{AsksForAll, AsksForSome, IsAskedLast, OnFiles}
-use Rattle.mob_load.specs.Loads.{ChecksStopBy, IsFaultAt, IsFile, Loaded, Loads, LoadsCheck, LoadsFile, LoadsTo, OnRead, IsFileReached, copied_files, names_in, names_of, nothing_loaded, refused, table_refused}
-use Rattle.mob_load.specs.declared.program.LoadEnd.{LoadEnd}
-use Rattle.mob_load.specs.declared.program.LoadEnd.TheVariants.{Refused, TableRefused, ReadFault, NoMemory}
-use Rattle.mob_load.proofs.Asked.{asked_last, checks_ask, names_around, opened_last}
-use Rattle.mob_load.proofs.Steps.{loads_behind}
+use Rattle.mob_load.{specs.Checks.{CheckParts, literal, table, room, file, checks_of}, specs.Fronts.{AsksForAll, AsksForSome, IsAskedLast, OnFiles}}
+use Rattle.mob_load.specs.Loads.{ChecksStopBy, IsFaultAt, IsFile, Loaded, Loads, LoadsCheck, LoadsFile, LoadsTo, OnRead, IsFileReached, copied_files, names_in, names_of, nothing_loaded, refused}
+use Rattle.mob_load.{specs.Loads.{table_refused}, specs.declared.program.LoadEnd.{LoadEnd}, specs.declared.program.LoadEnd.TheVariants.{Refused, TableRefused, ReadFault, NoMemory}}
+use Rattle.mob_load.{proofs.Asked.{asked_last, checks_ask, names_around, opened_last}, proofs.Steps.{loads_behind}}
 
 module _ (day : ℤ) (first others : List CheckParts) (told : Option Contents) (a b d : Option (List (List ℕ))) (so_far : AsksForAll (names_in first) a b) (l after : Loaded) where
   -- the checks before it all pass, on the files of all checks

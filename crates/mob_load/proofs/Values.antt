@@ -1,16 +1,14 @@
 -- The literals of a script and their values, one by one.
+use Rattle.std.{specs.Prelude.{nat_lt}, specs.List.{AllByRecursion, AllZip}}
 use Rattle.std.proofs.Common.{◌≡◌, ◌∙◌, refl, sym, ap, subst, Bool, true, false, ℕ, ℤ, ◌+◌, List, [], ◌∷◌, ◌++◌, map, Option, Some, None, Ok, append_assoc, append-nil}
-use Rattle.std.specs.Prelude.{nat_lt}
-use Rattle.std.specs.List.{AllByRecursion, AllZip}
 use Rattle.mob_outside.specs.Told.{file_of}
 use Rattle.mob_value.specs.declared.value.Value.{Value}
 use Rattle.mob_catalog.specs.Constants.{IsConstant}
-use Rattle.mob_typed.specs.declared.typed.ConstText.{ConstText}
-use Rattle.mob_typed.specs.Statements.{StatementOut}
+use Rattle.mob_typed.{specs.declared.typed.ConstText.{ConstText}, specs.Statements.{StatementOut}}
 use Rattle.mob_load.specs.declared.program.Program.{Program}
 use Rattle.mob_load.specs.Checks.{CheckParts, literal, table, room, file, Checkpoint, checkpoints_of, checkpoints_from, stands_before, checks_up_to, in_order, checks_of}
-use Rattle.mob_load.specs.Loads.{Loaded, LoadsFile, ReadsCheck, ReadsChecks, literal_of, literals_in, one_row, greatest_rows, loaded_row_count, nothing_loaded, with_made_table, LooksAtLiterals, ProgramHasValues}
-use Rattle.mob_load.proofs.EachCheckpoint.{each_checkpoint}
+use Rattle.mob_load.specs.Loads.{Loaded, LoadsFile, ReadsCheck, ReadsChecks, literal_of, literals_in, one_row, greatest_rows, loaded_row_count, nothing_loaded, with_made_table, LooksAtLiterals}
+use Rattle.mob_load.{specs.Loads.{ProgramHasValues}, proofs.EachCheckpoint.{each_checkpoint}}
 use Rattle.mob_list.proofs.Each.{each_both}
 
 -- checkpoints that are not literals

@@ -1,19 +1,11 @@
 -- A script in written order is checked in that order.
-use Rattle.std.proofs.Common.{◌≡◌, ◌∙◌, refl, sym, ap, subst, arith, eq-eqb, inl, inr, Bool, true, false, ℕ, ◌+◌, ◌<◌, ◌≤◌, List, [], ◌∷◌, ◌++◌, map}
-use Rattle.std.specs.Prelude.{◌⊎◌, ◌==◌, ◌&&◌, ◌||◌, filter, nat_lt}
-use Rattle.std.specs.List.{AllByRecursion}
-use Rattle.std.proofs.lemmas.Bool.{eqb-true, ltb-true, lt-ltb}
-use Rattle.mob_typed.specs.declared.typed.ConstText.{ConstText}
-use Rattle.mob_typed.specs.Statements.{StatementOut, nothing, new_table, new_index, new_rows, rows_from, deletion, query, plan_of}
-use Rattle.mob_load.specs.Checks.{CheckParts, literal, Checkpoint, bracket, checkpoints_of, checkpoints_from, stands_before, checks_up_to, in_order}
-use Rattle.mob_load.specs.Loads.{literal_of}
-use Rattle.mob_typed.specs.Written.{HasRisingRows, IsUpTo, LiteralUpTo, Rises}
-use Rattle.mob_load.specs.Order.{IsCutAt, LooksInOrder}
+use Rattle.std.{specs.Prelude.{◌⊎◌, ◌==◌, ◌&&◌, ◌||◌, filter, nat_lt}, specs.List.{AllByRecursion}}
+use Rattle.std.{proofs.Common.{◌≡◌, ◌∙◌, refl, sym, ap, subst, arith, eq-eqb, inl, inr, Bool, true, false, ℕ, ◌+◌, ◌<◌, ◌≤◌, List, [], ◌∷◌, ◌++◌, map}, proofs.lemmas.Bool.{eqb-true, ltb-true, lt-ltb}}
+use Rattle.mob_typed.{specs.declared.typed.ConstText.{ConstText}, specs.Statements.{StatementOut, nothing, new_table, new_index, new_rows, rows_from, deletion, query, plan_of}}
+use Rattle.mob_typed.{specs.Written.{HasRisingRows, IsUpTo, LiteralUpTo, Rises}, proofs.Rising.{both_rise}}
+use Rattle.mob_load.{specs.Checks.{CheckParts, literal, Checkpoint, bracket, checkpoints_of, checkpoints_from, stands_before, checks_up_to, in_order}, specs.Loads.{literal_of}}
+use Rattle.mob_load.{specs.Order.{IsCutAt, LooksInOrder}, proofs.EachCheckpoint.{each_checkpoint}, proofs.Checkpoints.{own_checkpoint}, proofs.Values.{NoLiterals, no_all}}
 use Rattle.mob_list.proofs.Each.{each_both, each_map, each_on, one_of}
-use Rattle.mob_typed.proofs.Rising.{both_rise}
-use Rattle.mob_load.proofs.EachCheckpoint.{each_checkpoint}
-use Rattle.mob_load.proofs.Checkpoints.{own_checkpoint}
-use Rattle.mob_load.proofs.Values.{NoLiterals, no_all}
 
 abbrev CheckpointUpTo : Checkpoint → Checkpoint → Type 0
 CheckpointUpTo m k = IsUpTo m.statement m.place k.statement k.place

@@ -1,10 +1,7 @@
 -- The checks of a script before it runs, in written order.
 use Rattle.std.specs.Prelude.{◌==◌, ◌&&◌, ◌||◌, ◌+◌, ℕ, List, [], ◌∷◌, ◌++◌, Bool, map, nat_lt, if◌then◌else◌}
-use Rattle.mob_typed.specs.declared.typed.ConstText.{ConstText}
-use Rattle.mob_typed.specs.Statements.{ColumnList}
-use Rattle.mob_typed.specs.Statements.{StatementOut, nothing, new_table, new_index, new_rows, rows_from, deletion, query, plan_of, ScriptOut}
-use Rattle.mob_load.specs.declared.check.Check.{Check}
-use Rattle.mob_load.specs.declared.check.Check.TheVariants.{Literal, Table, Room, File}
+use Rattle.mob_typed.{specs.declared.typed.ConstText.{ConstText}, specs.Statements.{ColumnList, StatementOut, nothing, new_table, new_index, new_rows, rows_from, deletion, query, plan_of, ScriptOut}}
+use Rattle.mob_load.{specs.declared.check.Check.{Check}, specs.declared.check.Check.TheVariants.{Literal, Table, Room, File}}
 
 -- A check: a literal; a new table with these columns; room for one more row of an INSERT (the
 -- table, the statement, and the place of the row's bracket); a file whose rows go into a table.

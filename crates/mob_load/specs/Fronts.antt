@@ -1,8 +1,7 @@
 -- What reading a table file consumes, and the names that it asks for.
 use Rattle.std.specs.Prelude.{◌≡◌, ◌⊎◌, ◌≤◌, ◌+◌, ◌++◌, ⊤, ℕ, List, [], take, length, slice_get, Option, Some, None}
 use Rattle.mob_catalog.specs.TableFile.{file_limit}
-use Rattle.mob_outside.specs.Told.{Contents, file_of}
-use Rattle.mob_outside.specs.Streams.{ReadsPart}
+use Rattle.mob_outside.{specs.Told.{Contents, file_of}, specs.Streams.{ReadsPart}}
 
 -- the front of the file with this name, up to one byte past the limit
 abbrev pub IsFront : List ℕ → Contents → List ℕ → Type 0

@@ -1,26 +1,16 @@
 -- What a script reads before it runs, in written order. The first check that fails decides.
 use Rattle.std.specs.Prelude.{◌≡◌, ◌≤◌, ◌⊎◌, ◌+◌, ◌-◌, ℤ, ℕ, List, [], ◌∷◌, ◌++◌, length, map, nat_lt, slice_get, slice_index, slice_set, Option, Some, None, Result, Ok, Err, if◌then◌else◌}
 use Rattle.std.specs.List.{AllByRecursion, flat_map, AllZip}
-use Rattle.mob_ast.specs.declared.refusal.Kind.{Kind}
-use Rattle.mob_ast.specs.declared.refusal.Kind.TheVariants as kind
-use Rattle.mob_ast.specs.declared.refusal.Refusal.{Refusal}
+use Rattle.mob_ast.{specs.declared.refusal.Kind.{Kind}, specs.declared.refusal.Refusal.{Refusal}, specs.Trees.{StatementParts}}
 use Rattle.mob_value.specs.declared.value.Value.{Value}
-use Rattle.mob_outside.specs.Faults.{Rose}
-use Rattle.mob_outside.specs.Told.{Contents, file_of}
-use Rattle.mob_catalog.specs.Constants.{IsConstant, ConstantFails}
-use Rattle.mob_catalog.specs.declared.fault.FileFault.{FileFault}
-use Rattle.mob_catalog.specs.TableFile.{IsTable, FileFails}
-use Rattle.mob_typed.specs.declared.typed.ConstText.{ConstText}
-use Rattle.mob_typed.specs.Statements.{ColumnList}
-use Rattle.mob_typed.specs.Statements.{ScriptOut, StatementOut, rows_from}
+use Rattle.mob_outside.{specs.Faults.{Rose}, specs.Told.{Contents, file_of}}
+use Rattle.mob_catalog.{specs.Constants.{IsConstant, ConstantFails}, specs.declared.fault.FileFault.{FileFault}, specs.TableFile.{IsTable, FileFails}}
+use Rattle.mob_typed.{specs.declared.typed.ConstText.{ConstText}, specs.Statements.{ColumnList, ScriptOut, StatementOut, rows_from}}
 use Rattle.mob_typing.specs.Statements.{typed_script}
-use Rattle.mob_ast.specs.Trees.{StatementParts}
-use Rattle.mob_load.specs.Checks.{CheckParts, literal, table, room, file, checks_of}
-use Rattle.mob_load.specs.Fronts.{IsAskedLast, OnFiles}
-use Rattle.mob_load.specs.declared.loading.Loading.{Loading}
-use Rattle.mob_load.specs.declared.program.Program.{Program}
-use Rattle.mob_load.specs.declared.program.LoadEnd.{LoadEnd}
+use Rattle.mob_load.{specs.Checks.{CheckParts, literal, table, room, file, checks_of}, specs.Fronts.{IsAskedLast, OnFiles}, specs.declared.loading.Loading.{Loading}}
+use Rattle.mob_load.{specs.declared.program.Program.{Program}, specs.declared.program.LoadEnd.{LoadEnd}}
 use Rattle.mob_load.specs.declared.program.LoadEnd.TheVariants.{Refused, TableRefused, ReadFault, NoMemory as OutOfMemory}
+use Rattle.mob_ast.specs.declared.refusal.Kind.TheVariants as kind
 
 -- what was read so far: the values of the literals, the columns of the tables with their numbers of
 -- rows, and the rows of the files

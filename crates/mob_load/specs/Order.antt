@@ -1,11 +1,7 @@
 -- The order in which a script is checked.
-use Rattle.std.specs.Prelude.{◌≡◌, ◌++◌, ◌∷◌, List, [], map, filter}
-use Rattle.std.specs.List.{flat_map}
-use Rattle.mob_typed.specs.declared.typed.ConstText.{ConstText}
-use Rattle.mob_typed.specs.Statements.{ScriptOut}
-use Rattle.mob_typed.specs.Written.{IsWritten}
-use Rattle.mob_load.specs.Checks.{CheckParts, Checkpoint, literal, checkpoints_from, checks_of, stands_before}
-use Rattle.mob_load.specs.Loads.{literals_in}
+use Rattle.std.{specs.Prelude.{◌≡◌, ◌++◌, ◌∷◌, List, [], map, filter}, specs.List.{flat_map}}
+use Rattle.mob_typed.{specs.declared.typed.ConstText.{ConstText}, specs.Statements.{ScriptOut}, specs.Written.{IsWritten}}
+use Rattle.mob_load.{specs.Checks.{CheckParts, Checkpoint, literal, checkpoints_from, checks_of, stands_before}, specs.Loads.{literals_in}}
 
 -- a check other than a literal
 abbrev pub checkpoint_in : CheckParts → List CheckParts

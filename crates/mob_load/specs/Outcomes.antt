@@ -2,9 +2,7 @@
 use Rattle.std.specs.Prelude.{◌≡◌, ℤ, List, Result}
 use Rattle.mob_outside.specs.Told.{Contents}
 use Rattle.mob_typed.specs.Statements.{ScriptOut}
-use Rattle.mob_load.specs.Checks.{CheckParts}
-use Rattle.mob_load.specs.Loads.{Halt, Loaded, Loads, LoadsScript}
-use Rattle.mob_load.specs.declared.program.Program.{Program}
+use Rattle.mob_load.{specs.Checks.{CheckParts}, specs.Loads.{Halt, Loaded, Loads, LoadsScript}, specs.declared.program.Program.{Program}}
 
 -- checks read one thing from a start, or have one first failure
 abbrev pub HasOneLoading : Type 0

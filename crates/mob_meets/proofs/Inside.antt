@@ -1,28 +1,14 @@
 -- A point inside closed rings is in each area that contains their corners.
-use Rattle.std.proofs.Common.{◌≡◌, Bool, true, false, not, ◌&&◌, ◌||◌, List, [], ◌∷◌, ◌++◌, Option, Some, arith, refl, sym, ap, ◌∙◌, subst, inl, inr, true≢false}
-use Rattle.std.proofs.lemmas.Bool.{or_parts}
-use Rattle.std.specs.Prelude.{All, suc, length, slice_get, ◌-◌}
-use Rattle.std.specs.List.{AllByRecursion, list_any}
+use Rattle.std.{specs.Prelude.{All, suc, length, slice_get, ◌-◌}, specs.List.{AllByRecursion, list_any}}
+use Rattle.std.{proofs.Common.{◌≡◌, Bool, true, false, not, ◌&&◌, ◌||◌, List, [], ◌∷◌, ◌++◌, Option, Some, arith, refl, sym, ap, ◌∙◌, subst, inl, inr, true≢false}, proofs.lemmas.Bool.{or_parts}}
 use Rattle.mob_list.proofs.Each.{each_on, each_parts}
-use Rattle.mob_ratio.specs.Ratio.{Ratio, ◌+ℚ◌, ◌-ℚ◌, neg_ℚ, ◌*ℚ◌, ◌<ℚ◌, ◌≤ℚ◌}
-use Rattle.mob_ratio.specs.Order.{before, up_to}
-use Rattle.mob_ratio.specs.Sign.{nil}
-use Rattle.mob_ratio.proofs.IntRing.{linear}
-use Rattle.mob_ratio.proofs.Clear.{clear1, clear6, cleared}
-use Rattle.mob_ratio.proofs.Field.{cases_lt, le_lt, lt_le, neg_lt}
-use Rattle.mob_ratio.proofs.Order.{lt-before, before-lt, up_to-le, before-back, before-from}
-use Rattle.mob_quadratic.proofs.Convex.{mul_lt, mul_le, sub_lt, sub_le, add_lt_le}
-use Rattle.mob_plane.specs.Corners.{all_points}
-use Rattle.mob_plane.specs.EdgeWise.{signs_at, signs_to, is_on, crosses, some_on, odd_cross}
-use Rattle.mob_plane.specs.Membership.{inside, lies_between, lies_on, is_one_alone, passes_right, crossing_at}
-use Rattle.mob_plane.specs.Points.{same_point, same_point_exact}
-use Rattle.mob_plane.specs.Rings.{edges, all_edges, are_one, is_open_ring, has_open}
-use Rattle.mob_plane.specs.Turns.{turn}
-use Rattle.mob_plane.specs.declared.point.Point.{Point}
-use Rattle.mob_plane.proofs.BySigns.{on_is, right_is, inside_signs}
+use Rattle.mob_ratio.{specs.Ratio.{Ratio, ◌+ℚ◌, ◌-ℚ◌, neg_ℚ, ◌*ℚ◌, ◌<ℚ◌, ◌≤ℚ◌}, specs.Order.{before, up_to}, specs.Sign.{nil}, proofs.IntRing.{linear}, proofs.Clear.{clear1, clear6, cleared}}
+use Rattle.mob_ratio.{proofs.Field.{cases_lt, le_lt, lt_le, neg_lt}, proofs.Order.{lt-before, before-lt, up_to-le, before-back, before-from}, proofs.Convex.{mul_lt, mul_le, sub_lt, sub_le, add_lt_le}}
+use Rattle.mob_plane.{specs.Corners.{all_points}, specs.EdgeWise.{signs_at, signs_to, is_on, crosses, some_on, odd_cross}}
+use Rattle.mob_plane.{specs.Membership.{inside, lies_between, lies_on, is_one_alone, passes_right, crossing_at}, specs.Points.{same_point, same_point_exact}}
+use Rattle.mob_plane.{specs.Rings.{edges, all_edges, are_one, is_open_ring, has_open}, specs.Turns.{turn}, specs.declared.point.Point.{Point}, proofs.BySigns.{on_is, right_is, inside_signs}}
 use Rattle.mob_plane.proofs.Crossings.{rising_crossing, falling_crossing}
-use Rattle.mob_stbox.specs.Areas.{InArea}
-use Rattle.mob_stbox.specs.declared.area.Area.{Area}
+use Rattle.mob_stbox.{specs.Areas.{InArea}, specs.declared.area.Area.{Area}}
 
 -- ---- edges on one side of a point
 

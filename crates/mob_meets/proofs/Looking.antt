@@ -1,25 +1,12 @@
 -- Boxes of polygons, and the one box by which a value is searched for.
-use Rattle.std.proofs.Common.{◌≡◌, true, false, List, Option, Some, None, refl, sym, ap, ◌∙◌, subst}
-use Rattle.std.specs.Prelude.{All, IfSome, is_some, ◌&&◌, ◌||◌}
-use Rattle.std.proofs.lemmas.List.Elements.{All-contains}
-use Rattle.mob_ratio.specs.Ratio.{Ratio}
-use Rattle.mob_ratio.specs.Order.{up_to}
-use Rattle.mob_ratio.proofs.Field.{le_trans}
-use Rattle.mob_ratio.proofs.Order.{not-up_to-le, smaller_left, greater_right, up_to-both}
+use Rattle.std.{specs.Prelude.{All, IfSome, is_some, ◌&&◌, ◌||◌}, proofs.Common.{◌≡◌, true, false, List, Option, Some, None, refl, sym, ap, ◌∙◌, subst}, proofs.lemmas.List.Elements.{All-contains}}
+use Rattle.mob_ratio.{specs.Ratio.{Ratio}, specs.Order.{up_to}, proofs.Field.{le_trans}, proofs.Order.{not-up_to-le, smaller_left, greater_right, up_to-both}}
 use Rattle.mob_span.specs.Span.{SpanOf, InSpan}
-use Rattle.mob_plane.specs.Corners.{all_points, AreCorners, IsLeastAmong, IsGreatestAmong}
-use Rattle.mob_plane.specs.Membership.{inside}
-use Rattle.mob_plane.specs.Points.{point_by_coordinates}
-use Rattle.mob_plane.specs.Rings.{has_open}
+use Rattle.mob_plane.{specs.Corners.{all_points, AreCorners, IsLeastAmong, IsGreatestAmong}, specs.Membership.{inside}, specs.Points.{point_by_coordinates}, specs.Rings.{has_open}}
 use Rattle.mob_plane.specs.declared.point.Point.{Point as PointOf}
-use Rattle.mob_stbox.specs.Areas.{InArea, area_between}
-use Rattle.mob_stbox.specs.Boxes.{BoxOf, BoxesMeet, both_have}
-use Rattle.mob_value.specs.declared.value.Value.{Value}
-use Rattle.mob_value.specs.declared.value.Value.TheVariants.{Point, Polygon}
-use Rattle.mob_value.proofs.ValueBoxes.{one_own_box}
-use Rattle.mob_meets.specs.Covers.{Covers, box_between, IsLookedForBy}
-use Rattle.mob_meets.proofs.Near.{area_of, there_in}
-use Rattle.mob_meets.proofs.Inside.{inside_in}
+use Rattle.mob_stbox.{specs.Areas.{InArea, area_between}, specs.Boxes.{BoxOf, BoxesMeet, both_have}}
+use Rattle.mob_value.{specs.declared.value.Value.{Value}, specs.declared.value.Value.TheVariants.{Point, Polygon}, proofs.ValueBoxes.{one_own_box}}
+use Rattle.mob_meets.{specs.Covers.{Covers, box_between, IsLookedForBy}, proofs.Near.{area_of, there_in}, proofs.Inside.{inside_in}}
 
 -- all points are in the bounding rectangle of their corners
 corners_have : (ps : List PointOf) (least greatest : PointOf) → AreCorners ps least greatest → All (InArea (area_between least greatest)) ps

@@ -1,21 +1,11 @@
 -- Points that are near in the plane are near in each coordinate, so their boxes meet.
-use Rattle.std.proofs.Common.{◌≡◌, true, inl, inr, Option, Some, None, arith, refl, sym, ap, ◌∙◌, subst}
-use Rattle.std.proofs.lemmas.Bool.{and_parts}
-use Rattle.std.specs.Prelude.{IfSome, is_some, cond, ◌||◌, ◌&&◌}
-use Rattle.mob_ratio.specs.Ratio.{Ratio, ◌+ℚ◌, ◌-ℚ◌, ◌*ℚ◌, ◌<ℚ◌, ◌≤ℚ◌}
-use Rattle.mob_ratio.specs.Order.{up_to}
-use Rattle.mob_ratio.specs.Sign.{nil}
-use Rattle.mob_ratio.proofs.IntRing.{linear}
-use Rattle.mob_ratio.proofs.Clear.{clear2, clear4, cleared}
-use Rattle.mob_ratio.proofs.Field.{le_trans, le_of_lt, le_of_eq, cases_lt, not_both, lt_mul_pos, add_comm, mul_comm, le_lt, square-turned}
-use Rattle.mob_ratio.proofs.Order.{not-up_to-le}
-use Rattle.mob_quadratic.proofs.Convex.{le_mul_pos, square_le}
+use Rattle.std.{specs.Prelude.{IfSome, is_some, cond, ◌||◌, ◌&&◌}, proofs.Common.{◌≡◌, true, inl, inr, Option, Some, None, arith, refl, sym, ap, ◌∙◌, subst}, proofs.lemmas.Bool.{and_parts}}
+use Rattle.mob_ratio.{specs.Ratio.{Ratio, ◌+ℚ◌, ◌-ℚ◌, ◌*ℚ◌, ◌<ℚ◌, ◌≤ℚ◌}, specs.Order.{up_to}, specs.Sign.{nil}, proofs.IntRing.{linear}, proofs.Clear.{clear2, clear4, cleared}}
+use Rattle.mob_ratio.{proofs.Field.{le_trans, le_of_lt, le_of_eq, cases_lt, not_both, lt_mul_pos, add_comm, mul_comm, le_lt, square-turned}, proofs.Order.{not-up_to-le}}
+use Rattle.mob_ratio.proofs.Convex.{le_mul_pos, square_le}
 use Rattle.mob_span.specs.Span.{SpanOf, InSpan}
 use Rattle.mob_plane.specs.declared.point.Point.{Point}
-use Rattle.mob_stbox.specs.Areas.{InArea, is_area}
-use Rattle.mob_stbox.specs.Boxes.{BoxOf, BoxesMeet, InBox, both_have}
-use Rattle.mob_stbox.specs.Expansion.{expanded, moved_area, moved_space}
-use Rattle.mob_stbox.specs.declared.area.Area.{Area}
+use Rattle.mob_stbox.{specs.Areas.{InArea, is_area}, specs.Boxes.{BoxOf, BoxesMeet, InBox, both_have}, specs.Expansion.{expanded, moved_area, moved_space}, specs.declared.area.Area.{Area}}
 use Rattle.mob_stbox.proofs.Sides.{area_has_point}
 use Rattle.mob_lift.specs.Sometime.{IsSometime}
 use Rattle.mob_near.specs.Distances.{are_within, distance_squared}

@@ -1,14 +1,9 @@
 -- Boxes over places at instants, and the box by which a value is searched for.
 use Rattle.std.specs.Prelude.{◌≡◌, true, Option, Some, None, IfSome}
 use Rattle.mob_ratio.specs.Ratio.{Ratio}
-use Rattle.mob_plane.specs.Corners.{all_points, AreCorners}
-use Rattle.mob_plane.specs.Rings.{are_sound}
-use Rattle.mob_plane.specs.declared.point.Point.{Point as PointOf}
-use Rattle.mob_stbox.specs.Areas.{area_between}
-use Rattle.mob_stbox.specs.Boxes.{BoxOf, InBox}
-use Rattle.mob_value.specs.ValueBoxes.{HasBox}
-use Rattle.mob_value.specs.declared.value.Value.{Value}
-use Rattle.mob_value.specs.declared.value.Value.TheVariants.{Point, Polygon}
+use Rattle.mob_plane.{specs.Corners.{all_points, AreCorners}, specs.Rings.{are_sound}, specs.declared.point.Point.{Point as PointOf}}
+use Rattle.mob_stbox.{specs.Areas.{area_between}, specs.Boxes.{BoxOf, InBox}}
+use Rattle.mob_value.{specs.ValueBoxes.{HasBox}, specs.declared.value.Value.{Value}, specs.declared.value.Value.TheVariants.{Point, Polygon}}
 
 -- each place, at its instant, is in the box
 abbrev pub Covers : (Ratio → Option PointOf) → BoxOf → Type 0

@@ -1,25 +1,12 @@
 -- The nearest of all pieces is the nearest of all common instants.
-use Rattle.std.specs.Prelude.{◌≡◌, ◌⊎◌, ◌||◌, Bool, true, false, cond, not, List, [], ◌∷◌, Option, Some, None, refl}
-use Rattle.std.specs.List.{AllByRecursion}
+use Rattle.std.{specs.Prelude.{◌≡◌, ◌⊎◌, ◌||◌, Bool, true, false, cond, not, List, [], ◌∷◌, Option, Some, None, refl}, specs.List.{AllByRecursion}}
 use Rattle.std.proofs.Common.{arith, ap, sym, ◌∙◌, subst, inl, inr}
-use Rattle.mob_ratio.specs.Ratio.{Ratio}
-use Rattle.mob_ratio.specs.Order.{before, up_to, smaller}
-use Rattle.mob_ratio.proofs.Order.{before-self, before-trans, not-up_to-le, le-up_to}
-use Rattle.mob_ratio.proofs.Field.{le_trans}
+use Rattle.mob_ratio.{specs.Ratio.{Ratio}, specs.Order.{before, up_to, smaller}, proofs.Order.{before-self, before-trans, not-up_to-le, le-up_to}, proofs.Field.{le_trans}}
 use Rattle.mob_plane.specs.declared.point.Point.{Point}
-use Rattle.mob_span.specs.Pieces.{PiecesAreClear, piece_at}
-use Rattle.mob_span.proofs.SpanLemmas.{some_instant}
-use Rattle.mob_slice.specs.Sides.{OperandOf, side_at, pieces, given_at, has_slices}
-use Rattle.mob_slice.specs.Lines.{plane_value_of}
-use Rattle.mob_slice.specs.declared.line.PlaneLine.{PlaneLine}
-use Rattle.mob_lift.specs.Sometime.{IsSometime}
-use Rattle.mob_lift.proofs.Walking.{walked}
-use Rattle.mob_lifted.proofs.Options.{none_some}
-use Rattle.mob_lift.proofs.PieceAt.{first_at, later_at, which_at, there, found, no_common, common_by}
-use Rattle.mob_near.specs.Approaches.{IsNearest, IsApproach}
-use Rattle.mob_near.specs.Distances.{distance_squared}
-use Rattle.mob_near.specs.Entries.{PointPiece}
-use Rattle.mob_near.specs.Legs.{nearest_of, piece_approach}
+use Rattle.mob_span.{specs.Pieces.{PiecesAreClear, piece_at}, proofs.SpanLemmas.{some_instant}}
+use Rattle.mob_slice.{specs.Sides.{OperandOf, side_at, pieces, given_at, has_slices}, specs.Lines.{plane_value_of}, specs.declared.line.PlaneLine.{PlaneLine}, proofs.Options.{none_some}}
+use Rattle.mob_lift.{specs.Sometime.{IsSometime}, proofs.Walking.{walked}, proofs.PieceAt.{first_at, later_at, which_at, there, found, no_common, common_by}}
+use Rattle.mob_near.{specs.Approaches.{IsNearest, IsApproach}, specs.Distances.{distance_squared}, specs.Entries.{PointPiece}, specs.Legs.{nearest_of, piece_approach}}
 use Rattle.mob_near.proofs.OnPieces.{square_on, IsNearestOn}
 
 pub up_to-trans : (a b c : Ratio) → up_to a b ≡ true → up_to b c ≡ true → up_to a c ≡ true

@@ -1,24 +1,12 @@
 -- The meaning of the answers of all pieces for a distance.
-use Rattle.std.specs.Prelude.{◌≡◌, ◌↔◌, ◌||◌, Bool, true, false, cond, List, [], ◌∷◌, Option, Some, None, Result, Ok, Err, IfOk, IsTrue, MatchOption, not, refl}
-use Rattle.std.specs.Option.{is_some}
+use Rattle.std.{specs.Prelude.{◌≡◌, ◌↔◌, ◌||◌, Bool, true, false, cond, List, [], ◌∷◌, Option, Some, None, Result, Ok, Err, IfOk, IsTrue, MatchOption, not, refl}, specs.Option.{is_some}}
 use Rattle.std.proofs.Common.{ap, sym, ◌∙◌, subst, true≢false}
-use Rattle.mob_ratio.specs.Ratio.{Ratio, ◌*ℚ◌}
-use Rattle.mob_ratio.specs.Order.{before, up_to}
-use Rattle.mob_ratio.specs.Sign.{nil}
-use Rattle.mob_ratio.proofs.Order.{le-up_to}
+use Rattle.mob_ratio.{specs.Ratio.{Ratio, ◌*ℚ◌}, specs.Order.{before, up_to}, specs.Sign.{nil}, proofs.Order.{le-up_to}, proofs.Convex.{square_le}}
 use Rattle.mob_plane.specs.declared.point.Point.{Point}
-use Rattle.mob_span.specs.Pieces.{PiecesAreClear}
-use Rattle.mob_span.proofs.SpanLemmas.{some_instant}
-use Rattle.mob_slice.specs.Sides.{OperandOf, pieces, given_at, has_slices}
-use Rattle.mob_slice.specs.Lines.{plane_value_of}
-use Rattle.mob_slice.specs.declared.line.PlaneLine.{PlaneLine}
-use Rattle.mob_lift.specs.Sometime.{HaveCommon, IsEver}
-use Rattle.mob_lift.proofs.PieceAt.{no_common, common_by}
-use Rattle.mob_quadratic.proofs.Convex.{square_le}
-use Rattle.mob_near.specs.Distances.{distance_squared, are_within}
-use Rattle.mob_near.specs.Entries.{PointPiece}
-use Rattle.mob_near.specs.Legs.{are_some}
-use Rattle.mob_slice.specs.declared.formula.Formula.{Formula}
+use Rattle.mob_span.{specs.Pieces.{PiecesAreClear}, proofs.SpanLemmas.{some_instant}}
+use Rattle.mob_slice.{specs.Sides.{OperandOf, pieces, given_at, has_slices}, specs.Lines.{plane_value_of}, specs.declared.line.PlaneLine.{PlaneLine}, specs.declared.formula.Formula.{Formula}}
+use Rattle.mob_lift.{specs.Sometime.{HaveCommon, IsEver}, proofs.PieceAt.{no_common, common_by}}
+use Rattle.mob_near.{specs.Distances.{distance_squared, are_within}, specs.Entries.{PointPiece}, specs.Legs.{are_some}}
 
 -- ---- a common instant
 -- the first step of a walk shows whether any piece exists

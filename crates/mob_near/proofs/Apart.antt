@@ -1,31 +1,13 @@
 -- Points in two rectangles, and how far they are from each other.
-use Rattle.std.proofs.Common.{◌≡◌, Bool, true, false, true≢false, pos, [], arith, refl, sym, ap, ◌∙◌, subst}
-use Rattle.std.specs.Prelude.{cond, not, ◌||◌}
-use Rattle.mob_ratio.specs.Ratio.{Ratio, ◌+ℚ◌, ◌-ℚ◌, ◌*ℚ◌, ◌<ℚ◌, ◌≤ℚ◌}
-use Rattle.mob_ratio.specs.Line.{line_at}
-use Rattle.mob_ratio.specs.Order.{before, up_to}
-use Rattle.mob_ratio.specs.Sign.{nil}
-use Rattle.mob_ratio.proofs.Between.{within}
-use Rattle.mob_ratio.proofs.Clear.{clear2, clear4, clear5, cleared}
-use Rattle.mob_ratio.proofs.Field.{le_trans, le_of_lt, le_of_eq, lt_le, le_lt, lt_mul_pos, mul_comm, add_comm}
-use Rattle.mob_ratio.proofs.IntRing.{linear}
-use Rattle.mob_ratio.proofs.LineAt.{line_at-short}
-use Rattle.mob_ratio.proofs.Ring.{lit, ◌⊗◌}
-use Rattle.mob_ratio.proofs.Rings.{ring_ℚ}
-use Rattle.mob_ratio.proofs.Order.{before-back, before-lt, le-up_to, lt-before, not-up_to-le}
-use Rattle.mob_quadratic.proofs.Convex.{square_le, le_mul_pos, sub_le}
+use Rattle.std.{specs.Prelude.{cond, not, ◌||◌}, proofs.Common.{◌≡◌, Bool, true, false, true≢false, pos, [], arith, refl, sym, ap, ◌∙◌, subst}}
+use Rattle.mob_ratio.{specs.Ratio.{Ratio, ◌+ℚ◌, ◌-ℚ◌, ◌*ℚ◌, ◌<ℚ◌, ◌≤ℚ◌}, specs.Line.{line_at}, specs.Order.{before, up_to}, specs.Sign.{nil}, proofs.Between.{within}}
+use Rattle.mob_ratio.{proofs.Clear.{clear2, clear4, clear5, cleared}, proofs.Field.{le_trans, le_of_lt, le_of_eq, lt_le, le_lt, lt_mul_pos, mul_comm, add_comm}, proofs.IntRing.{linear}}
+use Rattle.mob_ratio.{proofs.LineAt.{line_at-short}, proofs.Ring.{lit, ◌⊗◌}, proofs.Rings.{ring_ℚ}, proofs.Order.{before-back, before-lt, le-up_to, lt-before, not-up_to-le}}
+use Rattle.mob_ratio.proofs.Convex.{square_le, le_mul_pos, sub_le}
 use Rattle.mob_plane.specs.declared.point.Point.{Point}
-use Rattle.mob_span.specs.Span.{SpanOf, has}
-use Rattle.mob_span.specs.Neighbours.{is_inside}
-use Rattle.mob_span.proofs.Insides.{inside_has}
-use Rattle.mob_span.proofs.SpanLemmas.{has_upto_lower, has_upto_upper}
-use Rattle.mob_slice.specs.Lines.{plane_value_of}
-use Rattle.mob_slice.specs.Sides.{SideOf, Moves, Stays, HoldsSide, side_at}
-use Rattle.mob_slice.specs.declared.line.PlaneLine.{PlaneLine}
-use Rattle.mob_near.specs.Covers.{IsCovered, CoversSide, is_beyond, cover_gap}
-use Rattle.mob_near.specs.Distances.{distance_squared}
-use Rattle.mob_near.specs.declared.covers.Cover.{Cover}
-use Rattle.mob_near.proofs.AllNearest.{up_to-trans}
+use Rattle.mob_span.{specs.Span.{SpanOf, has}, specs.Neighbours.{is_inside}, proofs.Insides.{inside_has}, proofs.SpanLemmas.{has_upto_lower, has_upto_upper}}
+use Rattle.mob_slice.{specs.Lines.{plane_value_of}, specs.Sides.{SideOf, Moves, Stays, HoldsSide, side_at}, specs.declared.line.PlaneLine.{PlaneLine}}
+use Rattle.mob_near.{specs.Covers.{IsCovered, CoversSide, is_beyond, cover_gap}, specs.Distances.{distance_squared}, specs.declared.covers.Cover.{Cover}, proofs.AllNearest.{up_to-trans}}
 
 -- ---- on one axis
 

@@ -1,17 +1,10 @@
 -- Worked examples of the definitions. Each holds by computing.
 use Rattle.std.proofs.Common.{◌≡◌, true, false, pos, negsuc, refl, [], ◌∷◌, ℕ}
-use Rattle.mob_ratio.specs.Gcd.{gcd, gcd_steps}
-use Rattle.mob_ratio.specs.Lowest.{in_lowest_terms}
-use Rattle.mob_ratio.specs.Ratio.{Ratio, over, whole, turned, inverse, ◌+ℚ◌, ◌*ℚ◌, neg_ℚ}
-use Rattle.mob_ratio.specs.Order.{before, same}
-use Rattle.mob_ratio.specs.Line.{line_at, line_value}
+use Rattle.mob_ratio.{specs.Gcd.{gcd, gcd_steps}, specs.Lowest.{in_lowest_terms}, specs.Ratio.{Ratio, over, whole, turned, inverse, ◌+ℚ◌, ◌*ℚ◌, neg_ℚ}, specs.Order.{before, same}}
+use Rattle.mob_ratio.{specs.Line.{line_at, line_value}, specs.Quadratic.{absolute}}
 use Rattle.mob_plane.specs.declared.point.Point.{Point}
-use Rattle.mob_slice.specs.Sides.{Moves, Stays}
-use Rattle.mob_slice.specs.declared.formula.Formula.TheVariants.{F1, F2, F5, F6}
-use Rattle.mob_quadratic.specs.Quadratic.{absolute}
-use Rattle.mob_near.specs.Distances.{distance_squared, are_within}
-use Rattle.mob_near.specs.Entries.{PointPiece, entries_of_within, entries_of_approach}
-use Rattle.mob_near.specs.Legs.{piece_reaches, piece_approach}
+use Rattle.mob_slice.{specs.Sides.{Moves, Stays}, specs.declared.formula.Formula.TheVariants.{F1, F2, F5, F6}}
+use Rattle.mob_near.{specs.Distances.{distance_squared, are_within}, specs.Entries.{PointPiece, entries_of_within, entries_of_approach}, specs.Legs.{piece_reaches, piece_approach}}
 
 abbrev n : ℕ → Ratio
 n k = whole (pos k)

@@ -1,21 +1,10 @@
 -- Pieces of points in two rectangles: their distance is not below that of the rectangles.
-use Rattle.std.specs.Prelude.{◌≡◌, Bool, true, false, not, refl}
-use Rattle.std.proofs.Common.{ap, sym, ◌∙◌, true≢false}
-use Rattle.mob_ratio.specs.Ratio.{Ratio, ◌*ℚ◌}
-use Rattle.mob_ratio.specs.Order.{before, up_to}
-use Rattle.mob_ratio.specs.Sign.{nil}
-use Rattle.std.proofs.lemmas.Bool.{false_from_ne_true}
-use Rattle.mob_ratio.proofs.Order.{not-up_to-le}
-use Rattle.mob_quadratic.proofs.Convex.{square_le}
+use Rattle.std.{specs.Prelude.{◌≡◌, Bool, true, false, not, refl}, proofs.Common.{ap, sym, ◌∙◌, true≢false}, proofs.lemmas.Bool.{false_from_ne_true}}
+use Rattle.mob_ratio.{specs.Ratio.{Ratio, ◌*ℚ◌}, specs.Order.{before, up_to}, specs.Sign.{nil}, proofs.Order.{not-up_to-le}, proofs.Convex.{square_le}}
 use Rattle.mob_span.specs.Span.{has, has_instant}
-use Rattle.mob_slice.specs.Sides.{side_at}
-use Rattle.mob_slice.specs.Lines.{plane_value_of}
-use Rattle.mob_near.specs.Covers.{CoversSide, IsCovered, is_beyond, cover_gap}
-use Rattle.mob_near.specs.Entries.{PointPiece}
-use Rattle.mob_near.specs.declared.covers.Cover.{Cover}
-use Rattle.mob_near.specs.Legs.{piece_reaches, piece_approach}
-use Rattle.mob_near.proofs.OnPieces.{IsHeld, square_on, reached_by, nearest_by}
-use Rattle.mob_near.proofs.Apart.{covered_at, gap_below, far_points}
+use Rattle.mob_slice.{specs.Sides.{side_at}, specs.Lines.{plane_value_of}}
+use Rattle.mob_near.{specs.Covers.{CoversSide, IsCovered, is_beyond, cover_gap}, specs.Entries.{PointPiece}, specs.declared.covers.Cover.{Cover}, specs.Legs.{piece_reaches, piece_approach}}
+use Rattle.mob_near.{proofs.OnPieces.{IsHeld, square_on, reached_by, nearest_by}, proofs.Apart.{covered_at, gap_below, far_points}}
 
 not_both : (b : Bool) → not b ≡ true → b ≡ true → ⊥
 not_both true h k = true≢false (sym h)

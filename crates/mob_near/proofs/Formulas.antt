@@ -1,18 +1,9 @@
 -- The parts of the formulas, from their named numbers.
-use Rattle.std.specs.Prelude.{◌≡◌, true, ◌&&◌, List, [], ◌∷◌, ◌++◌, Result, Ok, Err, refl}
-use Rattle.std.proofs.Common.{arith, ap, sym, ◌∙◌, subst}
-use Rattle.mob_ratio.specs.Ratio.{Ratio, ◌+ℚ◌, ◌-ℚ◌, ◌*ℚ◌, ◌<ℚ◌}
-use Rattle.mob_ratio.specs.Order.{before}
-use Rattle.mob_ratio.specs.Sign.{nil}
-use Rattle.mob_ratio.proofs.Order.{before-lt}
-use Rattle.mob_ratio.proofs.Field.{not_both, le_of_eq}
-use Rattle.mob_frac.specs.Fits.{Fits, IsExact}
-use Rattle.mob_frac.specs.Formula.{IsFormula, AllFit}
-use Rattle.mob_frac.proofs.PartsOfLines.{last_part}
+use Rattle.std.{specs.Prelude.{◌≡◌, true, ◌&&◌, List, [], ◌∷◌, ◌++◌, Result, Ok, Err, refl}, proofs.Common.{arith, ap, sym, ◌∙◌, subst}}
+use Rattle.mob_ratio.{specs.Ratio.{Ratio, ◌+ℚ◌, ◌-ℚ◌, ◌*ℚ◌, ◌<ℚ◌}, specs.Order.{before}, specs.Sign.{nil}, proofs.Order.{before-lt}, proofs.Field.{not_both, le_of_eq}, proofs.QuadraticTests.{pos_by}}
+use Rattle.mob_frac.{specs.Fits.{Fits, IsExact}, specs.Formula.{IsFormula, AllFit}, proofs.PartsOfLines.{last_part}}
 use Rattle.mob_slice.proofs.Cuts.{all_both, all_first, all_second}
-use Rattle.mob_quadratic.proofs.Tests.{pos_by}
-use Rattle.mob_near.specs.Legs.{dot_parts, cross_parts, foot_by, foot_by_parts}
-use Rattle.mob_near.specs.declared.foot.Foot.{Foot}
+use Rattle.mob_near.{specs.Legs.{dot_parts, cross_parts, foot_by, foot_by_parts}, specs.declared.foot.Foot.{Foot}}
 
 pub dot_last : {E : Type 0} (r : Result Ratio E) (x y z w p q : Ratio) → (p ≡ x *ℚ y) × Fits (x *ℚ y) → (q ≡ z *ℚ w) × Fits (z *ℚ w) → IsExact (p +ℚ q) r → IsFormula (dot_parts x y z w) (x *ℚ y +ℚ z *ℚ w) r
 dot_last r x y z w p q hp hq h =

@@ -1,24 +1,13 @@
 -- The entries of a piece, and of all pieces.
-use Rattle.std.specs.Prelude.{◌≡◌, Bool, true, false, cond, List, [], ◌∷◌, ◌++◌, Option, Some, None, Result, Ok, Err, refl}
-use Rattle.std.specs.List.{flat_map}
+use Rattle.std.{specs.Prelude.{◌≡◌, Bool, true, false, cond, List, [], ◌∷◌, ◌++◌, Option, Some, None, Result, Ok, Err, refl}, specs.List.{flat_map}}
 use Rattle.std.proofs.Common.{ap, sym, ◌∙◌, subst, inl, inr, ⊎_elim}
-use Rattle.mob_ratio.specs.Ratio.{Ratio, ◌*ℚ◌}
-use Rattle.mob_ratio.specs.Order.{before}
-use Rattle.mob_ratio.specs.Sign.{nil}
+use Rattle.mob_ratio.{specs.Ratio.{Ratio, ◌*ℚ◌}, specs.Order.{before}, specs.Sign.{nil}}
 use Rattle.mob_frac.specs.Formula.{AllFit, distance_parts}
-use Rattle.mob_slice.specs.Computed.{IsComputed}
-use Rattle.mob_slice.specs.Entries.{Entry, IsFirst, IsDecided}
-use Rattle.mob_slice.specs.LineComparison.{point_gaps}
-use Rattle.mob_slice.specs.Lines.{plane_value_of, plane_parts_of}
-use Rattle.mob_slice.specs.Sides.{side_parts, at_ends}
-use Rattle.mob_slice.specs.declared.line.PlaneLine.{PlaneLine}
-use Rattle.mob_slice.specs.declared.formula.Formula.{Formula}
-use Rattle.mob_slice.proofs.Cuts.{all_both}
-use Rattle.mob_slice.specs.declared.formula.Formula.TheVariants.{F2, F5, F6}
+use Rattle.mob_slice.{specs.Computed.{IsComputed}, specs.Entries.{Entry, IsFirst, IsDecided}, specs.LineComparison.{point_gaps}, specs.Lines.{plane_value_of, plane_parts_of}}
+use Rattle.mob_slice.{specs.Sides.{side_parts, at_ends}, specs.declared.line.PlaneLine.{PlaneLine}, specs.declared.formula.Formula.{Formula}, specs.declared.formula.Formula.TheVariants.{F2, F5, F6}}
+use Rattle.mob_slice.{proofs.Cuts.{all_both}, proofs.JoinedFirsts.{first_joined, first_front}}
 use Rattle.mob_cells.specs.Gaps.{entries_of_ends}
-use Rattle.mob_lifted.proofs.Firsts.{first_joined, first_front}
-use Rattle.mob_near.specs.Entries.{PointPiece, entries_of_squares, entries_of_reach, entries_of_within}
-use Rattle.mob_near.specs.Legs.{ends_of, leg_between, leg_parts, leg_of, squares_parts, are_some}
+use Rattle.mob_near.{specs.Entries.{PointPiece, entries_of_squares, entries_of_reach, entries_of_within}, specs.Legs.{ends_of, leg_between, leg_parts, leg_of, squares_parts, are_some}}
 use Rattle.mob_near.specs.declared.leg.Leg.{Leg}
 
 -- the differences at both ends of a piece, once the points there are known

@@ -1,24 +1,12 @@
 -- Where all narrow entries of the nearest approach fit, so does the number that is given.
-use Rattle.std.specs.Prelude.{◌≡◌, Bool, true, false, cond, ◌&&◌, List, [], ◌∷◌, ◌++◌, Option, Some, None}
-use Rattle.std.specs.List.{flat_map}
-use Rattle.std.proofs.Common.{refl, sym, inl, inr, true≢false}
-use Rattle.mob_ratio.specs.Ratio.{Ratio, ◌+ℚ◌, ◌-ℚ◌, ◌*ℚ◌, ◌/ℚ◌}
-use Rattle.mob_ratio.specs.Order.{before}
-use Rattle.mob_ratio.specs.Sign.{nil}
-use Rattle.mob_frac.specs.Fits.{Fits}
-use Rattle.mob_frac.specs.Formula.{AllFit, approach_parts, square_parts}
-use Rattle.mob_quadratic.specs.Quadratic.{infimum_by}
-use Rattle.mob_slice.specs.Entries.{Entry, IsFirst}
-use Rattle.mob_slice.specs.LineComparison.{point_gaps}
-use Rattle.mob_slice.specs.Lines.{plane_value_of, plane_parts_of}
-use Rattle.mob_slice.specs.Sides.{at_ends}
+use Rattle.std.{specs.Prelude.{◌≡◌, Bool, true, false, cond, ◌&&◌, List, [], ◌∷◌, ◌++◌, Option, Some, None}, specs.List.{flat_map}, proofs.Common.{refl, sym, inl, inr, true≢false}}
+use Rattle.mob_ratio.{specs.Ratio.{Ratio, ◌+ℚ◌, ◌-ℚ◌, ◌*ℚ◌, ◌/ℚ◌}, specs.Order.{before}, specs.Sign.{nil}, specs.Quadratic.{infimum_by}}
+use Rattle.mob_frac.{specs.Fits.{Fits}, specs.Formula.{AllFit, approach_parts, square_parts}}
+use Rattle.mob_slice.{specs.Entries.{Entry, IsFirst}, specs.LineComparison.{point_gaps}, specs.Lines.{plane_value_of, plane_parts_of}, specs.Sides.{at_ends}}
 use Rattle.mob_slice.specs.declared.formula.Formula.TheVariants.{F5, F6}
-use Rattle.mob_cells.specs.Gaps.{entries_of_ends}
-use Rattle.mob_cells.specs.Roots.{as_list}
+use Rattle.mob_cells.{specs.Gaps.{entries_of_ends}, specs.Roots.{as_list}}
 use Rattle.mob_near.specs.Entries.{PointPiece, gap_x, gap_y, entries_of_squares, entries_of_approach, parts_between}
-use Rattle.mob_near.specs.Legs.{leg_of, squares_of, foot_of, is_on_the_way, leg_approach, piece_approach, nearest_of}
-use Rattle.mob_near.specs.Distances.{length_squared}
-use Rattle.mob_near.specs.Wide.{least_approach}
+use Rattle.mob_near.{specs.Legs.{leg_of, squares_of, foot_of, is_on_the_way, leg_approach, piece_approach, nearest_of}, specs.Distances.{length_squared}, specs.Wide.{least_approach}}
 
 -- entries of two lists that all fit
 none_front : (xs ys : List Entry) → IsFirst (xs ++ ys) None → IsFirst xs None

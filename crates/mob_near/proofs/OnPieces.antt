@@ -1,26 +1,12 @@
 -- The nearness of two points on a piece of time.
-use Rattle.std.specs.Prelude.{◌≡◌, ◌↔◌, Bool, true, false, cond, not, List, [], ◌∷◌, refl}
-use Rattle.std.specs.List.{AllByRecursion}
-use Rattle.std.proofs.Common.{arith, ap, sym, ◌∙◌, subst}
-use Rattle.mob_ratio.specs.Ratio.{Ratio, ◌≤ℚ◌}
-use Rattle.mob_ratio.specs.Order.{before, up_to}
-use Rattle.mob_ratio.specs.Sign.{nil}
-use Rattle.mob_ratio.proofs.LineAt.{line_at-short}
-use Rattle.mob_ratio.proofs.Order.{before-self}
-use Rattle.mob_span.specs.Span.{SpanOf, has, has_instant}
-use Rattle.mob_span.specs.Pieces.{PiecesAreClear}
-use Rattle.mob_slice.specs.Sides.{HoldsPiece, side_at}
-use Rattle.mob_slice.specs.Lines.{plane_value_of}
-use Rattle.mob_slice.specs.LineComparison.{plane_comparison}
-use Rattle.mob_slice.specs.PlaneLaws.{plane_laws}
-use Rattle.mob_slice.specs.declared.comparison.Gaps.{Gaps}
+use Rattle.std.{specs.Prelude.{◌≡◌, ◌↔◌, Bool, true, false, cond, not, List, [], ◌∷◌, refl}, specs.List.{AllByRecursion}, proofs.Common.{arith, ap, sym, ◌∙◌, subst}}
+use Rattle.mob_ratio.{specs.Ratio.{Ratio, ◌≤ℚ◌}, specs.Order.{before, up_to}, specs.Sign.{nil}, proofs.LineAt.{line_at-short}, proofs.Order.{before-self}}
+use Rattle.mob_span.{specs.Span.{SpanOf, has, has_instant}, specs.Pieces.{PiecesAreClear}}
+use Rattle.mob_slice.{specs.Sides.{HoldsPiece, side_at}, specs.Lines.{plane_value_of}, specs.LineComparison.{plane_comparison}, specs.PlaneLaws.{plane_laws}, specs.declared.comparison.Gaps.{Gaps}}
 use Rattle.mob_slice.specs.declared.comparison.Gaps.TheVariants.{Constant, One, Two}
 use Rattle.mob_cells.proofs.AtEnds.{gaps_on}
-use Rattle.mob_near.specs.Distances.{length_squared, distance_squared}
-use Rattle.mob_near.specs.Entries.{PointPiece}
-use Rattle.mob_near.specs.Legs.{leg_of, squares_of, leg_reaches, leg_approach, piece_reaches, piece_approach}
-use Rattle.mob_near.specs.declared.leg.Leg.{Leg}
-use Rattle.mob_near.proofs.Place.{square_at, reached, approached}
+use Rattle.mob_near.{specs.Distances.{length_squared, distance_squared}, specs.Entries.{PointPiece}, specs.Legs.{leg_of, squares_of, leg_reaches, leg_approach, piece_reaches, piece_approach}}
+use Rattle.mob_near.{specs.declared.leg.Leg.{Leg}, proofs.Place.{square_at, reached, approached}}
 
 abbrev pub IsHeld : PointPiece → Type 0
 IsHeld p = HoldsPiece (λ c. c.from) (λ c. c.to) (λ c. c.from) (λ c. c.to) p

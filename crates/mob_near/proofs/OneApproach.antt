@@ -1,10 +1,6 @@
 -- Two moving points have one nearest approach.
-use Rattle.std.specs.Prelude.{◌≡◌, false, Option, Some, None, refl}
-use Rattle.std.proofs.Common.{ap, sym, true≢false}
-use Rattle.std.proofs.lemmas.Bool.{false_from_ne_true}
-use Rattle.mob_ratio.specs.Ratio.{Ratio}
-use Rattle.mob_ratio.specs.Order.{before}
-use Rattle.mob_ratio.proofs.Order.{before-neither}
+use Rattle.std.{specs.Prelude.{◌≡◌, false, Option, Some, None, refl}, proofs.Common.{ap, sym, true≢false}, proofs.lemmas.Bool.{false_from_ne_true}}
+use Rattle.mob_ratio.{specs.Ratio.{Ratio}, specs.Order.{before}, proofs.Order.{before-neither}}
 use Rattle.mob_plane.specs.declared.point.Point.{Point}
 use Rattle.mob_near.specs.Approaches.{IsNearest, IsApproach}
 

@@ -1,25 +1,13 @@
 -- The squared length of a difference that changes linearly is a convex quadratic function of the
 -- elapsed fraction of the time.
-use Rattle.std.specs.Prelude.{◌≡◌, ◌↔◌, ◌&&◌, Bool, true, false, [], ◌∷◌, pos, refl}
-use Rattle.std.proofs.Common.{ap, sym, ◌∙◌, subst}
-use Rattle.mob_ratio.specs.Ratio.{Ratio, ◌+ℚ◌, ◌-ℚ◌, ◌*ℚ◌, ◌/ℚ◌, ◌<ℚ◌, ◌≤ℚ◌}
-use Rattle.mob_ratio.specs.Order.{before, up_to}
-use Rattle.mob_ratio.specs.Sign.{nil}
-use Rattle.mob_ratio.specs.Line.{line_at}
-use Rattle.mob_ratio.proofs.LineAt.{line_at-known}
-use Rattle.mob_ratio.proofs.Order.{before-lt, lt-before, same_truth}
-use Rattle.mob_ratio.proofs.Field.{lt_by, lt_mul_pos, lt_of_mul_pos, mul_assoc}
-use Rattle.mob_ratio.proofs.Divide.{div-mul, sub_ne-zero}
-use Rattle.mob_ratio.proofs.Ring.{at, lit, ◌⊕◌, ◌⊗◌, ◌⊖◌}
-use Rattle.mob_ratio.proofs.Rings.{ring_ℚ}
+use Rattle.std.{specs.Prelude.{◌≡◌, ◌↔◌, ◌&&◌, Bool, true, false, [], ◌∷◌, pos, refl}, proofs.Common.{ap, sym, ◌∙◌, subst}}
+use Rattle.mob_ratio.{specs.Ratio.{Ratio, ◌+ℚ◌, ◌-ℚ◌, ◌*ℚ◌, ◌/ℚ◌, ◌<ℚ◌, ◌≤ℚ◌}, specs.Order.{before, up_to}, specs.Sign.{nil}, specs.Line.{line_at}}
+use Rattle.mob_ratio.{specs.Quadratic.{one, quadratic, at_one, in_unit, dips, scaled_least, reaches, infimum, square_is_within}, proofs.LineAt.{line_at-known}}
+use Rattle.mob_ratio.{proofs.Order.{before-lt, lt-before, same_truth}, proofs.Field.{lt_by, lt_mul_pos, lt_of_mul_pos, mul_assoc}, proofs.Divide.{div-mul, sub_ne-zero}}
+use Rattle.mob_ratio.{proofs.Ring.{at, lit, ◌⊕◌, ◌⊗◌, ◌⊖◌}, proofs.Rings.{ring_ℚ}, proofs.Convex.{square_le, add_le, sub_lt}, proofs.QuadraticTests.{decided, bounded, inner}}
+use Rattle.mob_ratio.proofs.Absolute.{inner_test}
 use Rattle.mob_span.specs.Span.{SpanOf, has}
-use Rattle.mob_quadratic.specs.Quadratic.{one, quadratic, at_one, in_unit, dips, scaled_least, reaches, infimum, square_is_within}
-use Rattle.mob_quadratic.proofs.Convex.{square_le, add_le, sub_lt}
-use Rattle.mob_quadratic.proofs.Tests.{decided, bounded, inner}
-use Rattle.mob_quadratic.proofs.Absolute.{inner_test}
-use Rattle.mob_near.specs.Distances.{length_squared}
-use Rattle.mob_near.specs.Legs.{squares_of, foot_of, leg_reaches, leg_approach}
-use Rattle.mob_near.specs.declared.leg.Leg.{Leg}
+use Rattle.mob_near.{specs.Distances.{length_squared}, specs.Legs.{squares_of, foot_of, leg_reaches, leg_approach}, specs.declared.leg.Leg.{Leg}}
 
 -- the vector of the segment, its squared length, and its dot product with the start
 abbrev going : Ratio → Ratio → Ratio → Ratio

@@ -1,25 +1,13 @@
 -- The rectangles of two runs: their pieces are no nearer.
-use Rattle.std.specs.Prelude.{◌≡◌, true, false, List, [], ◌∷◌}
-use Rattle.std.specs.List.{AllByRecursion}
+use Rattle.std.{specs.Prelude.{◌≡◌, true, false, List, [], ◌∷◌}, specs.List.{AllByRecursion}}
 use Rattle.mob_list.proofs.Each.{each_map}
-use Rattle.mob_ratio.specs.Ratio.{Ratio, ◌*ℚ◌}
-use Rattle.mob_ratio.specs.Order.{up_to}
-use Rattle.mob_ratio.specs.Sign.{nil}
-use Rattle.mob_span.specs.Neighbours.{is_inside}
-use Rattle.mob_span.specs.Span.{SpanOf, has_instant}
-use Rattle.mob_span.specs.Meets.{PieceOf, shared_pieces}
-use Rattle.mob_span.specs.Pieces.{PiecesAreClear}
-use Rattle.mob_span.proofs.MeetLaws.{meets_clear, meets_hold}
-use Rattle.mob_slice.specs.Sides.{Slices, pieces}
-use Rattle.mob_slice.specs.Slices.{IsSound, IsOrdered}
+use Rattle.mob_ratio.{specs.Ratio.{Ratio, ◌*ℚ◌}, specs.Order.{up_to}, specs.Sign.{nil}}
+use Rattle.mob_span.{specs.Neighbours.{is_inside}, specs.Span.{SpanOf, has_instant}, specs.Meets.{PieceOf, shared_pieces}, specs.Pieces.{PiecesAreClear}, proofs.MeetLaws.{meets_clear, meets_hold}}
+use Rattle.mob_slice.{specs.Sides.{Slices, pieces}, specs.Slices.{IsSound, IsRisingInTime}, specs.declared.line.PlaneLine.{PlaneLine}, specs.declared.slice.Slice.{Slice}}
 use Rattle.mob_slice.proofs.Orders.{all_sound, ordered-clear}
-use Rattle.mob_slice.specs.declared.line.PlaneLine.{PlaneLine}
-use Rattle.mob_slice.specs.declared.slice.Slice.{Slice}
-use Rattle.mob_sync.specs.Pieces.{both_move}
-use Rattle.mob_near.specs.Covers.{CoversSlice, CoversRun, is_beyond, cover_gap, BeyondNeverReaches, GapsBoundApproaches}
-use Rattle.mob_near.specs.Legs.{piece_reaches, piece_approach}
-use Rattle.mob_near.specs.declared.covers.Cover.{Cover}
-use Rattle.mob_near.proofs.Far.{far_never, gap_bounds}
+use Rattle.mob_lift.specs.Pieces.{both_move}
+use Rattle.mob_near.{specs.Covers.{CoversSlice, CoversRun, is_beyond, cover_gap, BeyondNeverReaches, GapsBoundApproaches}, specs.Legs.{piece_reaches, piece_approach}}
+use Rattle.mob_near.{specs.declared.covers.Cover.{Cover}, proofs.Far.{far_never, gap_bounds}}
 
 each_two : {A : Type 0} (P Q : A → Type 0) (xs : List A) → AllByRecursion P xs → AllByRecursion Q xs → AllByRecursion (λ x. P x × Q x) xs
 each_two P Q [] h k = tt
@@ -32,7 +20,7 @@ some_each span (p ∷ ps) h = (h.0, some_each span ps h.2)
 abbrev IsSoundLine : Slice PlaneLine → Type 0
 IsSoundLine s = IsSound (λ c. c.from) (λ c. c.to) s
 
-module _ (c e : Cover) (v w : List (Slice PlaneLine)) (v_order : IsOrdered (λ c. c.from) (λ c. c.to) v) (w_order : IsOrdered (λ c. c.from) (λ c. c.to) w) (left : CoversRun c v) (right : CoversRun e w) where
+module _ (c e : Cover) (v w : List (Slice PlaneLine)) (v_order : IsRisingInTime (λ c. c.from) (λ c. c.to) v) (w_order : IsRisingInTime (λ c. c.from) (λ c. c.to) w) (left : CoversRun c v) (right : CoversRun e w) where
   abbrev IsInRuns : PieceOf (Slice PlaneLine) (Slice PlaneLine) → Type 0
   IsInRuns p = (((IsSoundLine p.left × CoversSlice c p.left) × (is_inside p.left.span p.span ≡ true)) × ((IsSoundLine p.right × CoversSlice e p.right) × (is_inside p.right.span p.span ≡ true))) × (has_instant p.span ≡ true)
 

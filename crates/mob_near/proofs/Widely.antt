@@ -1,38 +1,16 @@
 -- Nearness in numbers of any size, over all pieces.
-use Rattle.std.specs.Prelude.{◌≡◌, Bool, true, false, cond, ◌||◌, List, [], ◌∷◌, Option, Some, None, Result, Ok, Err, IfOk, refl}
-use Rattle.std.specs.List.{AllByRecursion}
+use Rattle.std.{specs.Prelude.{◌≡◌, Bool, true, false, cond, ◌||◌, List, [], ◌∷◌, Option, Some, None, Result, Ok, Err, IfOk, refl}, specs.List.{AllByRecursion}}
 use Rattle.std.proofs.Common.{arith, ap, sym, ◌∙◌, subst, inr}
-use Rattle.mob_ratio.specs.Ratio.{Ratio, ◌*ℚ◌, ◌≤ℚ◌}
-use Rattle.mob_ratio.specs.Order.{before, up_to}
-use Rattle.mob_ratio.specs.Sign.{nil}
-use Rattle.mob_ratio.proofs.Order.{before-back, before-neither, before-trans}
-use Rattle.mob_list.specs.declared.fault.Fault.{Fault}
-use Rattle.mob_list.specs.declared.fault.Fault.TheVariants.{Because, NoMemory}
-use Rattle.mob_quadratic.proofs.Convex.{square_le}
-use Rattle.mob_plane.specs.Corners.{smaller}
-use Rattle.mob_plane.proofs.Widening.{smaller_left, smaller_right, greater_left, greater_right}
-use Rattle.mob_plane.specs.declared.point.Point.{Point}
-use Rattle.mob_span.specs.Span.{SpanOf, has_instant}
-use Rattle.mob_span.specs.Pieces.{PiecesAreClear}
-use Rattle.mob_slice.specs.Entries.{IsJudged}
-use Rattle.mob_slice.specs.Lines.{plane_value_of}
-use Rattle.mob_slice.specs.Sides.{SideOf, Moves, Stays, OperandOf, given_at, has_slices, pieces}
-use Rattle.mob_slice.specs.declared.formula.Formula.{Formula}
-use Rattle.mob_slice.specs.declared.line.PlaneLine.{PlaneLine}
-use Rattle.mob_slice.specs.declared.mode.Mode.TheVariants.{Wide}
-use Rattle.mob_slice.proofs.Narrowing.{given_fits}
-use Rattle.mob_lift.specs.Sometime.{either, IsEver}
-use Rattle.mob_lift.proofs.AllPieces.{is_ever}
-use Rattle.mob_lift.proofs.Walking.{IsWalking, walked}
-use Rattle.mob_near.specs.Approaches.{IsApproach}
-use Rattle.mob_near.specs.Distances.{distance_squared}
-use Rattle.mob_near.specs.Covers.{CoversSide, side_cover, piece_covers, is_beyond, cover_gap}
-use Rattle.mob_near.specs.Entries.{PointPiece}
-use Rattle.mob_near.specs.Legs.{piece_reaches, piece_approach, nearest_of}
-use Rattle.mob_near.specs.Wide.{IsGivenOf, approach_entries_in, least_approach}
-use Rattle.mob_near.proofs.AllNearest.{up_to-trans, is_approach}
-use Rattle.mob_near.proofs.Far.{far_never, gap_bounds}
-use Rattle.mob_near.proofs.OnPieces.{IsHeld, all_reached, all_nearest}
+use Rattle.mob_ratio.{specs.Ratio.{Ratio, ◌*ℚ◌, ◌≤ℚ◌}, specs.Order.{before, up_to}, specs.Sign.{nil}, proofs.Order.{before-back, before-neither, before-trans}, proofs.Convex.{square_le}}
+use Rattle.mob_list.{specs.declared.fault.Fault.{Fault}, specs.declared.fault.Fault.TheVariants.{Because, NoMemory}}
+use Rattle.mob_plane.{specs.Corners.{smaller}, specs.declared.point.Point.{Point}, proofs.Widening.{smaller_left, smaller_right, greater_left, greater_right}}
+use Rattle.mob_span.{specs.Span.{SpanOf, has_instant}, specs.Pieces.{PiecesAreClear}}
+use Rattle.mob_slice.{specs.Entries.{IsJudged}, specs.Lines.{plane_value_of}, specs.Sides.{SideOf, Moves, Stays, OperandOf, given_at, has_slices, pieces}, specs.declared.formula.Formula.{Formula}}
+use Rattle.mob_slice.{specs.declared.line.PlaneLine.{PlaneLine}, specs.declared.mode.Mode.TheVariants.{Wide}, proofs.Narrowing.{given_fits}}
+use Rattle.mob_lift.{specs.Sometime.{either, IsEver}, proofs.AllPieces.{is_ever}, proofs.Walking.{IsWalking, walked}}
+use Rattle.mob_near.{specs.Approaches.{IsApproach}, specs.Distances.{distance_squared}, specs.Covers.{CoversSide, side_cover, piece_covers, is_beyond, cover_gap}, specs.Entries.{PointPiece}}
+use Rattle.mob_near.{specs.Legs.{piece_reaches, piece_approach, nearest_of}, specs.Wide.{IsGivenOf, approach_entries_in, least_approach}, proofs.AllNearest.{up_to-trans, is_approach}}
+use Rattle.mob_near.{proofs.Far.{far_never, gap_bounds}, proofs.OnPieces.{IsHeld, all_reached, all_nearest}}
 
 -- ---- the rectangles of a piece
 covers_side : (r : SpanOf) (q : SideOf PlaneLine Point) → CoversSide (side_cover r q) q

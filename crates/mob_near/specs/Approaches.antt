@@ -1,7 +1,6 @@
 -- The nearest approach of two moving points.
 use Rattle.std.specs.Prelude.{◌≡◌, true, Option, Some, None}
-use Rattle.mob_ratio.specs.Ratio.{Ratio}
-use Rattle.mob_ratio.specs.Order.{before, up_to}
+use Rattle.mob_ratio.{specs.Ratio.{Ratio}, specs.Order.{before, up_to}}
 use Rattle.mob_plane.specs.declared.point.Point.{Point}
 use Rattle.mob_lift.specs.Sometime.{IsSometime, HaveCommon}
 use Rattle.mob_near.specs.Distances.{distance_squared}

@@ -2,14 +2,8 @@
 use Rattle.std.specs.Prelude.{◌≡◌, Option}
 use Rattle.mob_ratio.specs.Ratio.{Ratio, ◌+ℚ◌, ◌-ℚ◌, ◌*ℚ◌}
 use Rattle.mob_plane.specs.declared.point.Point.{Point}
-use Rattle.mob_near.specs.Legs.{foot_of, foot_square, squares_of}
-use Rattle.mob_near.specs.declared.leg.Leg.{Leg}
-use Rattle.mob_near.specs.declared.leg.Squares.{Squares}
-use Rattle.mob_near.specs.declared.foot.Foot.{Foot}
-use Rattle.mob_near.specs.declared.broad.leg.Spot.{Spot}
-use Rattle.mob_near.specs.declared.broad.leg.BroadLeg.{BroadLeg}
-use Rattle.mob_near.specs.declared.broad.foot.BroadWay.{BroadWay}
-use Rattle.mob_near.specs.declared.broad.foot.BroadFoot.{BroadFoot}
+use Rattle.mob_near.{specs.Legs.{foot_of, foot_square, squares_of}, specs.declared.leg.Leg.{Leg}, specs.declared.leg.Squares.{Squares}, specs.declared.foot.Foot.{Foot}}
+use Rattle.mob_near.{specs.declared.broad.leg.Spot.{Spot}, specs.declared.broad.leg.BroadLeg.{BroadLeg}, specs.declared.broad.foot.BroadWay.{BroadWay}, specs.declared.broad.foot.BroadFoot.{BroadFoot}}
 
 abbrev pub as_point : Spot → Point
 as_point s = record { x = s.x; y = s.y }

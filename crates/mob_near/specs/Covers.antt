@@ -1,23 +1,11 @@
 -- Rectangles over runs of slices. A walk over two moving points passes over two runs at once if
 -- their rectangles are too far apart to matter.
-use Rattle.std.specs.Prelude.{◌≡◌, ◌≢◌, ℕ, Bool, true, false, cond, ◌||◌, ◌+◌, ◌≤◌, List, [], ◌∷◌, length, take, drop}
-use Rattle.std.specs.List.{AllByRecursion}
-use Rattle.mob_ratio.specs.Ratio.{Ratio, ◌+ℚ◌, ◌-ℚ◌, ◌*ℚ◌}
-use Rattle.mob_ratio.specs.Order.{before, up_to}
-use Rattle.mob_ratio.specs.Sign.{nil}
-use Rattle.mob_span.specs.Neighbours.{is_inside}
-use Rattle.mob_span.specs.Pieces.{PiecesAreClear}
-use Rattle.mob_span.specs.Span.{SpanOf}
-use Rattle.mob_plane.specs.Corners.{smaller, greater}
-use Rattle.mob_plane.specs.declared.point.Point.{Point}
-use Rattle.mob_slice.specs.Sides.{SideOf, Moves, Stays, Slices, pieces, side_start}
-use Rattle.mob_slice.specs.Slices.{IsOrdered}
-use Rattle.mob_slice.specs.declared.line.PlaneLine.{PlaneLine}
-use Rattle.mob_slice.specs.declared.slice.Slice.{Slice}
-use Rattle.mob_near.specs.Distances.{length_squared}
-use Rattle.mob_near.specs.Entries.{PointPiece}
-use Rattle.mob_near.specs.Legs.{piece_reaches, piece_approach}
-use Rattle.mob_near.specs.declared.covers.Cover.{Cover}
+use Rattle.std.{specs.Prelude.{◌≡◌, ◌≢◌, ℕ, Bool, true, false, cond, ◌||◌, ◌+◌, ◌≤◌, List, [], ◌∷◌, length, take, drop}, specs.List.{AllByRecursion}}
+use Rattle.mob_ratio.{specs.Ratio.{Ratio, ◌+ℚ◌, ◌-ℚ◌, ◌*ℚ◌}, specs.Order.{before, up_to}, specs.Sign.{nil}}
+use Rattle.mob_span.{specs.Neighbours.{is_inside}, specs.Pieces.{PiecesAreClear}, specs.Span.{SpanOf}}
+use Rattle.mob_plane.{specs.Corners.{smaller, greater}, specs.declared.point.Point.{Point}}
+use Rattle.mob_slice.{specs.Sides.{SideOf, Moves, Stays, Slices, pieces, side_start}, specs.Slices.{IsRisingInTime}, specs.declared.line.PlaneLine.{PlaneLine}, specs.declared.slice.Slice.{Slice}}
+use Rattle.mob_near.{specs.Distances.{length_squared}, specs.Entries.{PointPiece}, specs.Legs.{piece_reaches, piece_approach}, specs.declared.covers.Cover.{Cover}}
 
 -- the point lies in the rectangle
 pub record IsCovered (c : Cover) (p : Point) : Type 0 where
@@ -94,10 +82,10 @@ cover_gap c e = length_squared (range_between c.xmin c.xmax e.xmin e.xmax) (rang
 
 -- runs whose rectangles lie beyond d of each other do not come within d
 abbrev pub BeyondNeverReaches : Type 0
-BeyondNeverReaches = (d : Ratio) (c e : Cover) (v w : List (Slice PlaneLine)) → up_to nil d ≡ true → IsOrdered (λ z. z.from) (λ z. z.to) v → IsOrdered (λ z. z.from) (λ z. z.to) w → CoversRun c v → CoversRun e w → is_beyond d c e ≡ true
+BeyondNeverReaches = (d : Ratio) (c e : Cover) (v w : List (Slice PlaneLine)) → up_to nil d ≡ true → IsRisingInTime (λ z. z.from) (λ z. z.to) v → IsRisingInTime (λ z. z.from) (λ z. z.to) w → CoversRun c v → CoversRun e w → is_beyond d c e ≡ true
     → AllByRecursion (λ p. piece_reaches (d *ℚ d) p ≡ false) (pieces (Slices v) (Slices w))
 
 -- no approach of two runs is below the squared distance of their rectangles
 abbrev pub GapsBoundApproaches : Type 0
-GapsBoundApproaches = (c e : Cover) (v w : List (Slice PlaneLine)) → IsOrdered (λ z. z.from) (λ z. z.to) v → IsOrdered (λ z. z.from) (λ z. z.to) w → CoversRun c v → CoversRun e w
+GapsBoundApproaches = (c e : Cover) (v w : List (Slice PlaneLine)) → IsRisingInTime (λ z. z.from) (λ z. z.to) v → IsRisingInTime (λ z. z.from) (λ z. z.to) w → CoversRun c v → CoversRun e w
     → AllByRecursion (λ p. up_to (cover_gap c e) (piece_approach p) ≡ true) (pieces (Slices v) (Slices w))

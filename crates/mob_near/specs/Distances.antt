@@ -1,8 +1,6 @@
 -- The distance of two points, and whether it is at most a given distance.
 use Rattle.std.specs.Prelude.{Bool, ◌&&◌}
-use Rattle.mob_ratio.specs.Ratio.{Ratio, ◌+ℚ◌, ◌-ℚ◌, ◌*ℚ◌}
-use Rattle.mob_ratio.specs.Order.{up_to}
-use Rattle.mob_ratio.specs.Sign.{nil}
+use Rattle.mob_ratio.{specs.Ratio.{Ratio, ◌+ℚ◌, ◌-ℚ◌, ◌*ℚ◌}, specs.Order.{up_to}, specs.Sign.{nil}}
 use Rattle.mob_plane.specs.declared.point.Point.{Point}
 
 -- the squared length of a vector (Pythagoras), which is always rational, unlike the length itself

@@ -1,19 +1,12 @@
 -- The formulas of nearness, on each piece that two points share, in the order in which they are
 -- checked.
-use Rattle.std.specs.Prelude.{cond, List, [], ◌∷◌, ◌++◌}
-use Rattle.std.specs.List.{flat_map}
-use Rattle.mob_ratio.specs.Ratio.{Ratio, ◌-ℚ◌, ◌*ℚ◌}
-use Rattle.mob_ratio.specs.Order.{before}
-use Rattle.mob_ratio.specs.Sign.{nil}
+use Rattle.std.{specs.Prelude.{cond, List, [], ◌∷◌, ◌++◌}, specs.List.{flat_map}}
+use Rattle.mob_ratio.{specs.Ratio.{Ratio, ◌-ℚ◌, ◌*ℚ◌}, specs.Order.{before}, specs.Sign.{nil}}
 use Rattle.mob_frac.specs.Formula.{square_parts, distance_parts, approach_parts, within_parts}
 use Rattle.mob_plane.specs.declared.point.Point.{Point}
 use Rattle.mob_span.specs.Meets.{PieceOf}
-use Rattle.mob_slice.specs.Entries.{Entry}
-use Rattle.mob_slice.specs.Lines.{plane_value_of, plane_parts_of}
-use Rattle.mob_slice.specs.LineComparison.{point_gaps}
-use Rattle.mob_slice.specs.Sides.{SideOf, side_at, at_ends}
-use Rattle.mob_slice.specs.declared.line.PlaneLine.{PlaneLine}
-use Rattle.mob_slice.specs.declared.formula.Formula.TheVariants.{F5, F6}
+use Rattle.mob_slice.{specs.Entries.{Entry}, specs.Lines.{plane_value_of, plane_parts_of}, specs.LineComparison.{point_gaps}, specs.Sides.{SideOf, side_at, at_ends}}
+use Rattle.mob_slice.{specs.declared.line.PlaneLine.{PlaneLine}, specs.declared.formula.Formula.TheVariants.{F5, F6}}
 use Rattle.mob_cells.specs.Gaps.{entries_of_ends}
 
 -- a piece of time with two points that move linearly or stay

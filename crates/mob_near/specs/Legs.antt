@@ -1,23 +1,12 @@
 -- The difference of two points on a piece of time, along a straight segment from (x0, y0) to (x1,
 -- y1), and the consequences for its length.
 use Rattle.std.specs.Prelude.{Bool, true, false, cond, ◌&&◌, List, [], ◌∷◌, ◌++◌, Option, Some, None}
-use Rattle.mob_ratio.specs.Ratio.{Ratio, ◌+ℚ◌, ◌-ℚ◌, ◌*ℚ◌, ◌/ℚ◌}
-use Rattle.mob_ratio.specs.Order.{before, up_to, same, smaller}
-use Rattle.mob_ratio.specs.Sign.{nil}
+use Rattle.mob_ratio.{specs.Ratio.{Ratio, ◌+ℚ◌, ◌-ℚ◌, ◌*ℚ◌, ◌/ℚ◌}, specs.Order.{before, up_to, same, smaller}, specs.Sign.{nil}, specs.Quadratic.{reaches_by, infimum_by, square_is_within}}
 use Rattle.mob_frac.specs.Formula.{square_parts}
 use Rattle.mob_plane.specs.declared.point.Point.{Point}
 use Rattle.mob_span.specs.Span.{SpanOf}
-use Rattle.mob_slice.specs.Comparison.{gap_parts}
-use Rattle.mob_slice.specs.LineComparison.{point_gaps}
-use Rattle.mob_slice.specs.Lines.{plane_value_of}
-use Rattle.mob_slice.specs.Sides.{SideOf, side_at}
-use Rattle.mob_slice.specs.declared.line.PlaneLine.{PlaneLine}
-use Rattle.mob_quadratic.specs.Quadratic.{reaches_by, infimum_by, square_is_within}
-use Rattle.mob_near.specs.Distances.{length_squared}
-use Rattle.mob_near.specs.Entries.{PointPiece, gap_x, gap_y}
-use Rattle.mob_near.specs.declared.leg.Leg.{Leg}
-use Rattle.mob_near.specs.declared.leg.Squares.{Squares}
-use Rattle.mob_near.specs.declared.foot.Foot.{Foot}
+use Rattle.mob_slice.{specs.Comparison.{gap_parts}, specs.LineComparison.{point_gaps}, specs.Lines.{plane_value_of}, specs.Sides.{SideOf, side_at}, specs.declared.line.PlaneLine.{PlaneLine}}
+use Rattle.mob_near.{specs.Distances.{length_squared}, specs.Entries.{PointPiece, gap_x, gap_y}, specs.declared.leg.Leg.{Leg}, specs.declared.leg.Squares.{Squares}, specs.declared.foot.Foot.{Foot}}
 
 -- the segment of the difference on a piece
 abbrev pub leg_of : PointPiece → Leg

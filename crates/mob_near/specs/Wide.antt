@@ -1,18 +1,12 @@
 -- The entries of nearness in the two modes.
-use Rattle.std.specs.Prelude.{◌≡◌, List, [], ◌∷◌, Option, Some, None, Result, MatchResult}
-use Rattle.std.specs.List.{flat_map}
+use Rattle.std.{specs.Prelude.{◌≡◌, List, [], ◌∷◌, Option, Some, None, Result, MatchResult}, specs.List.{flat_map}}
 use Rattle.mob_ratio.specs.Ratio.{Ratio}
 use Rattle.mob_frac.specs.Fits.{Fits}
-use Rattle.mob_list.specs.Faults.{OnCause}
-use Rattle.mob_list.specs.declared.fault.Fault.{Fault}
-use Rattle.mob_slice.specs.Entries.{Entry}
-use Rattle.mob_slice.specs.Modes.{by_mode, entry_given}
-use Rattle.mob_slice.specs.declared.formula.Formula.{Formula}
-use Rattle.mob_slice.specs.declared.formula.Formula.TheVariants.{Given}
+use Rattle.mob_list.{specs.Faults.{OnCause}, specs.declared.fault.Fault.{Fault}}
+use Rattle.mob_slice.{specs.Entries.{Entry}, specs.Modes.{by_mode, entry_given}, specs.declared.formula.Formula.{Formula}, specs.declared.formula.Formula.TheVariants.{Given}}
 use Rattle.mob_slice.specs.declared.mode.Mode.{Mode}
 use Rattle.mob_cells.specs.Roots.{as_list}
-use Rattle.mob_near.specs.Entries.{PointPiece, entries_of_within, entries_of_approach}
-use Rattle.mob_near.specs.Legs.{piece_approach, nearest_of}
+use Rattle.mob_near.{specs.Entries.{PointPiece, entries_of_within, entries_of_approach}, specs.Legs.{piece_approach, nearest_of}}
 
 -- whether two points come within a distance: in the wide mode nothing has to fit
 abbrev pub within_entries_in : Mode → Ratio → List PointPiece → List Entry

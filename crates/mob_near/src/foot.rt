@@ -2,7 +2,7 @@
 ghost use Rattle.std.specs.Prelude.{◌≡◌, ◌&&◌};
 ghost use Rattle.mob_ratio.specs.Ratio.{◌+ℚ◌, ◌-ℚ◌, ◌*ℚ◌};
 ghost use Rattle.mob_frac.specs.Formula.{IsFormula, approach_parts, within_parts};
-ghost use Rattle.mob_quadratic.specs.Quadratic.{absolute};
+ghost use Rattle.mob_ratio.specs.Quadratic.{absolute};
 ghost use Rattle.mob_near.specs.Legs.{dot_parts, cross_parts, foot_by, foot_by_parts, foot_of, is_on_the_way, foot_reaches, reach_quotients, foot_square, square_quotients};
 
 use crate::leg::Leg;
@@ -65,7 +65,7 @@ fn is_on_the_way(foot: &Foot) -> bool
 }
 
 // The absolute value.
-#[tactic(auto, unfolding(mob_quadratic::specs::Quadratic::absolute))]
+#[tactic(auto, unfolding(mob_ratio::specs::Quadratic::absolute))]
 fn absolute(number: &Frac) -> Frac
     ensures value { result ≡ absolute number.now }
 {

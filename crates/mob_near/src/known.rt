@@ -15,10 +15,10 @@ ghost use Rattle.mob_slice.specs.declared.formula.Formula.TheVariants.{F1};
 ghost use Rattle.mob_near.specs.Distances.{length_squared};
 
 use mob_frac::{Frac, Overflow};
+use mob_lift::walks::{Found, limit_found};
 use mob_list::fault::Fault;
 use mob_plane::Point;
 use mob_slice::{Formula, PlaneLine, Slice, limit};
-use mob_sync::{Found, limit_found};
 use std::alloc::Global;
 use std::marker::Model;
 
@@ -61,7 +61,7 @@ impl Model for Squared {
 
 /// The last results: the point of either side, their difference, and its squared length.
 #[derive(Drop)]
-pub struct Last {
+pub struct LastFound {
     /// The point of the first side.
     pub left: Option<Found<PlaneLine>>,
     /// The point of the second side.
@@ -73,8 +73,8 @@ pub struct Last {
 }
 
 /// No results yet.
-pub fn nothing() -> Last {
-    Last {
+pub fn nothing() -> LastFound {
+    LastFound {
         left: None,
         right: None,
         apart: None,

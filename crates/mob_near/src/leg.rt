@@ -13,12 +13,12 @@ ghost use Rattle.mob_cells.specs.Gaps.{entries_of_ends};
 ghost use Rattle.mob_near.specs.Legs.{ends_of, leg_between, leg_parts, leg_of, squares_of, squares_parts};
 
 use crate::known::{
-    Apart, Last, Squared, difference, difference_kept, point_at, square, square_kept,
+    Apart, LastFound, Squared, difference, difference_kept, point_at, square, square_kept,
 };
 use mob_frac::Frac;
+use mob_lift::walks::Found;
 use mob_slice::{Formula, Piece, PlaneLine, Side, Slice};
 use mob_span::Span;
-use mob_sync::Found;
 use std::alloc::Global;
 
 /// The difference of two points on a piece of time: a straight segment from (x0, y0) to (x1, y1).
@@ -109,7 +109,7 @@ fn leg_between(
 pub fn leg_on(
     alloc: Global,
     piece: &Piece<'_, PlaneLine, PlaneLine>,
-    last: &mut Last,
+    last: &mut LastFound,
 ) -> Result<Leg, Formula>
     requires holds { HoldsPiece (λ c. c.from) (λ c. c.to) (λ c. c.from) (λ c. c.to) (piece_of piece.now) }
     ensures leg { IfOk result (λ g. g ≡ leg_of (piece_of piece.now)) }

@@ -17,9 +17,9 @@ use crate::known::nothing;
 use crate::piece::{piece_approach, piece_reaches};
 use mob_frac::Frac;
 use mob_lift::either;
+use mob_lift::walks::Pieces;
 use mob_plane::smaller;
 use mob_slice::{Formula, Operand, PlaneLine};
-use mob_sync::Pieces;
 use std::alloc::Global;
 
 /// Whether some instant is common.

@@ -1,13 +1,13 @@
 //! The nearness of two points on one piece of time.
 ghost use Rattle.std.specs.Prelude.{◌≡◌, ◌&&◌, ◌||◌, IfOk};
-ghost use Rattle.mob_quadratic.specs.Quadratic.{reaches_by, infimum_by};
+ghost use Rattle.mob_ratio.specs.Quadratic.{reaches_by, infimum_by};
 ghost use Rattle.mob_slice.specs.Entries.{IsDecided};
 ghost use Rattle.mob_slice.specs.Sides.{HoldsPiece, piece_of};
 ghost use Rattle.mob_near.specs.Entries.{entries_of_reach, entries_of_approach};
 ghost use Rattle.mob_near.specs.Legs.{piece_reaches, piece_approach};
 
 use crate::foot::{reaches_between, square_between};
-use crate::known::Last;
+use crate::known::LastFound;
 use crate::leg::{Squares, leg_on, squares_at_ends};
 use mob_frac::Frac;
 use mob_plane::smaller;
@@ -38,7 +38,7 @@ pub fn piece_reaches(
     alloc: Global,
     piece: &Piece<'_, PlaneLine, PlaneLine>,
     square: &Frac,
-    last: &mut Last,
+    last: &mut LastFound,
 ) -> Result<bool, Formula>
     requires holds { HoldsPiece (λ c. c.from) (λ c. c.to) (λ c. c.from) (λ c. c.to) (piece_of piece.now) }
     ensures value { IfOk result (λ b. b ≡ piece_reaches square.now (piece_of piece.now)) }
@@ -78,7 +78,7 @@ fn infimum_by(squares: &Squares, between: Option<Frac>) -> Frac
 pub fn piece_approach(
     alloc: Global,
     piece: &Piece<'_, PlaneLine, PlaneLine>,
-    last: &mut Last,
+    last: &mut LastFound,
 ) -> Result<Frac, Formula>
     requires holds { HoldsPiece (λ c. c.from) (λ c. c.to) (λ c. c.from) (λ c. c.to) (piece_of piece.now) }
     ensures value { IfOk result (λ m. m ≡ piece_approach (piece_of piece.now)) }

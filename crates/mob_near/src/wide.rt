@@ -18,15 +18,15 @@ ghost use Rattle.mob_near.specs.Legs.{nearest_of, piece_approach, piece_reaches}
 ghost use Rattle.mob_near.specs.Wide.{IsGivenOf, approach_entries_in, least_approach};
 
 use crate::broad::piece::{broad_approach, broad_reaches};
-use crate::known::{Last, nothing, square_of};
+use crate::known::{LastFound, nothing, square_of};
 use crate::nearness::{never, share_time};
 use crate::piece::{piece_approach, piece_reaches};
 use mob_frac::Frac;
 use mob_lift::either;
+use mob_lift::walks::Pieces;
 use mob_list::fault::Fault;
 use mob_plane::{Point, greater, smaller};
 use mob_slice::{Formula, Operand, Piece, PlaneLine, Side};
-use mob_sync::Pieces;
 use mob_wide::Exact;
 use std::alloc::{AllocError, Global};
 
@@ -49,7 +49,7 @@ fn reaches_wide(
     alloc: Global,
     piece: &Piece<'_, PlaneLine, PlaneLine>,
     square: &Exact,
-    last: &mut Last,
+    last: &mut LastFound,
 ) -> Result<bool, AllocError>
     requires holds { HoldsPiece (λ c. c.from) (λ c. c.to) (λ c. c.from) (λ c. c.to) (piece_of piece.now) }
     requires square { up_to nil square.now ≡ true }
@@ -79,7 +79,7 @@ fn approach_broadly(
 fn approach_wide_on(
     alloc: Global,
     piece: &Piece<'_, PlaneLine, PlaneLine>,
-    last: &mut Last,
+    last: &mut LastFound,
 ) -> Result<Exact, AllocError>
     requires holds { HoldsPiece (λ c. c.from) (λ c. c.to) (λ c. c.from) (λ c. c.to) (piece_of piece.now) }
     ensures value { IfOk result (λ m. m ≡ piece_approach (piece_of piece.now)) }
@@ -158,7 +158,7 @@ fn comes_within(
     piece: &Piece<'_, PlaneLine, PlaneLine>,
     d: &Frac,
     square: &Exact,
-    last: &mut Last,
+    last: &mut LastFound,
 ) -> Result<bool, AllocError>
     requires holds { HoldsPiece (λ c. c.from) (λ c. c.to) (λ c. c.from) (λ c. c.to) (piece_of piece.now) }
     requires some { has_instant piece.now.span ≡ true }
@@ -297,7 +297,7 @@ fn nearer_than(
     alloc: Global,
     piece: &Piece<'_, PlaneLine, PlaneLine>,
     found: Exact,
-    last: &mut Last,
+    last: &mut LastFound,
 ) -> Result<Exact, AllocError>
     requires holds { HoldsPiece (λ c. c.from) (λ c. c.to) (λ c. c.from) (λ c. c.to) (piece_of piece.now) }
     requires some { has_instant piece.now.span ≡ true }
@@ -316,7 +316,7 @@ fn nearer(
     alloc: Global,
     piece: &Piece<'_, PlaneLine, PlaneLine>,
     found: Option<Exact>,
-    last: &mut Last,
+    last: &mut LastFound,
 ) -> Result<Exact, AllocError>
     requires holds { HoldsPiece (λ c. c.from) (λ c. c.to) (λ c. c.from) (λ c. c.to) (piece_of piece.now) }
     requires some { has_instant piece.now.span ≡ true }

@@ -1,8 +1,7 @@
 -- The command is simple, and no option has a rule about another.
 use Rattle.std.proofs.Common.{◌≡◌, refl, true}
-use Rattle.clap.specs.Words.{is_simple_and_free}
-use Rattle.clap.proofs.OnLiterals.{clap_on_literals}
-use Rattle.mob_words.specs.Arguments.{command_of}
+use Rattle.clap.{specs.Words.{is_simple_and_free}, proofs.OnLiterals.{clap_on_literals}}
+use Rattle.mob_arguments.specs.Arguments.{command_of}
 use Rattle.mob_near_run.specs.CommandLine.{near_command}
 
 pub command_is_free : is_simple_and_free near_command ≡ true

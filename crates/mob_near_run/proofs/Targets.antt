@@ -1,20 +1,14 @@
 -- The meaning of the options of a command line.
-use Rattle.std.proofs.Common.{List, ◌≡◌, ◌∙◌, ℕ, ℤ, Bool, Option, Some, None, Ok, Err, refl, sym, subst, arith}
-use Rattle.std.specs.Prelude.{◌≢◌, Result, IfOk, IfSome, IsNone, cond, codes}
+use Rattle.std.{specs.Prelude.{◌≢◌, Result, IfOk, IfSome, IsNone, cond, codes}, proofs.Common.{List, ◌≡◌, ◌∙◌, ℕ, ℤ, Bool, Option, Some, None, Ok, Err, refl, sym, subst, arith}}
 use Rattle.clap.specs.Words.{Text}
 use Rattle.mob_ast.specs.declared.types.SqlType.{SqlType}
-use Rattle.mob_ast.specs.declared.types.SqlType.TheVariants as sql
 use Rattle.mob_value.specs.declared.value.Value.{Value}
-use Rattle.mob_numeral.specs.declared.fault.ReadText.{ReadText}
-use Rattle.mob_numeral.specs.declared.fault.ReadText.TheVariants.{NoMemory}
-use Rattle.mob_literal.specs.SqlText.{SaysAs}
-use Rattle.mob_literal.proofs.SqlReading.{one_sql_reading}
-use Rattle.mob_words.specs.Arguments.{IsCount, IsRequired, option_value}
-use Rattle.mob_words.proofs.Readings.{one_count, one_day, one_required}
-use Rattle.mob_near_run.specs.CommandLine.{NearSays, near_command, target_type, target_value}
-use Rattle.mob_near_run.specs.declared.settings.NearSettings.{NearSettings}
-use Rattle.mob_near_run.specs.declared.settings.Target.{Target}
+use Rattle.mob_numeral.{specs.declared.fault.ReadText.{ReadText}, specs.declared.fault.ReadText.TheVariants.{NoMemory}}
+use Rattle.mob_literal.{specs.SqlText.{SaysAs}, proofs.SqlReading.{one_sql_reading}}
+use Rattle.mob_arguments.{specs.Arguments.{IsCount, IsRequired, option_value}, proofs.Readings.{one_count, one_day, one_required}}
+use Rattle.mob_near_run.{specs.CommandLine.{NearSays, near_command, target_type, target_value}, specs.declared.settings.NearSettings.{NearSettings}, specs.declared.settings.Target.{Target}}
 use Rattle.mob_near_run.specs.declared.settings.Target.TheVariants.{Moving, Fixed}
+use Rattle.mob_ast.specs.declared.types.SqlType.TheVariants as sql
 
 known : (v : Value) → ◌≡◌ {A = Result Value ReadText} (Ok v) (Err NoMemory) → ⊥
 known v e = absurd cc

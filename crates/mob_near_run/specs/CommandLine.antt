@@ -1,16 +1,13 @@
 -- The command line of mobnear: three options that take one value each, no help and no version.
-use Rattle.std.specs.Prelude.{◌∷◌, [], ◌≡◌, ◌==◌, List, Some, Ok, codes, cond}
-use Rattle.std.specs.List.{list_any}
+use Rattle.std.{specs.Prelude.{◌∷◌, [], ◌≡◌, ◌==◌, List, Some, Ok, codes, cond}, specs.List.{list_any}}
 use Rattle.clap.specs.Words.{App, Text}
 use Rattle.mob_ast.specs.declared.types.SqlType.{SqlType}
-use Rattle.mob_ast.specs.declared.types.SqlType.TheVariants as sql
 use Rattle.mob_value.specs.declared.value.Value.{Value}
-use Rattle.mob_value.specs.declared.value.Value.TheVariants as value
 use Rattle.mob_literal.specs.SqlText.{SaysAs}
-use Rattle.mob_words.specs.Arguments.{IsCount, IsEpoch, IsRequired, Takes, command_of, option_value}
-use Rattle.mob_near_run.specs.declared.settings.NearSettings.{NearSettings}
-use Rattle.mob_near_run.specs.declared.settings.Target.{Target}
-use Rattle.mob_near_run.specs.declared.settings.Target.TheVariants.{Moving, Fixed}
+use Rattle.mob_arguments.specs.Arguments.{IsCount, IsEpoch, IsRequired, Takes, command_of, option_value}
+use Rattle.mob_near_run.{specs.declared.settings.NearSettings.{NearSettings}, specs.declared.settings.Target.{Target}, specs.declared.settings.Target.TheVariants.{Moving, Fixed}}
+use Rattle.mob_ast.specs.declared.types.SqlType.TheVariants as sql
+use Rattle.mob_value.specs.declared.value.Value.TheVariants as value
 
 -- `mobnear --k K --to TEXT [--epoch DATE]`
 abbrev pub near_command : App

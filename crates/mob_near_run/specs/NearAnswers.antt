@@ -2,16 +2,13 @@
 use Rattle.std.specs.Prelude.{◌≡◌, ◌∷◌, ℕ, ℤ, List, [], codes, map}
 use Rattle.mob_ratio.specs.Ratio.{Ratio}
 use Rattle.mob_numeral.specs.NumberText.{number_text}
-use Rattle.mob_slice.specs.Sides.{Slices, Base}
-use Rattle.mob_slice.specs.declared.formula.Formula.{Formula}
+use Rattle.mob_slice.{specs.Sides.{Slices, Base}, specs.declared.formula.Formula.{Formula}}
 use Rattle.mob_value.specs.declared.value.Value.{Value}
 use Rattle.mob_literal.specs.Fields.{field_text}
 use Rattle.mob_records.specs.AnswerText.{answer_text}
 use Rattle.mob_knn.specs.Nearest.{Asked, AreNearest, IsPassed}
 use Rattle.mob_trips.specs.Rows.{id_of, id_at, trips_in}
-use Rattle.mob_near_run.specs.declared.settings.NearSettings.{NearSettings}
-use Rattle.mob_near_run.specs.declared.settings.Target.{Target}
-use Rattle.mob_near_run.specs.declared.settings.Target.TheVariants.{Moving, Fixed}
+use Rattle.mob_near_run.{specs.declared.settings.NearSettings.{NearSettings}, specs.declared.settings.Target.{Target}, specs.declared.settings.Target.TheVariants.{Moving, Fixed}}
 
 abbrev pub target_operand : Target → Asked
 target_operand (Moving v) = Slices v

@@ -11,20 +11,20 @@ use crate::settings::NearSettings;
 use mob_knn::NearFault;
 use mob_list::fault::Fault;
 use mob_outside::{Sink, Source};
-use mob_trips::{Ending, put_text, read_trips};
+use mob_trips::{TripsEnding, put_text, read_trips};
 use mob_tuples::Tuple;
 use std::alloc::Global;
 
 // The ending for a fault of the search.
-fn ending_of(fault: NearFault) -> Ending
+fn ending_of(fault: NearFault) -> TripsEnding
     ensures ending { EndsAt fault result }
 {
     match fault {
-        Fault::Because((row, formula)) => Ending::Overflow {
+        Fault::Because((row, formula)) => TripsEnding::Overflow {
             rows: Tuple::new().with(row),
             formula,
         },
-        Fault::NoMemory => Ending::NoMemory,
+        Fault::NoMemory => TripsEnding::NoMemory,
     }
 }
 
@@ -34,7 +34,7 @@ fn answer_table<S: Source, K: Sink>(
     settings: &NearSettings,
     table: &mut S,
     out: &mut K,
-) -> Ending
+) -> TripsEnding
     ensures ends { NearEnds settings.now (stream_seen S.left S.faults table.old table.new) (stream_seen K.held K.faults out.old out.new) result }
 {
     let rows = match read_trips(alloc, table, &settings.epoch) {
@@ -54,12 +54,12 @@ pub fn decide<S: Source, K: Sink>(
     words: &[String],
     table: &mut S,
     out: &mut K,
-) -> Ending
+) -> TripsEnding
     ensures ends { IsTripsEnding near_program result (trips_seen (map string_bytes words.now) (stream_seen S.left S.faults table.old table.new) (stream_seen K.held K.faults out.old out.new)) }
 {
     match settings(alloc, words) {
         Ok(Some(settings)) => answer_table(alloc, &settings, table, out),
-        Ok(None) => Ending::Usage,
-        Err(_) => Ending::NoMemory,
+        Ok(None) => TripsEnding::Usage,
+        Err(_) => TripsEnding::NoMemory,
     }
 }

@@ -10,11 +10,11 @@ ghost use Rattle.mob_near_run.specs.declared.settings.Target.{Target as TargetSe
 
 use crate::settings::{NearSettings, Target};
 use crate::values::values_in;
+use mob_arguments::{count_of, epoch_of};
 use mob_ast::SqlType;
 use mob_literal::read_value;
 use mob_scalar::{Epoch, ReadText};
 use mob_value::Value;
-use mob_words::{count_of, epoch_of};
 use std::alloc::{AllocError, Global};
 
 // The greatest number of rows that `--k` accepts.

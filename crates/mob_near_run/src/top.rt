@@ -10,13 +10,13 @@ ghost use Rattle.mob_near_run.specs.NearProgram.{near_program, near_usage};
 use crate::decide::decide;
 use mob_catalog::laws::one_table;
 use mob_outside::{Sink, Source};
-use mob_trips::{Ending, tell};
+use mob_trips::{TripsEnding, tell};
 use std::alloc::Global;
 
 const USAGE: &[u8] = b"usage: mobnear --k K --to TEXT [--epoch DATE] < trips.csv\n";
 
 /// Writes the line of an ending of mobnear.
-pub fn tell_near<E: Sink>(notes: &mut E, ending: &Ending)
+pub fn tell_near<E: Sink>(notes: &mut E, ending: &TripsEnding)
     ensures puts { Puts (trips_note near_usage ending.now) (E.held notes.old) (E.held notes.new) (E.faults notes.old) (E.faults notes.new) }
 {
     tell(notes, USAGE, ending);

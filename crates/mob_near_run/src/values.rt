@@ -1,9 +1,9 @@
 //! The values that arguments give to the options.
 ghost use Rattle.std.specs.Prelude.{◌≡◌, IfOk, IfSome, IsNone, codes, map, option_map, string_bytes};
-ghost use Rattle.mob_words.specs.Arguments.{Takes, option_value};
+ghost use Rattle.mob_arguments.specs.Arguments.{Takes, option_value};
 ghost use Rattle.mob_near_run.specs.CommandLine.{near_command};
 
-use mob_words::given;
+use mob_arguments::given;
 use std::alloc::{AllocError, Global};
 
 // The values of the options, borrowed from the arguments.

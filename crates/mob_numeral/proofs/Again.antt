@@ -1,29 +1,14 @@
 -- The printed text of a number denotes that number.
-use Rattle.std.proofs.Common.{◌≡◌, ℕ, ◌^◌, ◌<◌, ◌≤◌, [], ◌∷◌, ◌++◌, length, Bool, true, false, cond, Some, None, ℤ, pos, negsuc, nat_abs, refl, sym, ap, subst, ◌∙◌, append_assoc, arith, rules, codes, inl, inr}
-use Rattle.std.specs.Prelude.{nat_eq, Ok}
-use Rattle.std.specs.Int.{IsInRange}
-use Rattle.std.specs.Fmt.{decimal, signed_decimal}
-use Rattle.std.specs.Str.Parse.{AllDigits}
-use Rattle.std.proofs.lemmas.Bool.{eqb-true}
-use Rattle.std.proofs.lemmas.List.{append-nil}
-use Rattle.std.proofs.lemmas.Fmt.{decimal_is_IsNumeral, length-decimal-le}
+use Rattle.std.{specs.Prelude.{nat_eq, Ok}, specs.Int.{IsInRange}, specs.Fmt.{decimal, signed_decimal}, specs.Str.Parse.{AllDigits}}
+use Rattle.std.proofs.Common.{◌≡◌, ℕ, ◌^◌, ◌<◌, ◌≤◌, [], ◌∷◌, ◌++◌, length, Bool, true, false, cond, Some, None, ℤ, pos, negsuc, nat_abs, refl, sym, ap, subst, ◌∙◌, append_assoc, arith, rules, codes}
+use Rattle.std.{proofs.Common.{inl, inr}, proofs.lemmas.Bool.{eqb-true}, proofs.lemmas.List.{append-nil}, proofs.lemmas.Fmt.{decimal_is_IsNumeral, length-decimal-le}}
 use Rattle.std.proofs.lemmas.Str.Parse.{digit_from_value}
-use Rattle.mob_ratio.specs.Ratio.{Ratio, over}
-use Rattle.mob_ratio.proofs.RatioLemmas.{over-self, den_pos}
-use Rattle.mob_frac.specs.Fits.{Fits}
-use Rattle.mob_frac.specs.Signed.{signed}
-use Rattle.mob_language.specs.Language.{Text, is_digit}
-use Rattle.mob_language.proofs.Heads.{within_said}
-use Rattle.mob_numeral.specs.declared.numeral.Figures.{Figures}
-use Rattle.mob_numeral.specs.declared.numeral.Tail.{Tail}
-use Rattle.mob_numeral.specs.declared.numeral.Tail.TheVariants.{Over, Decimal}
-use Rattle.mob_numeral.specs.declared.numeral.Numeral.{Numeral}
-use Rattle.mob_numeral.specs.Figures.{are_few_digits, digits, AreFigures}
-use Rattle.mob_numeral.specs.Number.{numeral_of, has_digits, number_sign, tail, number}
-use Rattle.mob_numeral.specs.NumberValue.{numeral_value}
-use Rattle.mob_numeral.specs.NumberText.{number_text}
-use Rattle.mob_numeral.specs.Verdict.{Lit}
-use Rattle.mob_numeral.specs.Numbers.{numbers, whole_numbers}
+use Rattle.mob_ratio.{specs.Ratio.{Ratio, over}, proofs.RatioLemmas.{over-self, den_pos}}
+use Rattle.mob_frac.{specs.Fits.{Fits}, specs.Signed.{signed}}
+use Rattle.mob_language.{specs.Language.{Text, is_digit}, proofs.Heads.{within_said}}
+use Rattle.mob_numeral.{specs.declared.numeral.Figures.{Figures}, specs.declared.numeral.Tail.{Tail}, specs.declared.numeral.Tail.TheVariants.{Over, Decimal}, specs.declared.numeral.Numeral.{Numeral}}
+use Rattle.mob_numeral.{specs.Figures.{are_few_digits, digits, AreFigures}, specs.Number.{numeral_of, has_digits, number_sign, tail, number}, specs.NumberValue.{numeral_value}}
+use Rattle.mob_numeral.{specs.NumberText.{number_text}, specs.Verdict.{Lit}, specs.Numbers.{numbers, whole_numbers}}
 
 digit_test : (c : ℕ) → IsInRange 48 57 c → is_digit c ≡ true
 digit_test c h = search rules

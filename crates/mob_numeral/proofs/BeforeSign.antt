@@ -1,8 +1,6 @@
 -- Numbers may come before a sign with blanks beside it, such as the @ of a temporal text.
 use Rattle.std.proofs.Common.{◌≡◌, ℕ, [], ◌∷◌, ◌++◌, Bool, false, refl, sym, ap, subst, ◌∙◌, append_assoc, rules, codes}
-use Rattle.mob_language.specs.Language.{Text, AreAll, is_blank, spaced}
-use Rattle.mob_language.proofs.Exact.{Stops}
-use Rattle.mob_language.proofs.Heads.{Apart}
+use Rattle.mob_language.{specs.Language.{Text, AreAll, is_blank, spaced}, proofs.Exact.{Stops}, proofs.Heads.{Apart}}
 use Rattle.mob_numeral.proofs.NumberExact.{continues}
 
 -- blanks, the sign, and what follows it

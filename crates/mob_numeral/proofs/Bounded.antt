@@ -1,19 +1,10 @@
 -- The numerals of texts are bounded.
-use Rattle.std.proofs.Common.{◌≡◌, ℕ, suc, ◌+◌, ◌*◌, ◌^◌, ◌<◌, ◌≤◌, length, true, Option, Some, None, sym, subst, arith, rules, codes, inl, inr}
-use Rattle.std.specs.Prelude.{IfSome}
-use Rattle.std.proofs.lemmas.Nat.{pow-add}
-use Rattle.std.proofs.Math.Nat.{mul-le-mul_right}
-use Rattle.std.proofs.lemmas.Int.Digits.{digits_value-lt}
+use Rattle.std.{specs.Prelude.{IfSome}, proofs.Common.{◌≡◌, ℕ, suc, ◌+◌, ◌*◌, ◌^◌, ◌<◌, ◌≤◌, length, true, Option, Some, None, sym, subst, arith, rules, codes, inl, inr}, proofs.lemmas.Nat.{pow-add}}
+use Rattle.std.{proofs.Math.Nat.{mul-le-mul_right}, proofs.lemmas.Int.Digits.{digits_value-lt}}
 use Rattle.mob_language.specs.Language.{Text, Maybe, behind}
-use Rattle.mob_numeral.specs.declared.numeral.Figures.{Figures}
-use Rattle.mob_numeral.specs.declared.numeral.Exponent.{Exponent}
-use Rattle.mob_numeral.specs.declared.numeral.Tail.{Tail}
-use Rattle.mob_numeral.specs.declared.numeral.Tail.TheVariants.{Over, Decimal}
-use Rattle.mob_numeral.specs.declared.numeral.Numeral.{Numeral}
-use Rattle.mob_numeral.specs.Figures.{are_few_digits, digits}
-use Rattle.mob_numeral.specs.Number.{count_of, has_digits, is_power, exponent, tail, number}
-use Rattle.mob_numeral.specs.NumberValue.{value_in, IsSmall, IsTailSmall, IsBounded}
-use Rattle.mob_numeral.proofs.Digits.{all_digits}
+use Rattle.mob_numeral.{specs.declared.numeral.Figures.{Figures}, specs.declared.numeral.Exponent.{Exponent}, specs.declared.numeral.Tail.{Tail}}
+use Rattle.mob_numeral.{specs.declared.numeral.Tail.TheVariants.{Over, Decimal}, specs.declared.numeral.Numeral.{Numeral}, specs.Figures.{are_few_digits, digits}}
+use Rattle.mob_numeral.{specs.Number.{count_of, has_digits, is_power, exponent, tail, number}, specs.NumberValue.{value_in, IsSmall, IsTailSmall, IsBounded}, proofs.Digits.{all_digits}}
 use Rattle.mob_numeral.proofs.Powers.{ten_le}
 
 short : (ds : Text) → are_few_digits ds ≡ true → length ds ≤ 36

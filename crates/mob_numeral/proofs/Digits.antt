@@ -1,11 +1,7 @@
 -- The value of a run of digits.
-use Rattle.std.proofs.Common.{◌≡◌, ℕ, zero, suc, ◌+◌, ◌-◌, ◌*◌, ◌^◌, ◌<◌, ◌≤◌, List, [], ◌∷◌, length, get_or, take, true, arith, rules}
-use Rattle.std.specs.Int.{IsInRange}
-use Rattle.std.specs.Char.{digit_value}
-use Rattle.std.specs.Str.Parse.{digits_value, AllDigits}
-use Rattle.std.proofs.lemmas.Str.{digit_value_digit}
-use Rattle.std.proofs.lemmas.Int.Digits.{digits_value-lt, digits_value_more}
-use Rattle.std.proofs.Math.Nat.{pow-le-pow_right}
+use Rattle.std.{specs.Int.{IsInRange}, specs.Char.{digit_value}, specs.Str.Parse.{digits_value, AllDigits}}
+use Rattle.std.{proofs.Common.{◌≡◌, ℕ, zero, suc, ◌+◌, ◌-◌, ◌*◌, ◌^◌, ◌<◌, ◌≤◌, List, [], ◌∷◌, length, get_or, take, true, arith, rules}, proofs.lemmas.Str.{digit_value_digit}}
+use Rattle.std.{proofs.lemmas.Int.Digits.{digits_value-lt, digits_value_more}, proofs.Math.Nat.{pow-le-pow_right}}
 use Rattle.mob_list.proofs.Entries.{take_short}
 use Rattle.mob_language.specs.Language.{is_digit}
 use Rattle.mob_numeral.specs.Figures.{AreFigures}

@@ -2,9 +2,7 @@
 use Rattle.std.proofs.Common.{◌≡◌, Bool, true, cond, Some, None, sym, ap, subst, rules}
 use Rattle.mob_ratio.specs.Ratio.{Ratio}
 use Rattle.mob_frac.specs.Fits.{Fits}
-use Rattle.mob_numeral.specs.Fitting.{fits, fitting, number_value}
-use Rattle.mob_numeral.specs.NumberText.{number_text}
-use Rattle.mob_numeral.proofs.Again.{number_plain}
+use Rattle.mob_numeral.{specs.Fitting.{fits, fitting, number_value}, specs.NumberText.{number_text}, proofs.Again.{number_plain}}
 
 fits_test : (q : Ratio) → Fits q → fits q ≡ true
 unfolding fits

@@ -1,30 +1,14 @@
 -- A number whose text has a digit other than 0, before any exponent and any slash, is not 0.
-use Rattle.std.proofs.Common.{◌≡◌, ◌≢◌, ℕ, ◌+◌, ◌*◌, ◌^◌, ◌<◌, ◌≤◌, [], ◌∷◌, ◌++◌, Bool, true, false, cond, Option, Some, None, ℤ, pos, nat_abs, refl, sym, ap, subst, ◌∙◌, mul-pos, arith, rules, codes, inl, inr}
-use Rattle.std.specs.Prelude.{◌⊎◌, ◌||◌, not, nat_eq, take_while}
-use Rattle.std.specs.List.{list_any}
-use Rattle.std.specs.Char.{digit_value}
-use Rattle.std.specs.Str.Parse.{digits_value, digits_value_after}
-use Rattle.std.proofs.lemmas.List.Sums.{take_while-cons}
-use Rattle.std.proofs.lemmas.Bool.{or_cases, or_right, both_ways}
-use Rattle.mob_ratio.specs.Ratio.{Ratio, over}
-use Rattle.mob_ratio.proofs.Clear.{eq_zero, one_positive}
-use Rattle.mob_ratio.proofs.IntRing.{linear, products}
-use Rattle.mob_ratio.proofs.RatioLemmas.{over-self, over-same, den_pos}
-use Rattle.mob_frac.specs.Signed.{signed}
-use Rattle.mob_frac.proofs.Shares.{abs-signed}
-use Rattle.mob_language.specs.Language.{Text, Maybe, AreAll, behind, is_blank, is_digit, is_exponent_letter, is_number_sign, within_blanks}
-use Rattle.mob_language.specs.NonZero.{is_figure, has_figure}
-use Rattle.mob_numeral.specs.declared.numeral.Figures.{Figures}
-use Rattle.mob_numeral.specs.declared.numeral.Exponent.{Exponent}
-use Rattle.mob_numeral.specs.declared.numeral.Tail.{Tail}
-use Rattle.mob_numeral.specs.declared.numeral.Tail.TheVariants.{Over, Decimal}
-use Rattle.mob_numeral.specs.declared.numeral.Numeral.{Numeral}
-use Rattle.mob_numeral.specs.Figures.{digits, AreFigures}
-use Rattle.mob_numeral.specs.Number.{count_of, has_digits, number_sign, exponent, tail, number}
-use Rattle.mob_numeral.specs.NumberValue.{value_in, up_of, down_of, value_of, numeral_value}
-use Rattle.mob_numeral.proofs.Bounded.{bottom_positive}
-use Rattle.mob_numeral.proofs.Digits.{digit_is}
-use Rattle.mob_numeral.proofs.Powers.{ten_pos}
+use Rattle.std.{specs.Prelude.{◌⊎◌, ◌||◌, not, nat_eq, take_while}, specs.List.{list_any}, specs.Char.{digit_value}, specs.Str.Parse.{digits_value, digits_value_after}}
+use Rattle.std.proofs.Common.{◌≡◌, ◌≢◌, ℕ, ◌+◌, ◌*◌, ◌^◌, ◌<◌, ◌≤◌, [], ◌∷◌, ◌++◌, Bool, true, false, cond, Option, Some, None, ℤ, pos, nat_abs, refl, sym, ap, subst, ◌∙◌, mul-pos, arith, rules}
+use Rattle.std.{proofs.Common.{codes, inl, inr}, proofs.lemmas.List.Sums.{take_while-cons}, proofs.lemmas.Bool.{or_cases, or_right, both_ways}}
+use Rattle.mob_ratio.{specs.Ratio.{Ratio, over}, proofs.Clear.{eq_zero, one_positive}, proofs.IntRing.{linear, products}, proofs.RatioLemmas.{over-self, over-same, den_pos}}
+use Rattle.mob_frac.{specs.Signed.{signed}, proofs.Shares.{abs-signed}}
+use Rattle.mob_language.{specs.Language.{Text, Maybe, AreAll, behind, is_blank, is_digit, is_exponent_letter, is_number_sign, within_blanks}, specs.NonZero.{is_figure, has_figure}}
+use Rattle.mob_numeral.{specs.declared.numeral.Figures.{Figures}, specs.declared.numeral.Exponent.{Exponent}, specs.declared.numeral.Tail.{Tail}}
+use Rattle.mob_numeral.{specs.declared.numeral.Tail.TheVariants.{Over, Decimal}, specs.declared.numeral.Numeral.{Numeral}, specs.Figures.{digits, AreFigures}}
+use Rattle.mob_numeral.{specs.Number.{count_of, has_digits, number_sign, exponent, tail, number}, specs.NumberValue.{value_in, up_of, down_of, value_of, numeral_value}}
+use Rattle.mob_numeral.{proofs.Bounded.{bottom_positive}, proofs.Digits.{digit_is}, proofs.Powers.{ten_pos}}
 
 -- neither a letter of an exponent nor a slash, so that the search for a figure goes on
 abbrev pub goes_on : ℕ → Bool

@@ -1,15 +1,11 @@
 -- The reader of numbers accepts exactly the texts of numbers.
-use Rattle.std.proofs.Common.{◌≡◌, ℕ, [], Bool, true, false, refl, rules, codes}
-use Rattle.std.specs.Prelude.{◌||◌, nat_eq}
+use Rattle.std.{specs.Prelude.{◌||◌, nat_eq}, proofs.Common.{◌≡◌, ℕ, [], Bool, true, false, refl, rules, codes}}
 use Rattle.mob_language.specs.Language.{Language, ◌▷◌, Maybe, Means, behind, is_digit, is_number_sign, is_exponent_letter}
 use Rattle.mob_language.proofs.Exact.{Exact, Stops, means_exact, where_exact, one_exact, word_exact, many_exact}
-use Rattle.mob_language.proofs.Heads.{NoHead, Apart, Nothing, exact_less, stops_less, then_head, word_then_head, one_then_head, or_head, maybe_head, means_head, where_head, many_head, one_nothing, word_nothing, then_nothing, means_nothing, then_stops, after_any, maybe_stops, or_stops}
-use Rattle.mob_numeral.specs.declared.numeral.Figures.{Figures}
-use Rattle.mob_numeral.specs.declared.numeral.Exponent.{Exponent}
-use Rattle.mob_numeral.specs.declared.numeral.Tail.{Tail}
-use Rattle.mob_numeral.specs.declared.numeral.Tail.TheVariants.{Over}
-use Rattle.mob_numeral.specs.Figures.{are_few_digits, figures, digits}
-use Rattle.mob_numeral.specs.Number.{is_minus, is_power, exponent_of, decimal_of, is_numeral, numeral_of, number_sign, power, exponent, tail, number}
+use Rattle.mob_language.proofs.Heads.{NoHead, Apart, Nothing, exact_less, stops_less, then_head, word_then_head, one_then_head, or_head, maybe_head, means_head, where_head, many_head, one_nothing}
+use Rattle.mob_language.proofs.Heads.{word_nothing, then_nothing, means_nothing, then_stops, after_any, maybe_stops, or_stops}
+use Rattle.mob_numeral.{specs.declared.numeral.Figures.{Figures}, specs.declared.numeral.Exponent.{Exponent}, specs.declared.numeral.Tail.{Tail}, specs.declared.numeral.Tail.TheVariants.{Over}}
+use Rattle.mob_numeral.{specs.Figures.{are_few_digits, figures, digits}, specs.Number.{is_minus, is_power, exponent_of, decimal_of, is_numeral, numeral_of, number_sign, power, exponent, tail, number}}
 use Rattle.mob_numeral.specs.NumberReaders.{digits_at, sign_at, power_at, exponent_at, over_at, point_at, decimal_at, tail_at, numeral_at}
 
 -- a byte with which a number may go on

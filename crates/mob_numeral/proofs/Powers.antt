@@ -1,14 +1,8 @@
 -- Numbers scaled by powers of ten.
-use Rattle.std.proofs.Common.{◌≡◌, ℕ, ◌+◌, ◌-◌, ◌*◌, ◌^◌, ◌<◌, ◌≤◌, Bool, nat_abs, sym, ap, ◌∙◌, arith}
-use Rattle.std.proofs.Math.Nat.{pow-le-pow_right, one-le-pow, le-mul_of_pos_right}
+use Rattle.std.{proofs.Common.{◌≡◌, ℕ, ◌+◌, ◌-◌, ◌*◌, ◌^◌, ◌<◌, ◌≤◌, Bool, nat_abs, sym, ap, ◌∙◌, arith}, proofs.Math.Nat.{pow-le-pow_right, one-le-pow, le-mul_of_pos_right}}
 use Rattle.std.proofs.lemmas.Nat.{pow-add}
-use Rattle.mob_ratio.specs.GcdLaws.{gcd_one_right}
-use Rattle.mob_ratio.specs.LowestLaws.{lowest_in}
-use Rattle.mob_ratio.specs.Ratio.{over}
-use Rattle.mob_ratio.proofs.RatioLemmas.{over-same, over-lowest}
-use Rattle.mob_frac.specs.Fits.{Fits}
-use Rattle.mob_frac.specs.Signed.{signed}
-use Rattle.mob_frac.proofs.Shares.{abs-signed, cross}
+use Rattle.mob_ratio.{specs.GcdLaws.{gcd_one_right}, specs.LowestLaws.{lowest_in}, specs.Ratio.{over}, proofs.RatioLemmas.{over-same, over-lowest}}
+use Rattle.mob_frac.{specs.Fits.{Fits}, specs.Signed.{signed}, proofs.Shares.{abs-signed, cross}}
 
 pub ten_pos : (k : ℕ) → 0 < 10 ^ k
 ten_pos k = one-le-pow k 10 (omega arith)

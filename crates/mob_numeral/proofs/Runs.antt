@@ -1,8 +1,6 @@
 -- Splitting off a run of bytes in a loop.
-use Rattle.std.proofs.Common.{◌≡◌, ℕ, ◌+◌, ◌<◌, [], ◌∷◌, ◌++◌, length, get_or, take, drop, Bool, true, refl, sym, ap, ◌∙◌, append_assoc, add-one, drop-cons}
-use Rattle.std.proofs.lemmas.List.{take_more}
-use Rattle.mob_language.specs.Language.{Text}
-use Rattle.mob_language.specs.Readers.{split_while}
+use Rattle.std.{proofs.Common.{◌≡◌, ℕ, ◌+◌, ◌<◌, [], ◌∷◌, ◌++◌, length, get_or, take, drop, Bool, true, refl, sym, ap, ◌∙◌, append_assoc, add-one, drop-cons}, proofs.lemmas.List.{take_more}}
+use Rattle.mob_language.{specs.Language.{Text}, specs.Readers.{split_while}}
 
 -- the run begins with the first i bytes
 abbrev pub IsSplit : (ℕ → Bool) → Text → ℕ → Type 0

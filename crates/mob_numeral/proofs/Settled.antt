@@ -1,11 +1,8 @@
 -- A form fixes the reading of each text if no text denotes two things and each of these has one
 -- value.
-use Rattle.std.proofs.Common.{◌≡◌, ◌≢◌, refl, ap, subst, Ok, Err}
-use Rattle.std.specs.Prelude.{Result}
+use Rattle.std.{specs.Prelude.{Result}, proofs.Common.{◌≡◌, ◌≢◌, refl, ap, subst, Ok, Err}}
 use Rattle.mob_language.specs.Language.{Text}
-use Rattle.mob_numeral.specs.declared.fault.ReadText.{ReadText}
-use Rattle.mob_numeral.specs.declared.fault.ReadText.TheVariants.{NotText, Limit, TooLarge, Unsound, NoMemory}
-use Rattle.mob_numeral.specs.Verdict.{TextForm, Lit}
+use Rattle.mob_numeral.{specs.declared.fault.ReadText.{ReadText}, specs.declared.fault.ReadText.TheVariants.{NotText, Limit, TooLarge, Unsound, NoMemory}, specs.Verdict.{TextForm, Lit}}
 
 pub settled : {S V : Type 0} (f : TextForm S V) (text : Text) → ((s t : S) → f.shape text s → f.shape text t → s ≡ t) → ((s : S) (v w : V) → f.means s v → f.means s w → v ≡ w)
     → (a b : Result V ReadText) → a ≢ Err NoMemory → b ≢ Err NoMemory → Lit f text a → Lit f text b → a ≡ b

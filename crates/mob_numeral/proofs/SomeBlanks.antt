@@ -1,8 +1,6 @@
 -- The reader of at least one blank is exact.
 use Rattle.std.proofs.Common.{◌≡◌, [], true, sym, subst, ◌∙◌}
-use Rattle.mob_language.specs.Language.{Text, Where, ManyOf, is_blank}
-use Rattle.mob_language.proofs.Exact.{Exact, Stops, means_exact, where_exact, many_exact}
-use Rattle.mob_language.proofs.Heads.{HasByte, means_byte}
+use Rattle.mob_language.{specs.Language.{Text, Where, ManyOf, is_blank}, proofs.Exact.{Exact, Stops, means_exact, where_exact, many_exact}, proofs.Heads.{HasByte, means_byte}}
 use Rattle.mob_numeral.specs.Blanks.{is_some_text, some_blanks, some_blanks_at}
 
 pub some_blanks_exact : Exact some_blanks some_blanks_at (Stops is_blank)

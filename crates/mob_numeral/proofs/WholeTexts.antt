@@ -1,20 +1,11 @@
 -- Texts of numbers with blanks at both ends are read exactly.
-use Rattle.std.proofs.Common.{◌≡◌, ℕ, [], ◌∷◌, ◌++◌, length, Bool, true, false, Option, Some, None, refl, sym, ap, subst, ◌∙◌, rules, arith, codes, inl, inr}
-use Rattle.std.proofs.lemmas.Bool.Decides.{nat_tests}
-use Rattle.mob_language.specs.Language.{Text, Language, Maybe, behind, is_blank, within_blanks, is_digit, is_number_sign, is_exponent_letter}
-use Rattle.mob_language.specs.Readers.{within_blanks_at}
+use Rattle.std.{proofs.Common.{◌≡◌, ℕ, [], ◌∷◌, ◌++◌, length, Bool, true, false, Option, Some, None, refl, sym, ap, subst, ◌∙◌, rules, arith, codes, inl, inr}, proofs.lemmas.Bool.Decides.{nat_tests}}
+use Rattle.mob_language.{specs.Language.{Text, Language, Maybe, behind, is_blank, within_blanks, is_digit, is_number_sign, is_exponent_letter}, specs.Readers.{within_blanks_at}}
 use Rattle.mob_language.proofs.Exact.{Exact, Stops, means_exact}
 use Rattle.mob_language.proofs.Heads.{NoHead, Apart, HasByte, IsEnd, then_head, means_head, maybe_head, where_head, one_head, many_head, means_byte, within_exact, blanks_stop}
-use Rattle.mob_numeral.specs.declared.numeral.Figures.{Figures}
-use Rattle.mob_numeral.specs.declared.numeral.Exponent.{Exponent}
-use Rattle.mob_numeral.specs.declared.numeral.Tail.{Tail}
-use Rattle.mob_numeral.specs.declared.numeral.Tail.TheVariants.{Decimal}
-use Rattle.mob_numeral.specs.declared.numeral.Numeral.{Numeral}
-use Rattle.mob_numeral.specs.Figures.{digits}
-use Rattle.mob_numeral.specs.Number.{number, tail, has_digits}
-use Rattle.mob_numeral.specs.NumberReaders.{numeral_at}
-use Rattle.mob_numeral.specs.Fitting.{fitting_value, number_value, number_value_at}
-use Rattle.mob_numeral.proofs.NumberExact.{number_exact, continues, tail_head}
+use Rattle.mob_numeral.{specs.declared.numeral.Figures.{Figures}, specs.declared.numeral.Exponent.{Exponent}, specs.declared.numeral.Tail.{Tail}, specs.declared.numeral.Tail.TheVariants.{Decimal}}
+use Rattle.mob_numeral.{specs.declared.numeral.Numeral.{Numeral}, specs.Figures.{digits}, specs.Number.{number, tail, has_digits}, specs.NumberReaders.{numeral_at}}
+use Rattle.mob_numeral.{specs.Fitting.{fitting_value, number_value, number_value_at}, proofs.NumberExact.{number_exact, continues, tail_head}}
 
 -- the part between the blanks
 pub record Inner {A : Type 0} (l : Language A) (v : A) : Type 0 where

@@ -1,7 +1,6 @@
 -- At least one blank.
 use Rattle.std.specs.Prelude.{Bool, length, nat_lt}
-use Rattle.mob_language.specs.Language.{Text, Language, Means, Where, ManyOf, is_blank}
-use Rattle.mob_language.specs.Readers.{TextReader, means_at, where_at, many_at}
+use Rattle.mob_language.{specs.Language.{Text, Language, Means, Where, ManyOf, is_blank}, specs.Readers.{TextReader, means_at, text_where, many_at}}
 
 abbrev pub is_some_text : Text → Bool
 is_some_text text = nat_lt 0 (length text)
@@ -11,4 +10,4 @@ abbrev pub some_blanks : Language (Unit {0})
 some_blanks = Means (λ (c : Text). tt) (Where is_some_text (ManyOf is_blank))
 
 unfoldable pub some_blanks_at : TextReader Unit
-some_blanks_at = means_at (λ (c : Text). tt) (where_at is_some_text (many_at is_blank))
+some_blanks_at = means_at (λ (c : Text). tt) (text_where is_some_text (many_at is_blank))

@@ -1,6 +1,5 @@
 -- Runs of digits.
-use Rattle.std.specs.Prelude.{length, Bool, nat_le}
-use Rattle.std.specs.Str.Parse.{digits_value}
+use Rattle.std.{specs.Prelude.{length, Bool, nat_le}, specs.Str.Parse.{digits_value}}
 use Rattle.mob_language.specs.Language.{Text, Language, Means, Where, ManyOf, AreAll, is_digit}
 use Rattle.mob_numeral.specs.declared.numeral.Figures.{Figures}
 

@@ -1,12 +1,8 @@
 -- Numbers that fit, as a test, and the value of a numeral if it fits.
 use Rattle.std.specs.Prelude.{◌^◌, Bool, ◌&&◌, cond, nat_lt, nat_abs, Option, Some, None}
 use Rattle.mob_ratio.specs.Ratio.{Ratio}
-use Rattle.mob_language.specs.Language.{Language, Means}
-use Rattle.mob_language.specs.Readers.{TextReader, means_at}
-use Rattle.mob_numeral.specs.declared.numeral.Numeral.{Numeral}
-use Rattle.mob_numeral.specs.Number.{number}
-use Rattle.mob_numeral.specs.NumberReaders.{numeral_at}
-use Rattle.mob_numeral.specs.NumberValue.{numeral_value}
+use Rattle.mob_language.{specs.Language.{Language, Means}, specs.Readers.{TextReader, means_at}}
+use Rattle.mob_numeral.{specs.declared.numeral.Numeral.{Numeral}, specs.Number.{number}, specs.NumberReaders.{numeral_at}, specs.NumberValue.{numeral_value}}
 
 -- both parts of q, in lowest terms, have at most 62 bits
 unfoldable pub fits : Ratio → Bool

@@ -1,10 +1,8 @@
 -- Which texts denote a number other than 0.
 use Rattle.std.specs.Prelude.{◌≡◌, ◌≢◌, Ok, pos, true}
 use Rattle.mob_ratio.specs.Ratio.{Ratio}
-use Rattle.mob_language.specs.Language.{Text}
-use Rattle.mob_language.specs.NonZero.{has_figure}
-use Rattle.mob_numeral.specs.declared.numeral.Numeral.{Numeral}
-use Rattle.mob_numeral.specs.Verdict.{Lit, TextForm}
+use Rattle.mob_language.{specs.Language.{Text}, specs.NonZero.{has_figure}}
+use Rattle.mob_numeral.{specs.declared.numeral.Numeral.{Numeral}, specs.Verdict.{Lit, TextForm}}
 
 -- if a text of this form has a digit other than 0 before any exponent and any slash, its number is
 -- not 0

@@ -1,12 +1,8 @@
 -- The texts of numbers, and the numeral that each denotes.
 use Rattle.std.specs.Prelude.{ℕ, ◌+◌, codes, Bool, false, ◌&&◌, nat_le, nat_lt, nat_eq, Option, Some, None}
 use Rattle.mob_language.specs.Language.{Language, ◌▷◌, ◌∣◌, Maybe, Means, Where, OneOf, behind, is_number_sign, is_exponent_letter}
-use Rattle.mob_numeral.specs.declared.numeral.Figures.{Figures}
-use Rattle.mob_numeral.specs.declared.numeral.Exponent.{Exponent}
-use Rattle.mob_numeral.specs.declared.numeral.Tail.{Tail}
-use Rattle.mob_numeral.specs.declared.numeral.Tail.TheVariants.{Over, Decimal}
-use Rattle.mob_numeral.specs.declared.numeral.Numeral.{Numeral}
-use Rattle.mob_numeral.specs.Figures.{digits}
+use Rattle.mob_numeral.{specs.declared.numeral.Figures.{Figures}, specs.declared.numeral.Exponent.{Exponent}, specs.declared.numeral.Tail.{Tail}}
+use Rattle.mob_numeral.{specs.declared.numeral.Tail.TheVariants.{Over, Decimal}, specs.declared.numeral.Numeral.{Numeral}, specs.Figures.{digits}}
 
 abbrev pub is_minus : Option ℕ → Bool
 is_minus None = false

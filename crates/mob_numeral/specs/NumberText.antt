@@ -1,6 +1,5 @@
 -- The printed text of a number.
-use Rattle.std.specs.Prelude.{◌++◌, cond, codes, nat_eq}
-use Rattle.std.specs.Fmt.{decimal, signed_decimal}
+use Rattle.std.{specs.Prelude.{◌++◌, cond, codes, nat_eq}, specs.Fmt.{decimal, signed_decimal}}
 use Rattle.mob_ratio.specs.Ratio.{Ratio}
 use Rattle.mob_language.specs.Language.{Text}
 

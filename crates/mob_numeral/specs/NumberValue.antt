@@ -2,12 +2,8 @@
 use Rattle.std.specs.Prelude.{◌≡◌, ℕ, ◌+◌, ◌*◌, ◌^◌, ◌<◌, ◌≤◌, Bool, true, cond, Option, Some, None, IfSome}
 use Rattle.mob_ratio.specs.Ratio.{Ratio, over}
 use Rattle.mob_frac.specs.Signed.{signed}
-use Rattle.mob_numeral.specs.declared.numeral.Figures.{Figures}
-use Rattle.mob_numeral.specs.declared.numeral.Exponent.{Exponent}
-use Rattle.mob_numeral.specs.declared.numeral.Tail.{Tail}
-use Rattle.mob_numeral.specs.declared.numeral.Tail.TheVariants.{Over, Decimal}
-use Rattle.mob_numeral.specs.declared.numeral.Numeral.{Numeral}
-use Rattle.mob_numeral.specs.Number.{count_of, is_numeral}
+use Rattle.mob_numeral.{specs.declared.numeral.Figures.{Figures}, specs.declared.numeral.Exponent.{Exponent}, specs.declared.numeral.Tail.{Tail}}
+use Rattle.mob_numeral.{specs.declared.numeral.Tail.TheVariants.{Over, Decimal}, specs.declared.numeral.Numeral.{Numeral}, specs.Number.{count_of, is_numeral}}
 
 abbrev pub value_in : Option Figures → ℕ
 value_in None = 0

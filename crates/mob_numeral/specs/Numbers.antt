@@ -3,10 +3,7 @@ use Rattle.std.specs.Prelude.{◌≡◌, ◌≢◌}
 use Rattle.mob_ratio.specs.Ratio.{Ratio}
 use Rattle.mob_frac.specs.Fits.{Fits}
 use Rattle.mob_language.specs.Language.{within_blanks}
-use Rattle.mob_numeral.specs.declared.numeral.Numeral.{Numeral}
-use Rattle.mob_numeral.specs.Number.{number}
-use Rattle.mob_numeral.specs.NumberValue.{numeral_value}
-use Rattle.mob_numeral.specs.Verdict.{TextForm}
+use Rattle.mob_numeral.{specs.declared.numeral.Numeral.{Numeral}, specs.Number.{number}, specs.NumberValue.{numeral_value}, specs.Verdict.{TextForm}}
 
 abbrev pub numbers : TextForm Numeral Ratio
 numbers = record {

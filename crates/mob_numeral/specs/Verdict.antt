@@ -2,8 +2,7 @@
 -- the type is decided first.
 use Rattle.std.specs.Prelude.{◌≡◌, ◌≢◌, Result, Ok, Err}
 use Rattle.mob_language.specs.Language.{Text, Language}
-use Rattle.mob_numeral.specs.declared.fault.ReadText.{ReadText}
-use Rattle.mob_numeral.specs.declared.fault.ReadText.TheVariants.{NotText, Limit, TooLarge, Unsound, NoMemory}
+use Rattle.mob_numeral.{specs.declared.fault.ReadText.{ReadText}, specs.declared.fault.ReadText.TheVariants.{NotText, Limit, TooLarge, Unsound, NoMemory}}
 
 -- The texts of a type are those of `shape`, and each denotes a value of S. Of these, `long` has too
 -- many instants or points, `large` has a number that does not fit, and `unsound` breaks a

@@ -1,16 +1,12 @@
 -- A cast that typing accepts gives a value of the requested type.
 use Rattle.std.proofs.Common.{◌≡◌, ◌∙◌, true≢false, [], ◌∷◌, refl, sym, subst}
 use Rattle.mob_ast.specs.declared.types.SqlType.{SqlType}
+use Rattle.mob_value.{specs.declared.value.Value.{Value}, specs.declared.value.Value.TheVariants.{Null, Number, MovingFrac}, specs.Lines.{IsWidened}}
+use Rattle.mob_ordinary.specs.Ordinary.{unchanged}
+use Rattle.mob_catalog.specs.OwnTypes.{IsValueOf}
+use Rattle.mob_operands.{specs.Rows.{HaveNull, IsAnswer, CastsHaveMeanings}, proofs.Forms.{by_type, null_answer, made_answer, of_one}, proofs.Plain.{AnswersOne}}
 use Rattle.mob_ast.specs.declared.types.SqlType.TheVariants as sql
 use Rattle.mob_operators.specs.declared.operator.Op.TheVariants as op
-use Rattle.mob_value.specs.declared.value.Value.{Value}
-use Rattle.mob_value.specs.declared.value.Value.TheVariants.{Null, Number, MovingFrac}
-use Rattle.mob_ordinary.specs.Ordinary.{unchanged}
-use Rattle.mob_value.specs.Lines.{IsWidened}
-use Rattle.mob_catalog.specs.OwnTypes.{IsValueOf}
-use Rattle.mob_operands.specs.Rows.{HaveNull, IsAnswer, CastsHaveMeanings}
-use Rattle.mob_operands.proofs.Forms.{by_type, null_answer, made_answer, of_one}
-use Rattle.mob_operands.proofs.Plain.{AnswersOne}
 
 -- to its own type
 same_cast : (t : SqlType) (a v : Value) → IsValueOf t a → v ≡ a → IsAnswer op.Cast t (a ∷ []) v

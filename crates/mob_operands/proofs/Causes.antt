@@ -1,29 +1,19 @@
 -- A well-typed key over stored values asks for all rows only if an expression has a fault or the
 -- box cannot be expanded.
-use Rattle.std.proofs.Common.{◌≡◌, ◌≢◌, inl, inr, true, false, true≢false, List, [], ◌∷◌, Ok, refl, sym, subst, arith}
-use Rattle.std.specs.Prelude.{◌⊎◌, Bool, ◌&&◌, fold, Option, None, Some}
+use Rattle.std.{specs.Prelude.{◌⊎◌, Bool, ◌&&◌, fold, Option, None, Some}, proofs.Common.{◌≡◌, ◌≢◌, inl, inr, true, false, true≢false, List, [], ◌∷◌, Ok, refl, sym, subst, arith}}
 use Rattle.mob_ratio.specs.Ratio.{Ratio}
 use Rattle.mob_frac.specs.Formula.{AllFit}
-use Rattle.mob_plane.specs.Corners.{all_points, AreCorners, widened}
-use Rattle.mob_plane.specs.Rings.{are_sound}
-use Rattle.mob_plane.specs.declared.point.Point.{Point as PointOf}
-use Rattle.mob_plane.specs.declared.rectangle.Corners.{Corners}
+use Rattle.mob_plane.{specs.Corners.{all_points, AreCorners, widened}, specs.Rings.{are_sound}, specs.declared.point.Point.{Point as PointOf}, specs.declared.rectangle.Corners.{Corners}}
 use Rattle.mob_plane.proofs.Widening.{are_corners}
-use Rattle.mob_stbox.specs.Boxes.{BoxOf}
-use Rattle.mob_stbox.specs.Expansion.{expanded, parts_of_expansion}
+use Rattle.mob_stbox.{specs.Boxes.{BoxOf}, specs.Expansion.{expanded, parts_of_expansion}}
 use Rattle.mob_typed.specs.Trees.{TypedTree}
-use Rattle.mob_ast.specs.declared.types.SqlType.TheVariants as sql
-use Rattle.mob_value.specs.Types.{is_of_type}
-use Rattle.mob_value.specs.declared.value.Value.{Value}
-use Rattle.mob_value.specs.declared.value.Value.TheVariants.{Null, Number, Point, Polygon, Box, MovingPoint}
+use Rattle.mob_value.{specs.Types.{is_of_type}, specs.declared.value.Value.{Value}, specs.declared.value.Value.TheVariants.{Null, Number, Point, Polygon, Box, MovingPoint}}
 use Rattle.mob_meets.specs.Covers.{box_between, IsLookedForBy}
 use Rattle.mob_plan.specs.Keys.{overlap_key, within_key, inside_key}
-use Rattle.mob_eval.specs.declared.keys.Probe.{Probe}
-use Rattle.mob_eval.specs.declared.keys.Probe.TheVariants.{Everything}
-use Rattle.mob_eval.specs.Keys.{ByBox, AsksForMeeting, AsksForWider, UnlessNull, AsksBy, asked_of}
-use Rattle.mob_meaning.specs.Scene.{Scene}
-use Rattle.mob_meaning.specs.Evaluation.{TreeEvaluatesTo}
+use Rattle.mob_eval.{specs.declared.keys.Probe.{Probe}, specs.declared.keys.Probe.TheVariants.{Everything}, specs.Keys.{ByBox, AsksForMeeting, AsksForWider, UnlessNull, AsksBy, asked_of}}
+use Rattle.mob_meaning.{specs.Scene.{Scene}, specs.Evaluation.{TreeEvaluatesTo}}
 use Rattle.mob_operands.specs.Boxes.{IsAsStored, IsEitherOf, HasItsTypes, HasFault, HasLaterFault, DoesNotExpand, EverythingHasACause}
+use Rattle.mob_ast.specs.declared.types.SqlType.TheVariants as sql
 
 never_both : (b : Bool) → (b && false) ≡ true → ⊥
 never_both true h = true≢false (sym h)

@@ -1,29 +1,18 @@
 -- The operators that take a distance: eDwithin and expandSpace.
-use Rattle.std.proofs.Common.{◌≡◌, Bool, true, false, true≢false, List, [], ◌∷◌, Option, Some, None, inl, inr, refl, sym}
-use Rattle.std.specs.Prelude.{◌&&◌}
+use Rattle.std.{specs.Prelude.{◌&&◌}, proofs.Common.{◌≡◌, Bool, true, false, true≢false, List, [], ◌∷◌, Option, Some, None, inl, inr, refl, sym}}
 use Rattle.mob_ratio.specs.Ratio.{Ratio}
-use Rattle.mob_stbox.specs.Boxes.{BoxOf}
-use Rattle.mob_stbox.specs.Expansion.{expanded}
-use Rattle.mob_slice.specs.declared.line.PlaneLine.{PlaneLine}
-use Rattle.mob_slice.specs.declared.slice.Slice.{Slice}
-use Rattle.mob_near.specs.Distances.{are_within}
+use Rattle.mob_stbox.{specs.Boxes.{BoxOf}, specs.Expansion.{expanded}}
+use Rattle.mob_slice.{specs.declared.line.PlaneLine.{PlaneLine}, specs.declared.slice.Slice.{Slice}}
+use Rattle.mob_near.{specs.Distances.{are_within}, specs.Sql.Nearness.{IsEverWithin}}
 use Rattle.mob_ast.specs.declared.types.SqlType.{SqlType}
+use Rattle.mob_value.{specs.ValueBoxes.{HasBox}, specs.declared.value.Value.{Value}, specs.declared.value.Value.TheVariants.{Null, Number, Box, MovingPoint}, specs.Moving.{or_nothing}}
+use Rattle.mob_compare.{specs.declared.sql.scope.When.TheVariants.{Ever}, specs.Sql.Signs.{IsAsked}}
+use Rattle.mob_clip.specs.Sql.Boxes.{IsExpansion}
+use Rattle.mob_catalog.specs.OwnTypes.{IsValueOf}
+use Rattle.mob_operands.{specs.Rows.{IsAnswer}, proofs.Forms.{OnForms, by_type, by_types, null_answer, made_answer, first_null, second_null}, proofs.Plain.{is_plain_number}, proofs.Table.{both_true}}
+use Rattle.mob_operands.proofs.Together.{are_points, asked_row, point_pair_answers}
 use Rattle.mob_ast.specs.declared.types.SqlType.TheVariants as sql
 use Rattle.mob_operators.specs.declared.operator.Op.TheVariants as op
-use Rattle.mob_value.specs.ValueBoxes.{HasBox}
-use Rattle.mob_value.specs.declared.value.Value.{Value}
-use Rattle.mob_value.specs.declared.value.Value.TheVariants.{Null, Number, Box, MovingPoint}
-use Rattle.mob_value.specs.Moving.{or_nothing}
-use Rattle.mob_compare.specs.declared.sql.scope.Scope.TheVariants.{Ever}
-use Rattle.mob_clip.specs.Sql.Boxes.{IsExpansion}
-use Rattle.mob_near.specs.Sql.Nearness.{IsEverWithin}
-use Rattle.mob_compare.specs.Sql.Signs.{IsAsked}
-use Rattle.mob_catalog.specs.OwnTypes.{IsValueOf}
-use Rattle.mob_operands.specs.Rows.{IsAnswer}
-use Rattle.mob_operands.proofs.Forms.{OnForms, by_type, by_types, null_answer, made_answer, first_null, second_null}
-use Rattle.mob_operands.proofs.Plain.{is_plain_number}
-use Rattle.mob_operands.proofs.Table.{both_true}
-use Rattle.mob_operands.proofs.Together.{are_points, asked_row, point_pair_answers}
 
 -- ---- whether two points are ever within a distance
 

@@ -1,30 +1,23 @@
 -- A value of a type is NULL or has the form of the type; the same for two values.
-use Rattle.std.proofs.Common.{◌≡◌, ◌≢◌, ℕ, Bool, true, true≢false, List, [], ◌∷◌, Option, Some, None, refl, sym, subst}
-use Rattle.std.specs.Prelude.{MatchOption}
-use Rattle.std.specs.List.{AllByRecursion}
+use Rattle.std.{specs.Prelude.{MatchOption}, specs.List.{AllByRecursion}, proofs.Common.{◌≡◌, ◌≢◌, ℕ, Bool, true, true≢false, List, [], ◌∷◌, Option, Some, None, refl, sym, subst}}
 use Rattle.mob_ratio.specs.Ratio.{Ratio}
 use Rattle.mob_plane.specs.declared.point.Point.{Point as PointOf}
-use Rattle.mob_slice.specs.CourseOf.{CourseOf}
-use Rattle.mob_slice.specs.declared.line.Line.{Line}
-use Rattle.mob_slice.specs.declared.line.PlaneLine.{PlaneLine}
-use Rattle.mob_slice.specs.declared.slice.Slice.{Slice}
+use Rattle.mob_slice.{specs.CourseOf.{CourseOf}, specs.declared.line.Line.{Line}, specs.declared.line.PlaneLine.{PlaneLine}, specs.declared.slice.Slice.{Slice}}
 use Rattle.mob_span.specs.Span.{SpanOf}
 use Rattle.mob_stbox.specs.Boxes.{BoxOf}
 use Rattle.mob_written.specs.Values.{is_whole_number}
 use Rattle.mob_ast.specs.declared.types.SqlType.{SqlType}
-use Rattle.mob_ast.specs.declared.types.SqlType.TheVariants as sql
 use Rattle.mob_operators.specs.declared.operator.Op.{Op}
-use Rattle.mob_value.specs.Types.{is_of_type}
-use Rattle.mob_value.specs.declared.value.Value.{Value}
+use Rattle.mob_value.{specs.Types.{is_of_type}, specs.declared.value.Value.{Value}}
 use Rattle.mob_value.specs.declared.value.Value.TheVariants.{Null, Bool as Truth, Number, Text, Moment, Point, Polygon, Span, SpanSet, Box, MovingBool, MovingInt, MovingFrac, MovingText, MovingPoint}
-use Rattle.mob_value.specs.Moving.{StepSlices, AreNormalBy, IsFunctionOrNull, or_nothing}
-use Rattle.mob_meaning.specs.Scene.{Scene}
-use Rattle.mob_meaning.specs.Operators.{GivesOfOne, GivesOfTwo, GivesOfThree}
+use Rattle.mob_value.specs.Moving.{SteadySlices, AreNormalBy, IsFunctionOrNull, or_nothing}
+use Rattle.mob_meaning.{specs.Scene.{Scene}, specs.Operators.{GivesOfOne, GivesOfTwo, GivesOfThree}}
 use Rattle.mob_catalog.specs.OwnTypes.{AreWhole, IsValueOf}
 use Rattle.mob_operands.specs.Rows.{HaveNull, NullIsDue, IsAnswer, DividesByOther, HasMeaning}
+use Rattle.mob_ast.specs.declared.types.SqlType.TheVariants as sql
 
 -- each value of a tint is whole
-abbrev pub AreInts : StepSlices Ratio → Type 0
+abbrev pub AreInts : SteadySlices Ratio → Type 0
 AreInts slices = AllByRecursion (λ s. is_whole_number s.course.value ≡ true) slices
 
 -- P holds of each value that has the form of a type
@@ -39,10 +32,10 @@ OnForms sql.Polygon P = (rings : List (List PointOf)) → P (Polygon rings)
 OnForms sql.Span P = (s : SpanOf) → P (Span s)
 OnForms sql.SpanSet P = (spans : List SpanOf) → P (SpanSet spans)
 OnForms sql.Box P = (b : BoxOf) → P (Box b)
-OnForms sql.TBool P = (m : StepSlices Bool) → P (MovingBool m)
-OnForms sql.TInt P = (m : StepSlices Ratio) → AreInts m → P (MovingInt m)
+OnForms sql.TBool P = (m : SteadySlices Bool) → P (MovingBool m)
+OnForms sql.TInt P = (m : SteadySlices Ratio) → AreInts m → P (MovingInt m)
 OnForms sql.TFrac P = (m : List (Slice Line)) → P (MovingFrac m)
-OnForms sql.TText P = (m : StepSlices (List ℕ)) → P (MovingText m)
+OnForms sql.TText P = (m : SteadySlices (List ℕ)) → P (MovingText m)
 OnForms sql.TPoint P = (m : List (Slice PlaneLine)) → P (MovingPoint m)
 
 -- so it holds for each value of the type if it holds for NULL

@@ -1,30 +1,24 @@
 -- Each operator of the table has a meaning on the types that its lines take.
-use Rattle.std.proofs.Common.{◌≡◌, ℕ, Bool, true, false, not, true≢false, List, [], ◌∷◌, refl, sym}
-use Rattle.std.specs.List.{list_all}
+use Rattle.std.{specs.List.{list_all}, proofs.Common.{◌≡◌, ℕ, Bool, true, false, not, true≢false, List, [], ◌∷◌, refl, sym}}
 use Rattle.mob_list.proofs.Each.{each_on}
-use Rattle.mob_arith.specs.Operations.{both_hold, one_holds, text_of}
+use Rattle.mob_arith.{specs.Operations.{both_hold, one_holds, text_of}, specs.declared.sql.calculation.Calculation.TheVariants.{Sum, Difference, Product}}
 use Rattle.mob_ast.specs.declared.types.SqlType.{SqlType}
-use Rattle.mob_ast.specs.declared.types.SqlType.TheVariants as sql
-use Rattle.mob_operators.specs.Lookup.{Line, is_temporal}
-use Rattle.mob_operators.specs.Table.{table}
-use Rattle.mob_operators.specs.declared.operator.Op.{Op}
-use Rattle.mob_operators.specs.declared.operator.Op.TheVariants as op
-use Rattle.mob_value.specs.declared.value.Value.TheVariants.{Bool as Truth}
+use Rattle.mob_operators.{specs.Lookup.{Line, is_temporal}, specs.Table.{table}, specs.declared.operator.Op.{Op}}
+use Rattle.mob_value.{specs.declared.value.Value.TheVariants.{Bool as Truth}, specs.Lifted.{IsMovingBool, IsMovingText}}
 use Rattle.mob_ordinary.specs.Ordinary.{is_null}
-use Rattle.mob_arith.specs.declared.sql.calculation.Calculation.TheVariants.{Sum, Difference, Product}
-use Rattle.mob_compare.specs.declared.sql.scope.Scope.TheVariants.{Each, Ever, Always}
-use Rattle.mob_value.specs.Lifted.{IsMovingBool, IsMovingText}
+use Rattle.mob_compare.specs.declared.sql.scope.When.TheVariants.{Each, Ever, Always}
 use Rattle.mob_near.specs.Sql.Nearness.{IsApproachValue}
-use Rattle.mob_operands.specs.Rows.{HasMeaning, LineHasMeaning, RowsHaveMeanings, SettledIsTheValue}
-use Rattle.mob_operands.proofs.Distances.{are_near, within_answers, are_widened, expansion_answers}
-use Rattle.mob_operands.proofs.Forms.{of_one, of_two, of_three}
-use Rattle.mob_operands.proofs.Numbers.{is_calculated, calculated_answers, is_divided, divided_answers}
-use Rattle.mob_operands.proofs.Plain.{are_tested, test_answers, null_test_answers, not_answers, negative_int, negative_numeric, same_int, same_numeric, box_answers, is_printed, print_answers, join_answers, and_answers, or_answers}
+use Rattle.mob_operands.{specs.Rows.{HasMeaning, LineHasMeaning, RowsHaveMeanings, SettledIsTheValue}, proofs.Distances.{are_near, within_answers, are_widened, expansion_answers}}
+use Rattle.mob_operands.{proofs.Forms.{of_one, of_two, of_three}, proofs.Numbers.{is_calculated, calculated_answers, is_divided, divided_answers}}
+use Rattle.mob_operands.proofs.Plain.{are_tested, test_answers, null_test_answers, not_answers, negative_int, negative_numeric, same_int, same_numeric, box_answers, is_printed, print_answers}
+use Rattle.mob_operands.proofs.Plain.{join_answers, and_answers, or_answers}
 use Rattle.mob_operands.proofs.Restricted.{are_timed, time_restricted, are_valued, value_restricted, box_restricted, polygon_restricted, are_looked_up, look_answers}
 use Rattle.mob_operands.proofs.Signs.{are_compared_by, sign_answers}
 use Rattle.mob_operands.proofs.Single.{not_each_answers, coordinate_answers, time_answers, true_time_answers, are_boxed, overlap_answers, intersecting_answers}
 use Rattle.mob_operands.proofs.Table.{line_passes, passes_on, each_line}
 use Rattle.mob_operands.proofs.Together.{are_truths, are_texts, are_points, truth_row, text_row, near_row, truth_pair_answers, text_pair_answers, point_pair_answers}
+use Rattle.mob_ast.specs.declared.types.SqlType.TheVariants as sql
+use Rattle.mob_operators.specs.declared.operator.Op.TheVariants as op
 
 -- the types on which these operators have a meaning, with the type of the result
 abbrev pub is_meant : Op → SqlType → List SqlType → Bool

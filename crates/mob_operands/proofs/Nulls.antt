@@ -1,52 +1,29 @@
 -- Operators other than AND, OR, IS NULL and IS NOT NULL are NULL if an operand is NULL, whatever
 -- the types of the operands.
-use Rattle.std.proofs.Common.{◌≡◌, ◌∙◌, ℕ, Bool, true, false, true≢false, List, [], ◌∷◌, Option, Some, None, ◌⊎◌, inl, inr, refl, sym, subst}
-use Rattle.std.specs.Prelude.{cond, MatchOption}
+use Rattle.std.{specs.Prelude.{cond, MatchOption}, proofs.Common.{◌≡◌, ◌∙◌, ℕ, Bool, true, false, true≢false, List, [], ◌∷◌, Option, Some, None, ◌⊎◌, inl, inr, refl, sym, subst}}
 use Rattle.mob_ratio.specs.Ratio.{Ratio}
 use Rattle.mob_span.specs.Span.{SpanOf}
 use Rattle.mob_plane.specs.declared.point.Point.{Point as PointOf}
-use Rattle.mob_slice.specs.LineComparison.{point_relates, number_relates}
-use Rattle.mob_slice.specs.Lines.{line_value_of, plane_value_of}
-use Rattle.mob_slice.specs.Operands.{steady_value}
-use Rattle.mob_slice.specs.declared.comparison.Rel.{Rel}
-use Rattle.mob_arith.specs.Operations.{both_hold, one_holds, text_of}
-use Rattle.mob_near.specs.Distances.{are_within}
-use Rattle.mob_ast.specs.declared.types.Cmp.{Cmp}
-use Rattle.mob_ast.specs.declared.types.Cmp.TheVariants as cmp
-use Rattle.mob_ast.specs.declared.types.SqlType.{SqlType}
-use Rattle.mob_ast.specs.declared.types.SqlType.TheVariants as sql
-use Rattle.mob_operators.specs.Lookup.{same_type}
-use Rattle.mob_operators.specs.declared.operator.Op.{Op}
-use Rattle.mob_operators.specs.declared.operator.Op.TheVariants as op
-use Rattle.mob_value.specs.declared.value.Value.{Value}
-use Rattle.mob_value.specs.declared.value.Value.TheVariants.{Null, Bool as Truth, Number}
-use Rattle.mob_value.specs.Moving.{OverTime}
-use Rattle.mob_value.specs.Relations.{rel_of, text_relates, truth_relates}
+use Rattle.mob_slice.{specs.LineComparison.{point_relates, number_relates}, specs.Lines.{line_value_of, plane_value_of}, specs.Operands.{steady_value}, specs.declared.comparison.Rel.{Rel}}
+use Rattle.mob_arith.{specs.Operations.{both_hold, one_holds, text_of}, specs.declared.sql.calculation.Calculation.{Calculation}}
+use Rattle.mob_arith.{specs.declared.sql.calculation.Calculation.TheVariants.{Sum, Difference, Product}, specs.Sql.Arithmetic.{IsArithmetic, IsDivided}, specs.Sql.Calculations.{result_by}}
+use Rattle.mob_arith.{specs.Sql.Factors.{product_pair}, specs.Sql.Lifting.{IsJoined}}
+use Rattle.mob_near.{specs.Distances.{are_within}, specs.Sql.Nearness.{IsApproachValue, IsEverWithin}}
+use Rattle.mob_ast.{specs.declared.types.Cmp.{Cmp}, specs.declared.types.SqlType.{SqlType}}
+use Rattle.mob_operators.{specs.Lookup.{same_type}, specs.declared.operator.Op.{Op}}
+use Rattle.mob_value.{specs.declared.value.Value.{Value}, specs.declared.value.Value.TheVariants.{Null, Bool as Truth, Number}, specs.Moving.{OverTime}}
+use Rattle.mob_value.{specs.Relations.{rel_of, text_relates, truth_relates}, specs.Pairs.{OnOperands, OnPair, truth_pair, number_pair, text_pair, plane_pair}}
+use Rattle.mob_value.{specs.Lifted.{IsMovingBool, IsMovingInt, IsMovingText, IsMovingFrac}, specs.Lines.{line_pair}}
 use Rattle.mob_ordinary.specs.Ordinary.{IsTest}
-use Rattle.mob_arith.specs.declared.sql.calculation.Calculation.{Calculation}
-use Rattle.mob_arith.specs.declared.sql.calculation.Calculation.TheVariants.{Sum, Difference, Product}
-use Rattle.mob_compare.specs.declared.sql.scope.Scope.{Scope as Asking}
-use Rattle.mob_compare.specs.declared.sql.scope.Scope.TheVariants.{Each, Ever, Always}
-use Rattle.mob_arith.specs.Sql.Arithmetic.{IsArithmetic, IsDivided}
-use Rattle.mob_arith.specs.Sql.Calculations.{result_by}
-use Rattle.mob_value.specs.Pairs.{OnOperands, OnPair, truth_pair, number_pair, text_pair, plane_pair}
-use Rattle.mob_value.specs.Lifted.{IsMovingBool, IsMovingInt, IsMovingText, IsMovingFrac}
-use Rattle.mob_value.specs.Lines.{line_pair}
-use Rattle.mob_arith.specs.Sql.Factors.{product_pair}
-use Rattle.mob_near.specs.Sql.Nearness.{IsApproachValue, IsEverWithin}
-use Rattle.mob_arith.specs.Sql.Lifting.{IsJoined}
-use Rattle.mob_meaning.specs.Operators.{GivesOfOne, GivesOfTwo, GivesOfThree}
-use Rattle.mob_meaning.specs.Scene.{Scene}
-use Rattle.mob_compare.specs.Sql.Signs.{IsAsked, IsOrderTest, IsAnyTest, IsSignTest}
+use Rattle.mob_compare.{specs.declared.sql.scope.When.{When as Asking}, specs.declared.sql.scope.When.TheVariants.{Each, Ever, Always}, specs.Sql.Signs.{IsAsked, IsOrderTest, IsAnyTest, IsSignTest}}
+use Rattle.mob_meaning.{specs.Operators.{GivesOfOne, GivesOfTwo, GivesOfThree}, specs.Scene.{Scene}, specs.Types.{meeting, IsCastTo, IsCast}}
 use Rattle.mob_restrict.specs.Sql.Times.{asked_spans, IsRestriction}
-use Rattle.mob_meaning.specs.Types.{meeting, IsCastTo, IsCast}
-use Rattle.mob_operands.specs.Rows.{HaveNull, knows_null, NullGivesNull}
-use Rattle.mob_operands.proofs.Distances.{expansion_right}
-use Rattle.mob_operands.proofs.Numbers.{product_right, quotient_right, dividend_right}
-use Rattle.mob_operands.proofs.Plain.{beside_null, order_right, number_right, join_right}
-use Rattle.mob_operands.proofs.Restricted.{value_right, box_right, polygon_right, look_left}
-use Rattle.mob_operands.proofs.Single.{overlap_right, intersecting_right}
-use Rattle.mob_operands.proofs.Together.{truth_right, text_right, point_right, int_right, line_right}
+use Rattle.mob_operands.{specs.Rows.{HaveNull, knows_null, NullGivesNull}, proofs.Distances.{expansion_right}, proofs.Numbers.{product_right, quotient_right, dividend_right}}
+use Rattle.mob_operands.{proofs.Plain.{beside_null, order_right, number_right, join_right}, proofs.Restricted.{value_right, box_right, polygon_right, look_left}}
+use Rattle.mob_operands.{proofs.Single.{overlap_right, intersecting_right}, proofs.Together.{truth_right, text_right, point_right, int_right, line_right}}
+use Rattle.mob_ast.specs.declared.types.Cmp.TheVariants as cmp
+use Rattle.mob_ast.specs.declared.types.SqlType.TheVariants as sql
+use Rattle.mob_operators.specs.declared.operator.Op.TheVariants as op
 
 -- what is required of a pair, if the second operand is NULL
 

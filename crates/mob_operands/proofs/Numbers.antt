@@ -1,35 +1,22 @@
 -- Arithmetic, on plain numbers and at each instant.
-use Rattle.std.proofs.Common.{◌≡◌, ◌∙◌, Bool, true, false, true≢false, List, [], ◌∷◌, Option, Some, None, map, refl, sym, ap, subst}
-use Rattle.std.specs.Prelude.{cond, is_some}
-use Rattle.mob_ratio.specs.Ratio.{Ratio, ◌/ℚ◌}
-use Rattle.mob_ratio.specs.Order.{same}
-use Rattle.mob_slice.specs.CourseOf.{steady_course}
-use Rattle.mob_slice.specs.Lines.{line_value_of}
-use Rattle.mob_slice.specs.Operands.{steady_value, map_both, IsPointwise}
-use Rattle.mob_slice.specs.Sides.{given_at}
-use Rattle.mob_slice.specs.declared.line.Line.{Line}
+use Rattle.std.{specs.Prelude.{cond, is_some}, proofs.Common.{◌≡◌, ◌∙◌, Bool, true, false, true≢false, List, [], ◌∷◌, Option, Some, None, map, refl, sym, ap, subst}}
+use Rattle.mob_ratio.{specs.Ratio.{Ratio, ◌/ℚ◌}, specs.Order.{same}}
+use Rattle.mob_slice.{specs.CourseOf.{steady_course}, specs.Lines.{line_value_of}, specs.Operands.{steady_value, map_both, IsPointwise}, specs.Sides.{given_at}, specs.declared.line.Line.{Line}}
 use Rattle.mob_slice.specs.declared.slice.Slice.{Slice}
-use Rattle.mob_value.specs.Lines.{level_line, as_line}
+use Rattle.mob_value.{specs.Lines.{level_line, as_line}, specs.declared.value.Value.{Value}, specs.declared.value.Value.TheVariants.{Null, Bool as Truth, Number, MovingInt, MovingFrac}}
+use Rattle.mob_value.{specs.Moving.{OverTime}, specs.Pairs.{OnOperands, OnPair, number_pair}, specs.Lifted.{IsMovingInt, IsMovingFrac}}
 use Rattle.mob_ast.specs.declared.types.SqlType.{SqlType}
-use Rattle.mob_ast.specs.declared.types.SqlType.TheVariants as sql
 use Rattle.mob_operators.specs.declared.operator.Op.{Op}
-use Rattle.mob_operators.specs.declared.operator.Op.TheVariants as op
-use Rattle.mob_value.specs.declared.value.Value.{Value}
-use Rattle.mob_value.specs.declared.value.Value.TheVariants.{Null, Bool as Truth, Number, MovingInt, MovingFrac}
-use Rattle.mob_value.specs.Moving.{OverTime}
-use Rattle.mob_arith.specs.Sql.Arithmetic.{is_nil, IsArithmetic, IsLineQuotient, IsQuotientOf, IsDivided, quotient}
-use Rattle.mob_arith.specs.declared.sql.calculation.Calculation.{Calculation}
-use Rattle.mob_arith.specs.declared.sql.calculation.Calculation.TheVariants.{Sum, Difference, Product}
-use Rattle.mob_arith.specs.Sql.Calculations.{result_by}
-use Rattle.mob_value.specs.Pairs.{OnOperands, OnPair, number_pair}
-use Rattle.mob_value.specs.Lifted.{IsMovingInt, IsMovingFrac}
-use Rattle.mob_arith.specs.Sql.Factors.{product_pair}
+use Rattle.mob_arith.{specs.Sql.Arithmetic.{is_nil, IsArithmetic, IsLineQuotient, IsQuotientOf, IsDivided, quotient}, specs.declared.sql.calculation.Calculation.{Calculation}}
+use Rattle.mob_arith.{specs.declared.sql.calculation.Calculation.TheVariants.{Sum, Difference, Product}, specs.Sql.Calculations.{result_by}, specs.Sql.Factors.{product_pair}}
 use Rattle.mob_catalog.specs.OwnTypes.{IsValueOf}
 use Rattle.mob_operands.specs.Rows.{is_there, HaveNull, NullByType, NullIsDue, IsAnswer, DividesByOther}
 use Rattle.mob_operands.proofs.Forms.{OnForms, by_types, null_answer, made_answer, function_answer, first_null, second_null}
 use Rattle.mob_operands.proofs.Plain.{is_plain_number, is_plain_result, number_answers, numeric_made}
 use Rattle.mob_operands.proofs.Together.{are_ints, are_lines, common, level_there, frac_row, int_right, by_pair, line_pair_answers}
 use Rattle.mob_operands.proofs.Whole.{HasInts, ints_there, ints_of_one, tint_of, int_both}
+use Rattle.mob_ast.specs.declared.types.SqlType.TheVariants as sql
+use Rattle.mob_operators.specs.declared.operator.Op.TheVariants as op
 
 -- two types whose values have a linear product
 abbrev pub are_factors : SqlType → SqlType → Bool

@@ -2,28 +2,20 @@
 use Rattle.std.proofs.Common.{◌≡◌, ◌∙◌, ℕ, ℤ, Bool, true, false, not, true≢false, List, [], ◌∷◌, option_map, refl, sym, Option, Some, None}
 use Rattle.mob_ratio.specs.Ratio.{Ratio, neg_ℚ}
 use Rattle.mob_written.specs.Values.{is_whole_number}
-use Rattle.mob_ast.specs.declared.types.Cmp.{Cmp}
-use Rattle.mob_ast.specs.declared.types.Cmp.TheVariants as cmp
-use Rattle.mob_ast.specs.declared.types.SqlType.{SqlType}
-use Rattle.mob_ast.specs.declared.types.SqlType.TheVariants as sql
+use Rattle.mob_ast.{specs.declared.types.Cmp.{Cmp}, specs.declared.types.SqlType.{SqlType}}
 use Rattle.mob_operators.specs.declared.operator.Op.{Op}
-use Rattle.mob_operators.specs.declared.operator.Op.TheVariants as op
-use Rattle.mob_value.specs.declared.value.Value.{Value}
-use Rattle.mob_value.specs.declared.value.Value.TheVariants.{Null, Bool as Truth, Number, Text, Box}
+use Rattle.mob_value.{specs.declared.value.Value.{Value}, specs.declared.value.Value.TheVariants.{Null, Bool as Truth, Number, Text, Box}, specs.Truths.{known, IsTruthOf}, specs.Relations.{rel_of}}
 use Rattle.mob_slice.specs.declared.comparison.Rel.{Rel}
 use Rattle.mob_ordinary.specs.Ordinary.{truth_of, IsEquality, ordered, IsTest, negated, unchanged, conjunction, disjunction}
-use Rattle.mob_value.specs.Truths.{known, IsTruthOf}
-use Rattle.mob_value.specs.Relations.{rel_of}
-use Rattle.mob_arith.specs.declared.sql.calculation.Calculation.{Calculation}
-use Rattle.mob_arith.specs.Sql.Arithmetic.{on_numbers}
+use Rattle.mob_arith.{specs.declared.sql.calculation.Calculation.{Calculation}, specs.Sql.Arithmetic.{on_numbers}, specs.Sql.Calculations.{result_by}, specs.Sql.Lifting.{concatenation}}
 use Rattle.mob_clip.specs.Sql.Boxes.{IsStBox}
-use Rattle.mob_arith.specs.Sql.Calculations.{result_by}
-use Rattle.mob_arith.specs.Sql.Lifting.{concatenation}
 use Rattle.mob_meaning.specs.Operators.{printed_text}
 use Rattle.mob_catalog.specs.OwnTypes.{IsValueOf}
-use Rattle.mob_operands.specs.Rows.{HaveNull, NullIsDue, IsAnswer}
-use Rattle.mob_operands.proofs.Forms.{OnForms, by_type, by_types, null_answer, made_answer, truth_answer, first_null, second_null}
+use Rattle.mob_operands.{specs.Rows.{HaveNull, NullIsDue, IsAnswer}, proofs.Forms.{OnForms, by_type, by_types, null_answer, made_answer, truth_answer, first_null, second_null}}
 use Rattle.mob_operands.proofs.Whole.{int_by, int_neg}
+use Rattle.mob_ast.specs.declared.types.Cmp.TheVariants as cmp
+use Rattle.mob_ast.specs.declared.types.SqlType.TheVariants as sql
+use Rattle.mob_operators.specs.declared.operator.Op.TheVariants as op
 
 -- whether two types can be compared by `=`: equal types, or two types of numbers
 abbrev pub are_compared : SqlType → SqlType → Bool

@@ -1,42 +1,25 @@
 -- The restriction of a temporal value has its type, and is NULL only if nothing is left.
-use Rattle.std.proofs.Common.{◌≡◌, ◌≢◌, ◌∙◌, ℕ, Bool, true, false, true≢false, List, [], ◌∷◌, Option, Some, None, inl, inr, refl, sym, subst}
-use Rattle.std.specs.Prelude.{◌⊎◌, cond, is_some}
-use Rattle.mob_ratio.specs.Ratio.{Ratio}
-use Rattle.mob_ratio.specs.Order.{same}
-use Rattle.mob_span.specs.Sets.{in_some}
-use Rattle.mob_span.specs.Span.{SpanOf}
-use Rattle.mob_span.specs.Flags.{same_bool}
-use Rattle.mob_plane.specs.declared.point.Point.{Point as PointOf}
-use Rattle.mob_plane.specs.Membership.{inside}
+use Rattle.std.{specs.Prelude.{◌⊎◌, cond, is_some}, proofs.Common.{◌≡◌, ◌≢◌, ◌∙◌, ℕ, Bool, true, false, true≢false, List, [], ◌∷◌, Option, Some, None, inl, inr, refl, sym, subst}}
+use Rattle.mob_ratio.{specs.Ratio.{Ratio}, specs.Order.{same}}
+use Rattle.mob_span.{specs.Sets.{in_some}, specs.Span.{SpanOf}, specs.Flags.{same_bool}}
+use Rattle.mob_plane.{specs.declared.point.Point.{Point as PointOf}, specs.Membership.{inside}}
 use Rattle.mob_stbox.specs.Boxes.{in_box}
-use Rattle.mob_slice.specs.CourseOf.{steady_course, line_course, plane_course}
-use Rattle.mob_slice.specs.LineComparison.{point_relates, number_relates}
-use Rattle.mob_slice.specs.Lines.{line_value_of, plane_value_of}
-use Rattle.mob_slice.specs.Operands.{steady_value}
-use Rattle.mob_slice.specs.Sameness.{same_bytes}
-use Rattle.mob_slice.specs.declared.comparison.Rel.TheVariants.{Eq}
-use Rattle.mob_slice.specs.declared.line.Line.{Line}
-use Rattle.mob_slice.specs.declared.line.PlaneLine.{PlaneLine}
-use Rattle.mob_slice.specs.declared.slice.Slice.{Slice}
-use Rattle.mob_cells.specs.Cells.{instant_span}
-use Rattle.mob_cells.specs.Restricted.{where_wanted, IsRestricted}
+use Rattle.mob_slice.{specs.CourseOf.{steady_course, line_course, plane_course}, specs.LineComparison.{point_relates, number_relates}, specs.Lines.{line_value_of, plane_value_of}}
+use Rattle.mob_slice.{specs.Operands.{steady_value}, specs.Sameness.{same_bytes}, specs.declared.comparison.Rel.TheVariants.{Eq}, specs.declared.line.Line.{Line}}
+use Rattle.mob_slice.{specs.declared.line.PlaneLine.{PlaneLine}, specs.declared.slice.Slice.{Slice}}
+use Rattle.mob_cells.{specs.Cells.{instant_span}, specs.Restricted.{where_wanted, IsRestricted}}
 use Rattle.mob_ast.specs.declared.types.SqlType.{SqlType}
-use Rattle.mob_ast.specs.declared.types.SqlType.TheVariants as sql
-use Rattle.mob_operators.specs.Lookup.{is_temporal}
-use Rattle.mob_operators.specs.declared.operator.Op.{Op}
-use Rattle.mob_operators.specs.declared.operator.Op.TheVariants as op
+use Rattle.mob_operators.{specs.Lookup.{is_temporal}, specs.declared.operator.Op.{Op}}
 use Rattle.mob_value.specs.declared.value.Value.{Value}
 use Rattle.mob_value.specs.declared.value.Value.TheVariants.{Null, Bool as Truth, Number, Text, Moment, Point, Span, SpanSet, MovingBool, MovingInt, MovingFrac, MovingText, MovingPoint}
-use Rattle.mob_value.specs.Moving.{StepSlices, step_function, line_function, plane_function, or_nothing, IsFunctionOrNull}
-use Rattle.mob_clip.specs.Sql.Boxes.{IsBoxRestriction}
-use Rattle.mob_restrict.specs.Sql.ByValue.{IsValueRestriction}
-use Rattle.mob_clip.specs.Sql.Polygons.{IsPolygonRestriction}
-use Rattle.mob_value.specs.Relations.{text_relates, truth_relates}
-use Rattle.mob_restrict.specs.Sql.Times.{IsRestriction, IsTimeRestriction, look_up}
+use Rattle.mob_value.{specs.Moving.{SteadySlices, step_function, line_function, plane_function, or_nothing, IsFunctionOrNull}, specs.Relations.{text_relates, truth_relates}}
+use Rattle.mob_clip.{specs.Sql.Boxes.{IsBoxRestriction}, specs.Sql.Polygons.{IsPolygonRestriction}}
+use Rattle.mob_restrict.{specs.Sql.ByValue.{IsValueRestriction}, specs.Sql.Times.{IsRestriction, IsTimeRestriction, look_up}}
 use Rattle.mob_catalog.specs.OwnTypes.{IsValueOf}
 use Rattle.mob_operands.specs.Rows.{is_there, HaveNull, passes, is_asked, is_then, is_within, NothingIsLeft, NullIsDue, IsAnswer}
-use Rattle.mob_operands.proofs.Forms.{OnForms, AreInts, by_type, by_types, null_answer, own_answer, function_answer, first_null, second_null}
-use Rattle.mob_operands.proofs.Whole.{ints_there, tint_of}
+use Rattle.mob_operands.{proofs.Forms.{OnForms, AreInts, by_type, by_types, null_answer, own_answer, function_answer, first_null, second_null}, proofs.Whole.{ints_there, tint_of}}
+use Rattle.mob_ast.specs.declared.types.SqlType.TheVariants as sql
+use Rattle.mob_operators.specs.declared.operator.Op.TheVariants as op
 
 gone : {B : Type 0} (x : B) (b : Bool) → cond b (Some x) None ≡ None → b ≡ false
 gone x true e = absurd (cc e)
@@ -82,16 +65,16 @@ look_left _ = refl
 -- ---- the restriction of each temporal type
 
 module _ (o : Op) (want : Bool) where
-  left_bools : (meets : Ratio → Bool → Bool) (m : StepSlices Bool) (vs : List Value) → (((t : Ratio) → where_wanted want (meets t) (step_function m t) ≡ None) → NullIsDue o sql.TBool vs) → (v : Value) → IsFunctionOrNull (steady_course same_bool) MovingBool (IsRestricted steady_value want meets m) v → IsAnswer o sql.TBool vs v
+  left_bools : (meets : Ratio → Bool → Bool) (m : SteadySlices Bool) (vs : List Value) → (((t : Ratio) → where_wanted want (meets t) (step_function m t) ≡ None) → NullIsDue o sql.TBool vs) → (v : Value) → IsFunctionOrNull (steady_course same_bool) MovingBool (IsRestricted steady_value want meets m) v → IsAnswer o sql.TBool vs v
   left_bools meets m vs due v g = function_answer (steady_course same_bool) MovingBool (IsRestricted steady_value want meets m) o sql.TBool vs v (λ r p n. record { form = refl; whole = tt }) (λ r n. absurd (cc n)) due g
 
-  left_ints : (meets : Ratio → Ratio → Bool) (m : StepSlices Ratio) (vs : List Value) → AreInts m → (((t : Ratio) → where_wanted want (meets t) (step_function m t) ≡ None) → NullIsDue o sql.TInt vs) → (v : Value) → IsFunctionOrNull (steady_course same) MovingInt (IsRestricted steady_value want meets m) v → IsAnswer o sql.TInt vs v
+  left_ints : (meets : Ratio → Ratio → Bool) (m : SteadySlices Ratio) (vs : List Value) → AreInts m → (((t : Ratio) → where_wanted want (meets t) (step_function m t) ≡ None) → NullIsDue o sql.TInt vs) → (v : Value) → IsFunctionOrNull (steady_course same) MovingInt (IsRestricted steady_value want meets m) v → IsAnswer o sql.TInt vs v
   left_ints meets m vs i due v g = function_answer (steady_course same) MovingInt (IsRestricted steady_value want meets m) o sql.TInt vs v (λ r p n. tint_of r n (λ t x e. ints_there m i t x (same_left want (meets t) (step_function m t) x (sym (p t) ∙ e)))) (λ r n. absurd (cc n)) due g
 
   left_fracs : (meets : Ratio → Ratio → Bool) (m : List (Slice Line)) (vs : List Value) → (((t : Ratio) → where_wanted want (meets t) (line_function m t) ≡ None) → NullIsDue o sql.TFrac vs) → (v : Value) → IsFunctionOrNull line_course MovingFrac (IsRestricted line_value_of want meets m) v → IsAnswer o sql.TFrac vs v
   left_fracs meets m vs due v g = function_answer line_course MovingFrac (IsRestricted line_value_of want meets m) o sql.TFrac vs v (λ r p n. record { form = refl; whole = tt }) (λ r n. absurd (cc n)) due g
 
-  left_texts : (meets : Ratio → List ℕ → Bool) (m : StepSlices (List ℕ)) (vs : List Value) → (((t : Ratio) → where_wanted want (meets t) (step_function m t) ≡ None) → NullIsDue o sql.TText vs) → (v : Value) → IsFunctionOrNull (steady_course same_bytes) MovingText (IsRestricted steady_value want meets m) v → IsAnswer o sql.TText vs v
+  left_texts : (meets : Ratio → List ℕ → Bool) (m : SteadySlices (List ℕ)) (vs : List Value) → (((t : Ratio) → where_wanted want (meets t) (step_function m t) ≡ None) → NullIsDue o sql.TText vs) → (v : Value) → IsFunctionOrNull (steady_course same_bytes) MovingText (IsRestricted steady_value want meets m) v → IsAnswer o sql.TText vs v
   left_texts meets m vs due v g = function_answer (steady_course same_bytes) MovingText (IsRestricted steady_value want meets m) o sql.TText vs v (λ r p n. record { form = refl; whole = tt }) (λ r n. absurd (cc n)) due g
 
   left_points : (meets : Ratio → PointOf → Bool) (m : List (Slice PlaneLine)) (vs : List Value) → (((t : Ratio) → where_wanted want (meets t) (plane_function m t) ≡ None) → NullIsDue o sql.TPoint vs) → (v : Value) → IsFunctionOrNull plane_course MovingPoint (IsRestricted plane_value_of want meets m) v → IsAnswer o sql.TPoint vs v

@@ -1,20 +1,16 @@
 -- The signs that compare over time use the pair of their operands.
 use Rattle.std.proofs.Common.{◌≡◌, Bool, true, false, true≢false, [], ◌∷◌, sym, refl}
-use Rattle.mob_slice.specs.LineComparison.{point_relates, number_relates}
-use Rattle.mob_slice.specs.declared.comparison.Rel.{Rel}
-use Rattle.mob_ast.specs.declared.types.Cmp.{Cmp}
-use Rattle.mob_ast.specs.declared.types.Cmp.TheVariants as cmp
-use Rattle.mob_ast.specs.declared.types.SqlType.{SqlType}
-use Rattle.mob_ast.specs.declared.types.SqlType.TheVariants as sql
+use Rattle.mob_slice.{specs.LineComparison.{point_relates, number_relates}, specs.declared.comparison.Rel.{Rel}}
+use Rattle.mob_ast.{specs.declared.types.Cmp.{Cmp}, specs.declared.types.SqlType.{SqlType}}
 use Rattle.mob_operators.specs.declared.operator.Op.{Op}
-use Rattle.mob_value.specs.declared.value.Value.{Value}
-use Rattle.mob_value.specs.Relations.{rel_of, text_relates, truth_relates}
-use Rattle.mob_compare.specs.declared.sql.scope.Scope.{Scope}
-use Rattle.mob_compare.specs.Sql.Signs.{IsAsked, IsOrderTest, IsAnyTest, IsSignTest}
+use Rattle.mob_value.{specs.declared.value.Value.{Value}, specs.Relations.{rel_of, text_relates, truth_relates}}
+use Rattle.mob_compare.{specs.declared.sql.scope.When.{When}, specs.Sql.Signs.{IsAsked, IsOrderTest, IsAnyTest, IsSignTest}}
 use Rattle.mob_meaning.specs.Types.{common_type}
 use Rattle.mob_catalog.specs.OwnTypes.{IsValueOf}
 use Rattle.mob_operands.specs.Rows.{AreNeverTogether, NullIsDue, IsAnswer}
 use Rattle.mob_operands.proofs.Together.{asked_type, asked_row, truth_pair_answers, text_pair_answers, point_pair_answers, int_pair_answers, line_pair_answers}
+use Rattle.mob_ast.specs.declared.types.Cmp.TheVariants as cmp
+use Rattle.mob_ast.specs.declared.types.SqlType.TheVariants as sql
 
 -- two types whose values are ordered over time: numbers and texts, at least one of which is
 -- temporal
@@ -66,7 +62,7 @@ are_compared_by cmp.Eq t u = are_any t u
 are_compared_by cmp.Ne t u = are_any t u
 are_compared_by _ t u = are_signed t u
 
-module _ (o : Op) (scope : Scope) (due : (a b : Value) → AreNeverTogether (a ∷ b ∷ []) → NullIsDue o (asked_type scope) (a ∷ b ∷ [])) where
+module _ (o : Op) (scope : When) (due : (a b : Value) → AreNeverTogether (a ∷ b ∷ []) → NullIsDue o (asked_type scope) (a ∷ b ∷ [])) where
   abbrev Compared : (Value → Value → Value → Type 0) → Value → Value → Type 0
   Compared G a b = (v : Value) → G a b v → IsAnswer o (asked_type scope) (a ∷ b ∷ []) v
 

@@ -3,26 +3,18 @@ use Rattle.std.proofs.Common.{◌≡◌, ◌∙◌, Bool, true, false, true≢fa
 use Rattle.mob_ratio.specs.Ratio.{Ratio}
 use Rattle.mob_plane.specs.declared.point.Point.{Point as PointOf}
 use Rattle.mob_span.specs.Span.{SpanOf}
-use Rattle.mob_compare.specs.Times.{is_true}
+use Rattle.mob_compare.{specs.Times.{is_true}, specs.Sql.TrueTimes.{IsTrueTime, set_or_null}}
 use Rattle.mob_ast.specs.declared.types.SqlType.{SqlType}
-use Rattle.mob_ast.specs.declared.types.SqlType.TheVariants as sql
-use Rattle.mob_operators.specs.Lookup.{is_temporal}
-use Rattle.mob_operators.specs.declared.operator.Op.{Op}
-use Rattle.mob_operators.specs.declared.operator.Op.TheVariants as op
-use Rattle.mob_value.specs.declared.value.Value.{Value}
-use Rattle.mob_value.specs.declared.value.Value.TheVariants.{Null, SpanSet, Box, MovingBool, MovingFrac, MovingPoint}
-use Rattle.mob_value.specs.Moving.{StepSlices, step_function}
-use Rattle.mob_clip.specs.Sql.Boxes.{IsOverlap}
-use Rattle.mob_restrict.specs.Sql.Coordinates.{IsCoordinate}
-use Rattle.mob_arith.specs.Sql.Lifting.{IsLiftedNot}
-use Rattle.mob_clip.specs.Sql.Polygons.{IsIntersecting}
+use Rattle.mob_operators.{specs.Lookup.{is_temporal}, specs.declared.operator.Op.{Op}}
+use Rattle.mob_value.{specs.declared.value.Value.{Value}, specs.declared.value.Value.TheVariants.{Null, SpanSet, Box, MovingBool, MovingFrac, MovingPoint}, specs.Moving.{SteadySlices, step_function}}
 use Rattle.mob_value.specs.Sets.{AreInstantsOf}
-use Rattle.mob_restrict.specs.Sql.Times.{IsDefinedTime}
-use Rattle.mob_compare.specs.Sql.TrueTimes.{IsTrueTime, set_or_null}
+use Rattle.mob_clip.{specs.Sql.Boxes.{IsOverlap}, specs.Sql.Polygons.{IsIntersecting}}
+use Rattle.mob_restrict.{specs.Sql.Coordinates.{IsCoordinate}, specs.Sql.Times.{IsDefinedTime}}
+use Rattle.mob_arith.specs.Sql.Lifting.{IsLiftedNot}
 use Rattle.mob_catalog.specs.OwnTypes.{IsValueOf}
-use Rattle.mob_operands.specs.Rows.{NullIsDue, IsAnswer}
-use Rattle.mob_operands.proofs.Forms.{OnForms, by_type, by_types, null_answer, made_answer, truth_answer, first_null, second_null}
-use Rattle.mob_operands.proofs.Plain.{AnswersOne}
+use Rattle.mob_operands.{specs.Rows.{NullIsDue, IsAnswer}, proofs.Forms.{OnForms, by_type, by_types, null_answer, made_answer, truth_answer, first_null, second_null}, proofs.Plain.{AnswersOne}}
+use Rattle.mob_ast.specs.declared.types.SqlType.TheVariants as sql
+use Rattle.mob_operators.specs.declared.operator.Op.TheVariants as op
 
 pub not_each_answers : (a : Value) → IsValueOf sql.TBool a → AnswersOne op.LiftedNot sql.TBool IsLiftedNot a
 not_each_answers a h = by_type sql.TBool (AnswersOne op.LiftedNot sql.TBool IsLiftedNot)
@@ -47,10 +39,10 @@ time_answers sql.TPoint e = by_time sql.TPoint (λ m v g. set_made _ v _ g.2)
 time_answers _ e = absurd (true≢false (sym e))
 
 -- no instant is true if the set of these instants is empty
-never_true : (m : StepSlices Bool) → AreInstantsOf (λ t. is_true (step_function m t)) [] → (t : Ratio) → step_function m t ≡ Some true → ⊥
+never_true : (m : SteadySlices Bool) → AreInstantsOf (λ t. is_true (step_function m t)) [] → (t : Ratio) → step_function m t ≡ Some true → ⊥
 never_true m h t e = true≢false (sym (h.1 t ∙ ap is_true e))
 
-true_made : (m : StepSlices Bool) (v : Value) (spans : List SpanOf) → AreInstantsOf (λ t. is_true (step_function m t)) spans → v ≡ set_or_null spans → IsAnswer op.WhenTrue sql.SpanSet (MovingBool m ∷ []) v
+true_made : (m : SteadySlices Bool) (v : Value) (spans : List SpanOf) → AreInstantsOf (λ t. is_true (step_function m t)) spans → v ≡ set_or_null spans → IsAnswer op.WhenTrue sql.SpanSet (MovingBool m ∷ []) v
 true_made m v [] h e = null_answer op.WhenTrue sql.SpanSet (MovingBool m ∷ []) v (inr (never_true m h)) e
 true_made m v (s ∷ spans) h e = made_answer op.WhenTrue sql.SpanSet (MovingBool m ∷ []) v (SpanSet (s ∷ spans)) refl tt (λ n. absurd (cc n)) e
 

@@ -1,14 +1,11 @@
 -- A property of each line of a table of operators is checked for all types that the line takes, one
 -- by one, by computing.
+use Rattle.std.{specs.Prelude.{◌&&◌, ◌||◌, not}, specs.List.{AllByRecursion, list_all}}
 use Rattle.std.proofs.Common.{◌≡◌, ℕ, Bool, true, false, true≢false, List, [], ◌∷◌, Option, Some, None, refl, sym, ap, subst, ◌∙◌}
-use Rattle.std.specs.Prelude.{◌&&◌, ◌||◌, not}
-use Rattle.std.specs.List.{AllByRecursion, list_all}
 use Rattle.mob_ast.specs.declared.types.SqlType.{SqlType}
+use Rattle.mob_operators.{specs.declared.operator.Op.{Op}, specs.declared.table.Bond.{Bond}, specs.Lookup.{Line, same_type, has_type, types_fit, meets, given, takes}}
 use Rattle.mob_ast.specs.declared.types.SqlType.TheVariants as sql
-use Rattle.mob_operators.specs.declared.operator.Op.{Op}
-use Rattle.mob_operators.specs.declared.table.Bond.{Bond}
 use Rattle.mob_operators.specs.declared.table.Bond.TheVariants as bond
-use Rattle.mob_operators.specs.Lookup.{Line, same_type, has_type, types_fit, meets, given, takes}
 
 pub both_true : (a b : Bool) → (a && b) ≡ true → (a ≡ true) × (b ≡ true)
 both_true true b h = (refl, h)

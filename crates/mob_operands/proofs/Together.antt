@@ -1,33 +1,20 @@
 -- An operator that applies at each instant gives NULL only if its operands never exist together.
-use Rattle.std.proofs.Common.{◌≡◌, ◌≢◌, ◌∙◌, ℕ, Bool, true, false, true≢false, List, [], ◌∷◌, Option, Some, None, map, refl, sym, ap, subst}
-use Rattle.std.specs.Prelude.{is_some, MatchOption}
+use Rattle.std.{specs.Prelude.{is_some, MatchOption}, proofs.Common.{◌≡◌, ◌≢◌, ◌∙◌, ℕ, Bool, true, false, true≢false, List, [], ◌∷◌, Option, Some, None, map, refl, sym, ap, subst}}
 use Rattle.mob_ratio.specs.Ratio.{Ratio}
 use Rattle.mob_plane.specs.declared.point.Point.{Point as PointOf}
-use Rattle.mob_value.specs.Lines.{level_line, line_pair}
-use Rattle.mob_value.proofs.Widening.{level_at}
-use Rattle.mob_slice.specs.CourseOf.{CourseOf, steady_course, line_course}
-use Rattle.mob_slice.specs.Lines.{line_value_of, plane_value_of}
-use Rattle.mob_slice.specs.Operands.{steady_value, map_both, IsPointwise}
-use Rattle.mob_slice.specs.Sides.{given_at}
+use Rattle.mob_value.{specs.Lines.{level_line, line_pair}, specs.declared.value.Value.{Value}, specs.declared.value.Value.TheVariants.{Null, Bool as Truth, Number, MovingBool, MovingFrac, MovingText}}
+use Rattle.mob_value.{specs.Moving.{SteadySlices, OverTime, step_function, line_function, or_nothing, IsFunctionOrNull}, specs.Truths.{known}}
+use Rattle.mob_value.{specs.Pairs.{OnOperands, OnPair, truth_pair, number_pair, text_pair, plane_pair}, specs.Lifted.{IsMovingBool, IsMovingText, IsMovingFrac}, proofs.Widening.{level_at}}
+use Rattle.mob_slice.{specs.CourseOf.{CourseOf, steady_course, line_course}, specs.Lines.{line_value_of, plane_value_of}, specs.Operands.{steady_value, map_both, IsPointwise}, specs.Sides.{given_at}}
 use Rattle.mob_slice.specs.declared.slice.Slice.{Slice}
 use Rattle.mob_lift.specs.Sometime.{HaveCommon, IsEver, IsAlways}
-use Rattle.mob_near.specs.Approaches.{IsApproach}
+use Rattle.mob_near.{specs.Approaches.{IsApproach}, specs.Sql.Nearness.{IsApproachValue}}
 use Rattle.mob_ast.specs.declared.types.SqlType.{SqlType}
-use Rattle.mob_ast.specs.declared.types.SqlType.TheVariants as sql
 use Rattle.mob_operators.specs.declared.operator.Op.{Op}
-use Rattle.mob_value.specs.declared.value.Value.{Value}
-use Rattle.mob_value.specs.declared.value.Value.TheVariants.{Null, Bool as Truth, Number, MovingBool, MovingFrac, MovingText}
-use Rattle.mob_value.specs.Moving.{StepSlices, OverTime, step_function, line_function, or_nothing, IsFunctionOrNull}
-use Rattle.mob_value.specs.Truths.{known}
-use Rattle.mob_compare.specs.declared.sql.scope.Scope.{Scope}
-use Rattle.mob_compare.specs.declared.sql.scope.Scope.TheVariants.{Each, Ever, Always}
-use Rattle.mob_value.specs.Pairs.{OnOperands, OnPair, truth_pair, number_pair, text_pair, plane_pair}
-use Rattle.mob_value.specs.Lifted.{IsMovingBool, IsMovingText, IsMovingFrac}
-use Rattle.mob_near.specs.Sql.Nearness.{IsApproachValue}
-use Rattle.mob_compare.specs.Sql.Signs.{IsAsked}
+use Rattle.mob_compare.{specs.declared.sql.scope.When.{When}, specs.declared.sql.scope.When.TheVariants.{Each, Ever, Always}, specs.Sql.Signs.{IsAsked}}
 use Rattle.mob_catalog.specs.OwnTypes.{IsValueOf}
-use Rattle.mob_operands.specs.Rows.{is_there, AreNeverTogether, NullIsDue, IsAnswer}
-use Rattle.mob_operands.proofs.Forms.{OnForms, by_types, null_answer}
+use Rattle.mob_operands.{specs.Rows.{is_there, AreNeverTogether, NullIsDue, IsAnswer}, proofs.Forms.{OnForms, by_types, null_answer}}
+use Rattle.mob_ast.specs.declared.types.SqlType.TheVariants as sql
 
 there : {X : Type 0} (o : Option X) → is_some o ≡ true → (x : X) × (o ≡ Some x)
 there None h = absurd (true≢false (sym h))
@@ -38,7 +25,7 @@ pub common : {X Y : Type 0} (f : OverTime X) (g : OverTime Y) (t : Ratio) → is
 common f g t h k = let x = there (f t) h in let y = there (g t) k in (t, x.0, y.0, x.1, y.1, tt)
 
 -- a tint is defined as a tfrac where it is defined as a tint
-pub level_there : (m : StepSlices Ratio) (t : Ratio) → is_some (step_function m t) ≡ true → is_some (line_function (map level_line m) t) ≡ true
+pub level_there : (m : SteadySlices Ratio) (t : Ratio) → is_some (step_function m t) ≡ true → is_some (line_function (map level_line m) t) ≡ true
 level_there m t h = ap is_some (level_at m (map level_line m) refl t) ∙ h
 
 -- The value of a row on two functions has this type, and is NULL only if they have no common
@@ -97,12 +84,12 @@ always_null op left right None v h e n c = h c
 always_null op left right (Some b) v h e n c = absurd (let k = sym e ∙ n in cc k)
 
 -- the type of the result of a sign
-abbrev pub asked_type : Scope → SqlType
+abbrev pub asked_type : When → SqlType
 asked_type Each = sql.TBool
 asked_type Ever = sql.Bool
 asked_type Always = sql.Bool
 
-pub asked_row : {X : Type 0} (scope : Scope) (test : X → X → Bool) → IsRow (asked_type scope) (IsAsked scope test)
+pub asked_row : {X : Type 0} (scope : When) (test : X → X → Bool) → IsRow (asked_type scope) (IsAsked scope test)
 asked_row Each test = truth_row test
 asked_row Ever test = record {
   own = λ left right v h. known_own h.0 v h.2;

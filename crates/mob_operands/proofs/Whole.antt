@@ -1,34 +1,19 @@
 -- Sums, differences, products and opposites of whole numbers are whole, and so are the values of
 -- tints made from tints.
-use Rattle.std.proofs.Common.{◌≡◌, ◌∙◌, ℕ, ℤ, ◌+ℤ◌, ◌*ℤ◌, neg_ℤ, nat_abs, Bool, true, false, [], ◌∷◌, Option, Some, None, refl, sym, ap, subst, arith}
-use Rattle.std.specs.Prelude.{nat_eq, cond}
-use Rattle.std.proofs.lemmas.Bool.{eqb-true}
-use Rattle.std.proofs.lemmas.Option.{same_Some}
-use Rattle.mob_ratio.specs.GcdLaws.{gcd_one_right}
-use Rattle.mob_ratio.specs.LowestLaws.{lowest_in}
-use Rattle.mob_ratio.specs.Order.{same}
-use Rattle.mob_ratio.specs.Ratio.{Ratio, whole, over, ◌+ℚ◌, ◌*ℚ◌, neg_ℚ}
-use Rattle.mob_ratio.proofs.Clear.{whole-over}
-use Rattle.mob_ratio.proofs.RatioLemmas.{over-lowest, over-self}
-use Rattle.mob_ratio.proofs.Rings.{whole-neg, whole-add, whole-mul}
+use Rattle.std.{specs.Prelude.{nat_eq, cond}, proofs.Common.{◌≡◌, ◌∙◌, ℕ, ℤ, ◌+ℤ◌, ◌*ℤ◌, neg_ℤ, nat_abs, Bool, true, false, [], ◌∷◌, Option, Some, None, refl, sym, ap, subst, arith}}
+use Rattle.std.{proofs.lemmas.Bool.{eqb-true}, proofs.lemmas.Option.{same_Some}}
+use Rattle.mob_ratio.{specs.GcdLaws.{gcd_one_right}, specs.LowestLaws.{lowest_in}, specs.Order.{same}, specs.Ratio.{Ratio, whole, over, ◌+ℚ◌, ◌*ℚ◌, neg_ℚ}, proofs.Clear.{whole-over}}
+use Rattle.mob_ratio.{proofs.RatioLemmas.{over-lowest, over-self}, proofs.Rings.{whole-neg, whole-add, whole-mul}}
 use Rattle.mob_list.proofs.Entries.{all_by_each, each_of_all}
-use Rattle.mob_span.specs.Span.{has}
-use Rattle.mob_span.proofs.SpanLemmas.{some_instant}
-use Rattle.mob_slice.specs.CourseOf.{steady_course}
-use Rattle.mob_slice.specs.Operands.{steady_value, steady_limit, map_both}
-use Rattle.mob_slice.specs.Slices.{IsSound, IsOrdered}
-use Rattle.mob_slice.proofs.LookUps.{found_value}
-use Rattle.mob_slice.proofs.OneAt.{one_slice_at}
-use Rattle.mob_slice.proofs.Orders.{ordered, all_sound}
+use Rattle.mob_span.{specs.Span.{has}, proofs.SpanLemmas.{some_instant}}
+use Rattle.mob_slice.{specs.CourseOf.{steady_course}, specs.Operands.{steady_value, steady_limit, map_both}, specs.Slices.{IsSound, IsRisingInTime}, proofs.LookUps.{found_value}}
+use Rattle.mob_slice.{proofs.OneAt.{one_slice_at}, proofs.Orders.{ordered, all_sound}}
 use Rattle.mob_written.specs.Values.{is_whole_number}
-use Rattle.mob_ast.specs.declared.types.SqlType.TheVariants as sql
-use Rattle.mob_value.specs.declared.value.Value.TheVariants.{MovingInt}
-use Rattle.mob_value.specs.Moving.{StepSlices, OverTime, step_function, AreNormalBy}
-use Rattle.mob_arith.specs.declared.sql.calculation.Calculation.{Calculation}
-use Rattle.mob_arith.specs.declared.sql.calculation.Calculation.TheVariants.{Sum, Difference, Product}
-use Rattle.mob_arith.specs.Sql.Calculations.{result_by}
+use Rattle.mob_value.{specs.declared.value.Value.TheVariants.{MovingInt}, specs.Moving.{SteadySlices, OverTime, step_function, AreNormalBy}}
+use Rattle.mob_arith.{specs.declared.sql.calculation.Calculation.{Calculation}, specs.declared.sql.calculation.Calculation.TheVariants.{Sum, Difference, Product}, specs.Sql.Calculations.{result_by}}
 use Rattle.mob_catalog.specs.OwnTypes.{IsValueOf}
 use Rattle.mob_operands.proofs.Forms.{AreInts}
+use Rattle.mob_ast.specs.declared.types.SqlType.TheVariants as sql
 
 abbrev IsInt : Ratio → Type 0
 IsInt q = is_whole_number q ≡ true
@@ -68,7 +53,7 @@ abbrev pub HasInts : OverTime Ratio → Type 0
 HasInts f = (t x : Ratio) → f t ≡ Some x → IsInt x
 
 -- a tint has whole numbers at all instants
-pub ints_there : (m : StepSlices Ratio) → AreInts m → HasInts (step_function m)
+pub ints_there : (m : SteadySlices Ratio) → AreInts m → HasInts (step_function m)
 ints_there [] h t x e = absurd (cc e)
 ints_there (s ∷ m) h t x e = by (has s.span t) e (ints_there m h.1 t x)
   where
@@ -81,12 +66,12 @@ ints_of_one n h t x e = subst IsInt (same_Some n x e) h
 
 -- ordered slices with whole numbers at all instants are those of a tint, since each slice has an
 -- instant
-ints_of : (m : StepSlices Ratio) → IsOrdered steady_limit steady_limit m → HasInts (step_function m) → AreInts m
+ints_of : (m : SteadySlices Ratio) → IsRisingInTime steady_limit steady_limit m → HasInts (step_function m) → AreInts m
 ints_of m o h = all_by_each (λ s. IsInt s.course.value) m (λ s c.
     let i = some_instant s.span (each_of_all (IsSound steady_limit steady_limit) m (all_sound steady_limit steady_limit m o) s c).some in
     h i.0 s.course.value (found_value steady_value i.0 m s ((one_slice_at steady_limit steady_limit m o i.0 s).1 (c, i.1))))
 
-pub tint_of : (m : StepSlices Ratio) → AreNormalBy (steady_course same) m → HasInts (step_function m) → IsValueOf sql.TInt (MovingInt m)
+pub tint_of : (m : SteadySlices Ratio) → AreNormalBy (steady_course same) m → HasInts (step_function m) → IsValueOf sql.TInt (MovingInt m)
 tint_of m n h = record { form = refl; whole = ints_of m (ordered steady_limit steady_limit _ m n.chained) h }
 
 -- the result of an operation on two whole numbers that may be missing

@@ -3,21 +3,15 @@ use Rattle.std.specs.Prelude.{◌≡◌, ◌≢◌, ◌⊎◌, true, Ok, Err}
 use Rattle.mob_ratio.specs.Ratio.{Ratio}
 use Rattle.mob_frac.specs.Formula.{AllFit}
 use Rattle.mob_plane.specs.Rings.{are_sound}
-use Rattle.mob_stbox.specs.Boxes.{BoxOf}
-use Rattle.mob_stbox.specs.Expansion.{parts_of_expansion}
+use Rattle.mob_stbox.{specs.Boxes.{BoxOf}, specs.Expansion.{parts_of_expansion}}
 use Rattle.mob_typed.specs.Trees.{TypedTree}
 use Rattle.mob_ast.specs.declared.types.SqlType.{SqlType}
-use Rattle.mob_ast.specs.declared.types.SqlType.TheVariants as sql
-use Rattle.mob_value.specs.Types.{is_of_type}
-use Rattle.mob_value.specs.ValueBoxes.{IsBoxOf}
-use Rattle.mob_value.specs.declared.value.Value.{Value}
-use Rattle.mob_value.specs.declared.value.Value.TheVariants.{Null, Number, Polygon, MovingPoint}
+use Rattle.mob_value.{specs.Types.{is_of_type}, specs.ValueBoxes.{IsBoxOf}, specs.declared.value.Value.{Value}, specs.declared.value.Value.TheVariants.{Null, Number, Polygon, MovingPoint}}
 use Rattle.mob_meets.specs.Covers.{IsLookedForBy}
 use Rattle.mob_plan.specs.Keys.{PlanKey, overlap_key, within_key, inside_key}
-use Rattle.mob_eval.specs.declared.keys.Probe.TheVariants.{Everything}
-use Rattle.mob_eval.specs.Keys.{KeyAsks}
-use Rattle.mob_meaning.specs.Scene.{Scene}
-use Rattle.mob_meaning.specs.Evaluation.{PlacedFormula, TreeEvaluatesTo}
+use Rattle.mob_eval.{specs.declared.keys.Probe.TheVariants.{Everything}, specs.Keys.{KeyAsks}}
+use Rattle.mob_meaning.{specs.Scene.{Scene}, specs.Evaluation.{PlacedFormula, TreeEvaluatesTo}}
+use Rattle.mob_ast.specs.declared.types.SqlType.TheVariants as sql
 
 -- like stored values: a moving point has a box, and the rings of a polygon are closed and have at
 -- least four points

@@ -1,33 +1,23 @@
 -- The results of the operators of the table on values of the types that they take.
-use Rattle.std.specs.Prelude.{◌≡◌, ◌⊎◌, ℕ, Bool, true, false, List, [], ◌∷◌, Option, Some, None, is_some}
-use Rattle.std.specs.List.{AllByRecursion, AllZip, list_any}
+use Rattle.std.{specs.Prelude.{◌≡◌, ◌⊎◌, ℕ, Bool, true, false, List, [], ◌∷◌, Option, Some, None, is_some}, specs.List.{AllByRecursion, AllZip, list_any}}
 use Rattle.mob_ratio.specs.Ratio.{Ratio}
-use Rattle.mob_span.specs.Sets.{in_some}
-use Rattle.mob_span.specs.Flags.{same_bool}
+use Rattle.mob_span.{specs.Sets.{in_some}, specs.Flags.{same_bool}}
 use Rattle.mob_plane.specs.Membership.{inside}
-use Rattle.mob_stbox.specs.Boxes.{BoxOf, in_box}
-use Rattle.mob_stbox.specs.Expansion.{expanded}
-use Rattle.mob_slice.specs.LineComparison.{point_relates, number_relates}
-use Rattle.mob_slice.specs.declared.comparison.Rel.TheVariants.{Eq}
+use Rattle.mob_stbox.{specs.Boxes.{BoxOf, in_box}, specs.Expansion.{expanded}}
+use Rattle.mob_slice.{specs.LineComparison.{point_relates, number_relates}, specs.declared.comparison.Rel.TheVariants.{Eq}}
 use Rattle.mob_cells.specs.Cells.{instant_span}
 use Rattle.mob_ast.specs.declared.types.SqlType.{SqlType}
-use Rattle.mob_ast.specs.declared.types.SqlType.TheVariants as sql
-use Rattle.mob_operators.specs.declared.operator.Op.{Op}
-use Rattle.mob_operators.specs.declared.operator.Op.TheVariants as op
-use Rattle.mob_operators.specs.Lookup.{Line, takes, given}
-use Rattle.mob_operators.specs.Table.{table}
+use Rattle.mob_operators.{specs.declared.operator.Op.{Op}, specs.Lookup.{Line, takes, given}, specs.Table.{table}}
 use Rattle.mob_expression.specs.Expressions.{can_cast}
-use Rattle.mob_value.specs.ValueBoxes.{HasBox}
-use Rattle.mob_value.specs.declared.value.Value.{Value}
+use Rattle.mob_value.{specs.ValueBoxes.{HasBox}, specs.declared.value.Value.{Value}}
 use Rattle.mob_value.specs.declared.value.Value.TheVariants.{Null, Bool as Truth, Number, Text, Moment, Point, Polygon, Span, SpanSet, Box, MovingBool, MovingInt, MovingFrac, MovingText, MovingPoint}
-use Rattle.mob_value.specs.Moving.{step_function, line_function, plane_function}
+use Rattle.mob_value.{specs.Moving.{step_function, line_function, plane_function}, specs.Relations.{text_relates, truth_relates}}
 use Rattle.mob_ordinary.specs.Ordinary.{is_null}
 use Rattle.mob_arith.specs.Sql.Arithmetic.{is_nil}
-use Rattle.mob_meaning.specs.Scene.{Scene}
-use Rattle.mob_value.specs.Relations.{text_relates, truth_relates}
-use Rattle.mob_meaning.specs.Evaluation.{stops, stop_of}
-use Rattle.mob_meaning.specs.Operators.{OperatorGives}
+use Rattle.mob_meaning.{specs.Scene.{Scene}, specs.Evaluation.{stops, stop_of}, specs.Operators.{OperatorGives}}
 use Rattle.mob_catalog.specs.OwnTypes.{IsValueOf}
+use Rattle.mob_ast.specs.declared.types.SqlType.TheVariants as sql
+use Rattle.mob_operators.specs.declared.operator.Op.TheVariants as op
 
 -- whether a value exists at an instant: a temporal value where it is defined, any other value at
 -- every instant, NULL at none

@@ -1,11 +1,7 @@
 -- The aggregates of grouped queries: their names, and the types that they take and give.
-use Rattle.std.specs.Prelude.{ℕ, List, [], ◌∷◌, Bool, Option, Some, None, codes, option_map, option_and_then, is_some, if◌then◌else◌}
-use Rattle.std.specs.Str.{bytes_eq}
-use Rattle.mob_ast.specs.declared.types.SqlType.{SqlType}
-use Rattle.mob_ast.specs.declared.types.SqlType.TheVariants.{Int, TBool, TInt}
-use Rattle.mob_operators.specs.declared.aggregate.AggKind.{AggKind}
-use Rattle.mob_operators.specs.declared.aggregate.AggKind.TheVariants.{CountAll, Count, Sum, TCount, TSum, TAnd, TOr}
-use Rattle.mob_operators.specs.Lookup.{has_type}
+use Rattle.std.{specs.Prelude.{ℕ, List, [], ◌∷◌, Bool, Option, Some, None, codes, option_map, option_and_then, is_some, if◌then◌else◌}, specs.Str.{bytes_eq}}
+use Rattle.mob_ast.{specs.declared.types.SqlType.{SqlType}, specs.declared.types.SqlType.TheVariants.{Int, TBool, TInt}}
+use Rattle.mob_operators.{specs.declared.aggregate.AggKind.{AggKind}, specs.declared.aggregate.AggKind.TheVariants.{CountAll, Count, Sum, TCount, TSum, TAnd, TOr}, specs.Lookup.{has_type}}
 use Rattle.mob_operators.specs.Table.{plain_number, moving_number, temporal_types}
 
 -- The aggregate with this name. `count(*)` is an item of its own and has no name here.

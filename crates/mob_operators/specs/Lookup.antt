@@ -1,24 +1,19 @@
 -- How operators are looked up in a table.
 use Rattle.std.specs.Prelude.{◌==◌, ◌&&◌, ℕ, List, [], ◌∷◌, Bool, true, false, Option, Some, None, map, slice_get, option_map, option_and_then, is_some, if◌then◌else◌}
-use Rattle.std.specs.List.{list_any, list_all}
-use Rattle.std.specs.Option.{option_or}
-use Rattle.std.specs.Str.{bytes_eq}
+use Rattle.std.{specs.List.{list_any, list_all}, specs.Option.{option_or}, specs.Str.{bytes_eq}}
 use Rattle.mob_ast.specs.declared.types.SqlType.{SqlType}
-use Rattle.mob_ast.specs.declared.types.SqlType.TheVariants as sql
-use Rattle.mob_operators.specs.declared.operator.Form.{Form}
-use Rattle.mob_operators.specs.declared.operator.Form.TheVariants as form
-use Rattle.mob_operators.specs.declared.operator.Op.{Op}
-use Rattle.mob_operators.specs.declared.table.Bond.{Bond}
-use Rattle.mob_operators.specs.declared.table.Bond.TheVariants as bond
-use Rattle.mob_operators.specs.declared.table.ResultType.{ResultType}
-use Rattle.mob_operators.specs.declared.table.ResultType.TheVariants as gives
+use Rattle.mob_operators.{specs.declared.operator.Spelling.{Spelling}, specs.declared.operator.Op.{Op}, specs.declared.table.Bond.{Bond}, specs.declared.table.ResultType.{ResultType}}
 use Rattle.mob_operators.specs.declared.table.Row.{Row}
+use Rattle.mob_ast.specs.declared.types.SqlType.TheVariants as sql
+use Rattle.mob_operators.specs.declared.operator.Spelling.TheVariants as form
+use Rattle.mob_operators.specs.declared.table.Bond.TheVariants as bond
+use Rattle.mob_operators.specs.declared.table.ResultType.TheVariants as gives
 
 -- A line of the table: how its operators are written, the operators with their names, the types
 -- that it takes for each argument, the condition on the arguments beyond their types, and the type
 -- of the result.
 pub record Line : Type 0 where
-  pub form : Form
+  pub form : Spelling
   pub names : List (List ℕ × Op)
   pub takes : List (List SqlType)
   pub bond : Bond
@@ -53,13 +48,13 @@ type_number sql.TPoint = 14
 abbrev pub same_type : SqlType → SqlType → Bool
 same_type a b = type_number a == type_number b
 
-abbrev form_number : Form → ℕ
+abbrev form_number : Spelling → ℕ
 form_number form.Word = 0
 form_number form.Sign = 1
 form_number form.Call = 2
 
 -- whether two forms are the same
-abbrev pub same_form : Form → Form → Bool
+abbrev pub same_form : Spelling → Spelling → Bool
 same_form a b = form_number a == form_number b
 
 -- whether a type is one of these
@@ -108,7 +103,7 @@ operator_named [] name = None
 operator_named (n ∷ ns) name = if bytes_eq n.0 name then Some n.1 else operator_named ns name
 
 -- the operator of a line with this form and name
-abbrev pub operator_in : Line → Form → List ℕ → Option Op
+abbrev pub operator_in : Line → Spelling → List ℕ → Option Op
 operator_in l form name = if same_form l.form form then operator_named l.names name else None
 
 -- whether a line takes these arguments
@@ -117,13 +112,13 @@ takes l ts literal = types_fit l.takes ts && meets l.bond ts literal
 
 -- the operator of a line with this form and name, and the type of its result, if it takes these
 -- arguments
-abbrev pub answer_of : Line → Form → List ℕ → List SqlType → Bool → Option (Op × SqlType)
+abbrev pub answer_of : Line → Spelling → List ℕ → List SqlType → Bool → Option (Op × SqlType)
 answer_of l form name ts literal = option_and_then (λ op. if takes l ts literal then option_map (λ ty. (op, ty)) (given l.gives ts) else None) (operator_in l form name)
 
 -- The operator and the result type of a call with this form and name, for arguments of these types:
 -- those of the first line that takes them. `literal` says whether the last argument is a number
 -- literal.
-abbrev pub found_in : List Line → Form → List ℕ → List SqlType → Bool → Option (Op × SqlType)
+abbrev pub found_in : List Line → Spelling → List ℕ → List SqlType → Bool → Option (Op × SqlType)
 found_in [] form name ts literal = None
 found_in (l ∷ ls) form name ts literal = option_or (answer_of l form name ts literal) (found_in ls form name ts literal)
 

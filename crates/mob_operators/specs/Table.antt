@@ -1,19 +1,13 @@
 -- The table of operators, line by line, after MobilityDB's manual and PostgreSQL.
-use Rattle.std.specs.Prelude.{ℕ, List, [], ◌∷◌, Bool, false, codes}
-use Rattle.std.specs.List.{list_any}
-use Rattle.std.specs.Str.{bytes_eq}
-use Rattle.mob_ast.specs.declared.types.Cmp.TheVariants.{Eq, Ne, Lt, Le, Gt, Ge}
-use Rattle.mob_ast.specs.declared.types.SqlType.{SqlType}
+use Rattle.std.{specs.Prelude.{ℕ, List, [], ◌∷◌, Bool, false, codes}, specs.List.{list_any}, specs.Str.{bytes_eq}}
+use Rattle.mob_ast.{specs.declared.types.Cmp.TheVariants.{Eq, Ne, Lt, Le, Gt, Ge}, specs.declared.types.SqlType.{SqlType}}
 use Rattle.mob_ast.specs.declared.types.SqlType.TheVariants.{Bool as ABool, Int, Numeric, Text, Moment, Point, Polygon, Span, SpanSet, Box, TBool, TInt, TFrac, TText, TPoint}
-use Rattle.mob_operators.specs.declared.operator.Form.{Form}
-use Rattle.mob_operators.specs.declared.operator.Form.TheVariants.{Word, Sign, Call}
-use Rattle.mob_operators.specs.declared.operator.Op.{Op}
-use Rattle.mob_operators.specs.declared.operator.Op.TheVariants.{Not, And, Or, IsNull, IsNotNull, Test, Add, Subtract, Multiply, Divide, Negate, Same, Join, LiftedAnd, LiftedOr, LiftedNot, Lifted, Ever, Always, Overlap, AtTime, MinusTime, AtValues, MinusValues, ValueAtTimestamp, GetTime, WhenTrue, GetX, GetY, BoxOf, ExpandSpace, AtStbox, MinusStbox, AtGeometry, MinusGeometry, EIntersects, EDwithin, NearestApproachSquared, AsText}
-use Rattle.mob_operators.specs.declared.table.Bond.{Bond}
-use Rattle.mob_operators.specs.declared.table.Bond.TheVariants.{Free, OneMoving, SameType, ByLiteral}
-use Rattle.mob_operators.specs.declared.table.ResultType.{ResultType}
-use Rattle.mob_operators.specs.declared.table.ResultType.TheVariants.{Only, First, Whole}
-use Rattle.mob_operators.specs.Lookup.{Line}
+use Rattle.mob_operators.{specs.declared.operator.Spelling.{Spelling}, specs.declared.operator.Spelling.TheVariants.{Word, Sign, Call}, specs.declared.operator.Op.{Op}}
+use Rattle.mob_operators.specs.declared.operator.Op.TheVariants.{Not, And, Or, IsNull, IsNotNull, Test, Add, Subtract, Multiply, Divide, Negate, Same, Join, LiftedAnd, LiftedOr, LiftedNot, Lifted}
+use Rattle.mob_operators.specs.declared.operator.Op.TheVariants.{Ever, Always, Overlap, AtTime, MinusTime, AtValues, MinusValues, ValueAtTimestamp, GetTime, WhenTrue, GetX, GetY, BoxOf, ExpandSpace}
+use Rattle.mob_operators.specs.declared.operator.Op.TheVariants.{AtStbox, MinusStbox, AtGeometry, MinusGeometry, EIntersects, EDwithin, NearestApproachSquared, AsText}
+use Rattle.mob_operators.{specs.declared.table.Bond.{Bond}, specs.declared.table.Bond.TheVariants.{Free, OneMoving, SameType, ByLiteral}, specs.declared.table.ResultType.{ResultType}}
+use Rattle.mob_operators.{specs.declared.table.ResultType.TheVariants.{Only, First, Whole}, specs.Lookup.{Line}}
 
 abbrev pub types : Type 0
 types = List SqlType
@@ -109,7 +103,7 @@ to_number = Whole Int Numeric
 abbrev pub to_moving_number : ResultType
 to_moving_number = Whole TInt TFrac
 
-abbrev pub line : Form → names → List types → Bond → ResultType → Line
+abbrev pub line : Spelling → names → List types → Bond → ResultType → Line
 line f n ts b g = record { form = f; names = n; takes = ts; bond = b; gives = g }
 
 -- The table of operators. A line has how its operators are written, their names, the types that it
@@ -181,7 +175,7 @@ abbrev pub is_one_of : List (List ℕ) → List ℕ → Bool
 is_one_of ns name = list_any (λ n. bytes_eq name n) ns
 
 -- Whether a sign or function is refused because its results may be irrational.
-abbrev pub is_irrational : Form → List ℕ → Bool
+abbrev pub is_irrational : Spelling → List ℕ → Bool
 is_irrational Word name = false
 is_irrational Sign name = is_one_of (codes "<->" ∷ codes "|=|" ∷ []) name
 is_irrational Call name = is_one_of (codes "tdwithin" ∷ codes "nearestapproachdistance" ∷ codes "length" ∷ codes "speed" ∷ []) name

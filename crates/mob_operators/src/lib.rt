@@ -9,4 +9,4 @@ mod table;
 
 pub use aggregate::{AggKind, aggregate_row, is_aggregate};
 pub use lookup::{is_function, is_irrational, operator_for};
-pub use operator::{Form, Op};
+pub use operator::{Op, Spelling};

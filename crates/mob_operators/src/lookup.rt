@@ -4,7 +4,7 @@ ghost use Rattle.std.specs.List.{list_any, list_all};
 ghost use Rattle.mob_operators.specs.Table.{table, is_irrational};
 ghost use Rattle.mob_operators.specs.Lookup.{line_of, lines_of, same_type, has_type, is_temporal, is_whole_type, types_fit, are_same, meets, given, operator_named, operator_in, takes, answer_of, found_in, has_function};
 
-use crate::operator::{Form, Op};
+use crate::operator::{Op, Spelling};
 use crate::table::{Bond, ROWS, ResultType, Row};
 use mob_ast::SqlType;
 
@@ -98,7 +98,7 @@ impl ResultType {
 
 impl Row {
     // The operator of the row with this form and name.
-    fn operator(&self, form: Form, name: &str) -> Option<Op>
+    fn operator(&self, form: Spelling, name: &str) -> Option<Op>
         ensures named { result ≡ operator_in (line_of self.now) form name.now }
     {
         if self.form == form {
@@ -117,7 +117,7 @@ impl Row {
 
     fn answer(
         &self,
-        form: Form,
+        form: Spelling,
         name: &str,
         types: &[SqlType],
         by_literal: bool,
@@ -148,7 +148,7 @@ fn operator_named(names: &[(&str, Op)], name: &str) -> Option<Op>
 // The operator and the result type of the first row that takes the call.
 fn first_of(
     rows: &[Row],
-    form: Form,
+    form: Spelling,
     name: &str,
     types: &[SqlType],
     by_literal: bool,
@@ -168,7 +168,7 @@ fn any_function(rows: &[Row], name: &str) -> bool
     ensures known { result ≡ has_function (lines_of rows.now) name.now }
 {
     for row in rows {
-        if row.operator(Form::Call, name).is_some() {
+        if row.operator(Spelling::Call, name).is_some() {
             return true;
         }
     }
@@ -185,7 +185,7 @@ fn rows() -> &'static [Row]
 /// these types. `by_literal` says whether the last argument is a number literal under any number of
 /// signs. `None` if no row of the table takes them.
 pub fn operator_for(
-    form: Form,
+    form: Spelling,
     name: &str,
     types: &[SqlType],
     by_literal: bool,
@@ -203,13 +203,13 @@ pub fn is_function(name: &str) -> bool
 }
 
 /// Whether a sign or function with this name is refused because its results may be irrational.
-pub fn is_irrational(form: Form, name: &str) -> bool
+pub fn is_irrational(form: Spelling, name: &str) -> bool
     ensures listed { result ≡ is_irrational form name.now }
 {
     match form {
-        Form::Word => false,
-        Form::Sign => name == "<->" || name == "|=|",
-        Form::Call => {
+        Spelling::Word => false,
+        Spelling::Sign => name == "<->" || name == "|=|",
+        Spelling::Call => {
             name == "tdwithin"
                 || name == "nearestapproachdistance"
                 || name == "length"

@@ -94,7 +94,7 @@ pub enum Op {
 
 /// How an operator is written.
 #[derive(Clone, Copy, Debug, PartialEq, Eq)]
-pub enum Form {
+pub enum Spelling {
     /// By words, such as NOT or IS NULL.
     Word,
     /// By a sign.

@@ -1,6 +1,6 @@
 //! The table of operators, after MobilityDB's manual and PostgreSQL.
 
-use crate::operator::{Form, Op};
+use crate::operator::{Op, Spelling};
 use mob_ast::{Cmp, SqlType};
 
 /// The condition of a row on its arguments, beyond their types.
@@ -31,7 +31,7 @@ pub enum ResultType {
 #[derive(Clone, Copy)]
 pub struct Row {
     /// Whether its operators are words, signs or functions.
-    pub form: Form,
+    pub form: Spelling,
     /// Each operator with its name, in lower case.
     pub names: &'static [(&'static str, Op)],
     /// For each argument, the types that the row takes.
@@ -214,7 +214,7 @@ const TO_TNUMBER: ResultType = ResultType::Whole(SqlType::TInt, SqlType::TFrac);
 // Writes a row of the table on one line.
 macro_rules! row {
     ($form:ident, $names:expr, [$($class:expr),*], $bond:ident, $gives:expr) => {
-        Row { form: Form::$form, names: $names, takes: &[$($class),*], bond: Bond::$bond, gives: $gives }
+        Row { form: Spelling::$form, names: $names, takes: &[$($class),*], bond: Bond::$bond, gives: $gives }
     };
 }
 

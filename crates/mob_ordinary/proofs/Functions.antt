@@ -1,19 +1,10 @@
 -- Normal lists of slices that are one function of time are one list, by the course of their values.
-use Rattle.std.proofs.Common.{◌≡◌, Bool, List, map, refl, ap, sym, ◌∙◌}
-use Rattle.std.specs.Prelude.{IsTrue, ◌↔◌}
-use Rattle.mob_ratio.specs.Ratio.{Ratio}
-use Rattle.mob_ratio.specs.Order.{same}
-use Rattle.mob_slice.specs.Course.{IsCourse}
-use Rattle.mob_slice.specs.CourseOf.{steady_course, line_course}
-use Rattle.mob_slice.specs.Slices.{value_at, IsNormal}
-use Rattle.mob_slice.specs.declared.line.Line.{Line}
-use Rattle.mob_slice.specs.declared.slice.Slice.{Slice}
-use Rattle.mob_value.specs.Lines.{level_line}
-use Rattle.mob_normal.proofs.Unique.{unique}
-use Rattle.mob_value.proofs.Widening.{level_normal, level_at}
-use Rattle.mob_value.specs.Moving.{StepSlices, AreNormalBy, step_function, line_function}
+use Rattle.std.{specs.Prelude.{IsTrue, ◌↔◌}, proofs.Common.{◌≡◌, Bool, List, map, refl, ap, sym, ◌∙◌}}
+use Rattle.mob_ratio.{specs.Ratio.{Ratio}, specs.Order.{same}}
+use Rattle.mob_slice.{specs.Course.{IsCourse}, specs.CourseOf.{steady_course, line_course}, specs.Slices.{value_at, IsNormal}, specs.declared.line.Line.{Line}, specs.declared.slice.Slice.{Slice}}
+use Rattle.mob_value.{specs.Lines.{level_line}, specs.Moving.{SteadySlices, AreNormalBy, step_function, line_function}, proofs.Widening.{level_normal, level_at}}
+use Rattle.mob_lift.{proofs.Unique.{unique}, proofs.ByCourse.{one_of_lines}}
 use Rattle.mob_ordinary.specs.Ordinary.{AreOneFunction}
-use Rattle.mob_normal.proofs.ByCourse.{one_of_lines}
 
 -- lists are one function exactly if they are equal
 module _ {C B : Type 0} {steady copies : Bool} {value : C → Ratio → Ratio → Ratio → B} {start end : C → B} {can_make : B → B → Type 0} {make : B → B → C} {continues : C → C → Ratio → Ratio → Ratio → Bool} {parts : C → Ratio → Ratio → Ratio → List Ratio} (laws : IsCourse steady copies value start end can_make make continues parts) where
@@ -24,7 +15,7 @@ module _ {C B : Type 0} {steady copies : Bool} {value : C → Ratio → Ratio �
   )
 
 -- steps are the function of a list of lines exactly if that is the list of their level lines
-pub level_test : (a v : StepSlices Ratio) (b w : List (Slice Line)) (r : Bool) → v ≡ a → w ≡ b → AreNormalBy (steady_course same) a → AreNormalBy line_course b → IsTrue r ↔ (map level_line v ≡ w) → IsTrue r ↔ AreOneFunction (step_function a) (line_function b)
+pub level_test : (a v : SteadySlices Ratio) (b w : List (Slice Line)) (r : Bool) → v ≡ a → w ≡ b → AreNormalBy (steady_course same) a → AreNormalBy line_course b → IsTrue r ↔ (map level_line v ≡ w) → IsTrue r ↔ AreOneFunction (step_function a) (line_function b)
 level_test a v b w r e f n m h =
     let level = ap (map level_line) e in (
       λ k t. sym (level_at a b (sym f ∙ sym (h.0 k) ∙ level) t),

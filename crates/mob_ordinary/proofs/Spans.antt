@@ -1,9 +1,6 @@
 -- Spans and span sets as sets of instants.
-use Rattle.std.proofs.Common.{◌≡◌, Bool, true, List, [], ◌∷◌, ap, sym, ◌∙◌}
-use Rattle.std.specs.Prelude.{IsTrue, ◌↔◌}
-use Rattle.mob_span.specs.Span.{SpanOf, has_instant}
-use Rattle.mob_span.specs.Sets.{in_some, IsSpanSet}
-use Rattle.mob_span.proofs.OneSet.{one_set}
+use Rattle.std.{specs.Prelude.{IsTrue, ◌↔◌}, proofs.Common.{◌≡◌, Bool, true, List, [], ◌∷◌, ap, sym, ◌∙◌}}
+use Rattle.mob_span.{specs.Span.{SpanOf, has_instant}, specs.Sets.{in_some, IsSpanSet}, proofs.OneSet.{one_set}}
 use Rattle.mob_value.proofs.OneSpan.{alone}
 use Rattle.mob_ordinary.specs.Ordinary.{HaveSameInstants}
 

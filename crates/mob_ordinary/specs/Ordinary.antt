@@ -2,16 +2,12 @@
 use Rattle.std.specs.Prelude.{◌≡◌, Bool, true, false, cond, ◌&&◌, ◌||◌, List, [], ◌∷◌, Option, Some, None}
 use Rattle.mob_ratio.specs.Ratio.{Ratio, neg_ℚ}
 use Rattle.mob_ast.specs.declared.types.Cmp.{Cmp}
-use Rattle.mob_ast.specs.declared.types.Cmp.TheVariants as cmp
-use Rattle.mob_slice.specs.declared.comparison.Rel.{Rel}
-use Rattle.mob_slice.specs.Ranks.{holds, compare_ratio, compare_bytes}
-use Rattle.mob_span.specs.Sets.{in_some}
-use Rattle.mob_span.specs.Span.{SpanOf}
+use Rattle.mob_slice.{specs.declared.comparison.Rel.{Rel}, specs.Ranks.{holds, compare_ratio, compare_bytes}}
+use Rattle.mob_span.{specs.Sets.{in_some}, specs.Span.{SpanOf}}
 use Rattle.mob_value.specs.declared.value.Value.{Value}
 use Rattle.mob_value.specs.declared.value.Value.TheVariants.{Null, Bool as Truth, Number, Text, Moment, Point, Span, SpanSet, Box, MovingBool, MovingInt, MovingFrac, MovingText, MovingPoint}
-use Rattle.mob_value.specs.Moving.{OverTime, step_function, line_function, plane_function}
-use Rattle.mob_value.specs.Truths.{IsTruthOf}
-use Rattle.mob_value.specs.Relations.{rel_of}
+use Rattle.mob_value.{specs.Moving.{OverTime, step_function, line_function, plane_function}, specs.Truths.{IsTruthOf}, specs.Relations.{rel_of}}
+use Rattle.mob_ast.specs.declared.types.Cmp.TheVariants as cmp
 
 -- the truth value of a value, if it is one
 abbrev pub truth_of : Value → Option Bool

@@ -1,9 +1,6 @@
 -- Visible bytes that grow and are taken in steps.
-use Rattle.std.proofs.Common.{arith, ◌≡◌, ◌∙◌, refl, sym, ap, ℕ, ◌+◌, ◌-◌, ◌≤◌, List, [], ◌++◌, take, drop, length, Some, None}
-use Rattle.std.specs.Prelude.{Option}
-use Rattle.std.specs.Io.KnownBytes.{Appends, Consumes}
-use Rattle.std.proofs.lemmas.List.{append-nil, append_assoc, length-append, length-drop, length-take, take_all}
-use Rattle.std.proofs.Math.Seq.{take-add}
+use Rattle.std.{specs.Prelude.{Option}, specs.Io.KnownBytes.{Appends, Consumes}, proofs.Common.{arith, ◌≡◌, ◌∙◌, refl, sym, ap, ℕ, ◌+◌, ◌-◌, ◌≤◌, List, [], ◌++◌, take, drop, length, Some, None}}
+use Rattle.std.{proofs.lemmas.List.{append-nil, append_assoc, length-append, length-drop, length-take, take_all}, proofs.Math.Seq.{take-add}}
 use Rattle.mob_outside.specs.Streams.{ReadsPart, ReadsTo}
 
 pub puts_nothing : (o : Option (List ℕ)) → Appends o o []

@@ -1,13 +1,9 @@
 -- Texts that are put one after another.
+use Rattle.std.{specs.Prelude.{Option}, specs.List.{concat}, specs.Io.KnownBytes.{Appends}}
 use Rattle.std.proofs.Common.{arith, ◌≡◌, ◌∙◌, ap, sym, ℕ, ◌+◌, ◌<◌, List, [], ◌∷◌, ◌++◌, length, map, take, drop, get_or, Bor}
-use Rattle.std.specs.Prelude.{Option}
-use Rattle.std.specs.List.{concat}
-use Rattle.std.specs.Io.KnownBytes.{Appends}
-use Rattle.std.proofs.lemmas.List.{append-nil, drop_more, length-append, map-append, take-append-drop, take-append-le, take_more}
-use Rattle.std.proofs.lemmas.List.Folds.{concat-append}
+use Rattle.std.{proofs.lemmas.List.{append-nil, drop_more, length-append, map-append, take-append-drop, take-append-le, take_more}, proofs.lemmas.List.Folds.{concat-append}}
 use Rattle.std.proofs.Math.Seq.{take-append-add}
-use Rattle.mob_outside.specs.Streams.{PutsPart}
-use Rattle.mob_outside.proofs.Known.{puts_more}
+use Rattle.mob_outside.{specs.Streams.{PutsPart}, proofs.Known.{puts_more}}
 
 abbrev pub joined : List (Bor (List ℕ)) → List ℕ
 joined pieces = concat (map (λ p. p.now) pieces)

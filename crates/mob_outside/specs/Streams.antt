@@ -1,7 +1,6 @@
 -- The bytes that reading up to a limit takes, and those that putting a text appends. Nothing is
 -- claimed of an opaque stream.
-use Rattle.std.specs.Prelude.{◌⊎◌, ◌<◌, ◌≤◌, ◌+◌, ℕ, List, length, take, Option}
-use Rattle.std.specs.Io.KnownBytes.{Appends, Consumes, IsAtEnd}
+use Rattle.std.{specs.Prelude.{◌⊎◌, ◌<◌, ◌≤◌, ◌+◌, ℕ, List, length, take, Option}, specs.Io.KnownBytes.{Appends, Consumes, IsAtEnd}}
 use Rattle.mob_outside.specs.Faults.{Rose}
 
 -- these bytes were taken from the front: at most one past the limit, and the whole rest if they do

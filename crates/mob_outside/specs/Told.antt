@@ -1,7 +1,6 @@
 -- The visible contents of files: a map from names to bytes, and the names requested. Nothing is
 -- claimed of opaque files.
-use Rattle.std.specs.declared.alloc.Global.{Global}
-use Rattle.std.specs.Prelude.{String, Vec, string_bytes, ◌≡◌, ◌⊎◌, ◌++◌, ◌∷◌, ⊤, ℕ, List, [], Option, Some, None, Bool, IsSome, option_map, find, bytes_eq}
+use Rattle.std.{specs.declared.alloc.Global.{Global}, specs.Prelude.{String, Vec, string_bytes, ◌≡◌, ◌⊎◌, ◌++◌, ◌∷◌, ⊤, ℕ, List, [], Option, Some, None, Bool, IsSome, option_map, find, bytes_eq}}
 
 -- a map from names to bytes, as a list of pairs; the first pair with a name counts
 abbrev pub Contents : Type 0

@@ -1,19 +1,10 @@
 -- Reading a list and appending it to another.
 use Rattle.std.proofs.Common.{◌≡◌, ◌∙◌, List, [], ◌∷◌, ◌++◌, length, false, Ok, Err, refl, sym, ap, append_assoc, append-nil}
 use Rattle.mob_ast.specs.Trees.{FromParts}
-use Rattle.mob_grammar.specs.declared.mark.Mark.{Mark}
-use Rattle.mob_grammar.specs.declared.mark.Mark.TheVariants.{Comma}
-use Rattle.mob_grammar.specs.Symbols.{PlacedSymbol, starts}
-use Rattle.mob_grammar.specs.Scripts.{tables_of, source_form, sources_form}
-use Rattle.mob_grammar.specs.Reading.{Answer, TokenReader, ◌>>=◌, listed, listed_from, read}
-use Rattle.mob_grammar.proofs.Tells.{through}
-use Rattle.mob_grammar.proofs.Steps.{listed_stops}
-use Rattle.mob_list.specs.declared.fault.Fault.{Fault}
-use Rattle.mob_parse.specs.declared.cursor.Syntax.{Syntax}
-use Rattle.mob_list.specs.declared.fault.Fault.TheVariants.{Because, NoMemory}
-use Rattle.mob_parse.specs.Cursors.{StopsReading}
-use Rattle.mob_parse.specs.Behind.{put_behind}
-use Rattle.mob_parse.proofs.Steps.{ReadSoFar, stops_through}
+use Rattle.mob_grammar.{specs.declared.mark.Mark.{Mark}, specs.declared.mark.Mark.TheVariants.{Comma}, specs.Symbols.{PlacedSymbol, starts}, specs.Scripts.{tables_of, source_form, sources_form}}
+use Rattle.mob_grammar.{specs.Reading.{Answer, TokenReader, ◌>>=◌, listed, listed_from, read}, proofs.Tells.{through}, proofs.Steps.{listed_stops}}
+use Rattle.mob_list.{specs.declared.fault.Fault.{Fault}, specs.declared.fault.Fault.TheVariants.{Because, NoMemory}}
+use Rattle.mob_parse.{specs.declared.cursor.Syntax.{Syntax}, specs.Cursors.{StopsReading}, specs.Behind.{put_behind}, proofs.Steps.{ReadSoFar, stops_through}}
 
 given_back : {A : Type 0} (a : Answer (List A)) → (a >>= λ ys. Ok ([] ++ ys.0, ys.1)) ≡ a
 given_back (Ok x) = refl

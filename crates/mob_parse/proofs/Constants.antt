@@ -1,18 +1,12 @@
 -- If the grammar reads a constant of one token, it is the first token.
 use Rattle.std.proofs.Common.{◌≡◌, ◌∙◌, ℕ, List, [], ◌∷◌, true, false, Ok, refl, sym, ap, subst}
-use Rattle.mob_ast.specs.declared.types.Quoted.{Quoted}
-use Rattle.mob_ast.specs.declared.types.TypeWord.{TypeWord}
-use Rattle.mob_ast.specs.declared.expression.Node.TheVariants as node
-use Rattle.mob_ast.specs.Trees.{Tree}
-use Rattle.mob_grammar.specs.declared.mark.Mark.{Mark}
-use Rattle.mob_grammar.specs.declared.mark.Mark.TheVariants.{Open, Plus, Minus}
-use Rattle.mob_grammar.specs.Marks.{is}
+use Rattle.mob_ast.{specs.declared.types.Quoted.{Quoted}, specs.declared.types.TypeWord.{TypeWord}, specs.Trees.{Tree}}
+use Rattle.mob_grammar.{specs.declared.mark.Mark.{Mark}, specs.declared.mark.Mark.TheVariants.{Open, Plus, Minus}, specs.Marks.{is}}
 use Rattle.mob_grammar.specs.Symbols.{Symbol, fixed, name, number, quoted, PlacedSymbol, sign, is_mark, is_name, is_name_symbol, begins, starts, leaf}
 use Rattle.mob_grammar.specs.Reading.{Answer, TokenReader, ◌>>=◌, primary, mark_primary, mark_at, type_at, name_at, string_at, number_at, literal_at, read}
-use Rattle.mob_grammar.specs.Scripts.{string_form, signed_form, number_form, typed_form, const_form}
-use Rattle.mob_grammar.proofs.Steps.{token_is}
-use Rattle.mob_parse.specs.Constants.{constant_leaf_at}
-use Rattle.mob_parse.proofs.Mapped.{mapped, after, mapped_after}
+use Rattle.mob_grammar.{specs.Scripts.{string_form, signed_form, number_form, typed_form, const_form}, proofs.Steps.{token_is}}
+use Rattle.mob_parse.{specs.Constants.{constant_leaf_at}, proofs.Mapped.{mapped, after, mapped_after}}
+use Rattle.mob_ast.specs.declared.expression.Node.TheVariants as node
 
 -- in an expression, if neither a name nor a bracket comes next
 primary_mark : (inner : TokenReader Tree) (g : Mark) (p : ℕ) (l : List PlacedSymbol) → starts Open (record { symbol = fixed g; place = p } ∷ l) ≡ false → primary inner (record { symbol = fixed g; place = p } ∷ l) ≡ constant_leaf_at (record { symbol = fixed g; place = p } ∷ l)

@@ -1,15 +1,11 @@
 -- An item is read by its first tokens, and a column of GROUP BY by the token after its name.
 use Rattle.std.proofs.Common.{◌≡◌, ◌∙◌, ◌⊎◌, inl, inr, ℕ, List, [], ◌∷◌, Bool, true, false, cond, Option, Some, None, Ok, Err, refl, sym, ap}
-use Rattle.mob_ast.specs.declared.types.Word.{Word}
-use Rattle.mob_ast.specs.Trees.{Tree, ItemParts, every, one, count_all}
+use Rattle.mob_ast.{specs.declared.types.Word.{Word}, specs.Trees.{Tree, ItemParts, every, one, count_all}}
 use Rattle.mob_grammar.specs.declared.mark.Mark.TheVariants.{Times, Dot, Close}
 use Rattle.mob_grammar.specs.Symbols.{Symbol, fixed, name, number, quoted, PlacedSymbol, sign, is_mark, is_sign, is_count, is_count_symbol, counts_all, first, rest, begins, starts}
 use Rattle.mob_grammar.specs.Reading.{Answer, ◌>>=◌, behind_mark, if_mark, closed, mark_at, name_at, column_at, counted_at, expression_at, read}
-use Rattle.mob_grammar.specs.Scripts.{some_name_form, alias_form, named_item, item_form, column_leaf, group_column_form}
-use Rattle.mob_grammar.proofs.Sets.{both_true}
-use Rattle.mob_grammar.proofs.Steps.{chosen, passed}
-use Rattle.mob_parse.specs.Items.{count_form, one_form}
-use Rattle.mob_parse.proofs.Mapped.{mapped, after, mapped_after, mapped_twice}
+use Rattle.mob_grammar.{specs.Scripts.{some_name_form, alias_form, named_item, item_form, column_leaf, group_column_form}, proofs.Sets.{both_true}, proofs.Steps.{chosen, passed}}
+use Rattle.mob_parse.{specs.Items.{count_form, one_form}, proofs.Mapped.{mapped, after, mapped_after, mapped_twice}}
 
 pub item_every : (l u : List PlacedSymbol) (p : ℕ) → l ≡ sign Times p ∷ u → read item_form l ≡ Ok (every p, u)
 unfolding read item_form mark_at

@@ -1,20 +1,14 @@
 -- Reading an operand never adds to the remaining tokens.
 use Rattle.std.proofs.Common.{ℕ, suc, length, arith}
-use Rattle.mob_ast.specs.declared.expression.Node.TheVariants as node
 use Rattle.mob_ast.specs.Trees.{Tree}
-use Rattle.mob_grammar.specs.declared.mark.Mark.{Mark}
-use Rattle.mob_grammar.specs.declared.mark.Mark.TheVariants.{Not, Null}
-use Rattle.mob_grammar.specs.Forms.{Builds, ◌▸◌}
+use Rattle.mob_grammar.{specs.declared.mark.Mark.{Mark}, specs.declared.mark.Mark.TheVariants.{Not, Null}, specs.Forms.{Builds, ◌▸◌}}
 use Rattle.mob_grammar.specs.Expressions.{conjunction, negation, comparison, other, complement, product, signed, primary, Phrase, Rank, TypeName}
-use Rattle.mob_grammar.specs.Reading.{TokenReader, closed, expression_at, null_at, type_at, comparison_rank, other_rank, primary as primary_at}
-use Rattle.mob_grammar.proofs.Tells.{Lawful}
-use Rattle.mob_grammar.proofs.Lawful.{lawful_closed}
+use Rattle.mob_grammar.{specs.Reading.{TokenReader, closed, expression_at, null_at, type_at, comparison_rank, other_rank, primary as primary_at}, proofs.Tells.{Lawful}, proofs.Lawful.{lawful_closed}}
 use Rattle.mob_grammar.proofs.Same.{shrinks, lawful_expression, column_arguments}
 use Rattle.mob_grammar.proofs.Ranks.{lawful_type, lawful_primary, lawful_signed, lawful_product, lawful_complement, lawful_other, lawful_compared, lawful_negation, lawful_conjunction}
-use Rattle.mob_parse.specs.declared.expression.Level.{Level}
-use Rattle.mob_parse.specs.declared.expression.Level.TheVariants.{Disjunction, Conjunction, Other, Sum, Product}
-use Rattle.mob_parse.specs.Levels.{level_operand}
+use Rattle.mob_parse.{specs.declared.expression.Level.{Level}, specs.declared.expression.Level.TheVariants.{Disjunction, Conjunction, Other, Sum, Product}, specs.Levels.{level_operand}}
 use Rattle.mob_parse.proofs.Shrinks.{Shrinks, if_shrinks, lawful_shrinks}
+use Rattle.mob_ast.specs.declared.expression.Node.TheVariants as node
 
 rank_shrinks : (k : Rank) (s : TokenReader Tree) → ((n : ℕ) → Lawful (Phrase k) (suc n) s) → Shrinks s
 rank_shrinks k s law l r x h = shrinks (Phrase k) (suc (length l)) s (law (length l)) l (omega arith) x r h

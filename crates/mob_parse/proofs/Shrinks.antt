@@ -1,13 +1,7 @@
 -- Readers never add to the remaining tokens.
 use Rattle.std.proofs.Common.{◌≡◌, ◌≤◌, ◌+◌, ◌∙◌, ◌⊎◌, inl, inr, ℕ, List, [], ◌∷◌, length, true, false, Ok, refl, sym, arith}
-use Rattle.mob_grammar.specs.declared.mark.Mark.{Mark}
-use Rattle.mob_grammar.specs.Symbols.{PlacedSymbol, is_sign}
-use Rattle.mob_grammar.specs.Expressions.{disjunction, Phrase}
-use Rattle.mob_grammar.specs.Forms.{Production, Sort, Form, Derives}
-use Rattle.mob_grammar.specs.Reading.{TokenReader, if_mark, expression_at, read}
-use Rattle.mob_grammar.proofs.Forms.{fits, form_read}
-use Rattle.mob_grammar.proofs.Steps.{told, if_there, if_not}
-use Rattle.mob_grammar.proofs.Tells.{Lawful}
+use Rattle.mob_grammar.{specs.declared.mark.Mark.{Mark}, specs.Symbols.{PlacedSymbol, is_sign}, specs.Expressions.{disjunction, Phrase}, specs.Forms.{Production, Sort, Form, Derives}}
+use Rattle.mob_grammar.{specs.Reading.{TokenReader, if_mark, expression_at, read}, proofs.Forms.{fits, form_read}, proofs.Steps.{told, if_there, if_not}, proofs.Tells.{Lawful}}
 use Rattle.mob_grammar.proofs.Same.{shrinks, lawful_expression}
 
 abbrev pub Shrinks : {A : Type 0} → TokenReader A → Type 0

@@ -1,12 +1,9 @@
 -- Constants that are one token: a number, a string, TRUE, FALSE or NULL.
 use Rattle.std.specs.Prelude.{ℕ, List, [], ◌∷◌, Option, Some, None, Ok, Err}
-use Rattle.mob_ast.specs.declared.expression.Node.{Node}
-use Rattle.mob_ast.specs.declared.expression.Node.TheVariants as node
-use Rattle.mob_ast.specs.Trees.{Tree}
-use Rattle.mob_grammar.specs.declared.mark.Mark.{Mark}
-use Rattle.mob_grammar.specs.declared.mark.Mark.TheVariants.{Null, True, False}
-use Rattle.mob_grammar.specs.Symbols.{Symbol, fixed, name, number, quoted, PlacedSymbol, leaf}
+use Rattle.mob_ast.{specs.declared.expression.Node.{Node}, specs.Trees.{Tree}}
+use Rattle.mob_grammar.{specs.declared.mark.Mark.{Mark}, specs.declared.mark.Mark.TheVariants.{Null, True, False}, specs.Symbols.{Symbol, fixed, name, number, quoted, PlacedSymbol, leaf}}
 use Rattle.mob_grammar.specs.Reading.{Answer, TokenReader}
+use Rattle.mob_ast.specs.declared.expression.Node.TheVariants as node
 
 abbrev pub constant_mark : Mark → Option Node
 constant_mark True = Some node.True

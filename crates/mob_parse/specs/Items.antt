@@ -1,9 +1,7 @@
 -- The two kinds of items with a value, each by itself.
 use Rattle.std.specs.Prelude.{ℕ}
 use Rattle.mob_ast.specs.Trees.{one, count_all}
-use Rattle.mob_grammar.specs.declared.mark.Mark.TheVariants.{Close}
-use Rattle.mob_grammar.specs.Forms.{Form, item, an_expression, made, both, behind}
-use Rattle.mob_grammar.specs.Scripts.{alias_form}
+use Rattle.mob_grammar.{specs.declared.mark.Mark.TheVariants.{Close}, specs.Forms.{Form, item, an_expression, made, both, behind}, specs.Scripts.{alias_form}}
 
 -- the rest of count(*), after its first three tokens
 unfoldable pub count_form : ℕ → Form item

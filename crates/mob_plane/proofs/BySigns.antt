@@ -1,23 +1,11 @@
 -- Signs decide membership in a polygon.
-use Rattle.std.specs.Prelude.{◌≡◌, refl, Bool, true, false, cond, not, ◌&&◌, ◌||◌, ℕ, zero, suc, ◌%◌, ◌<◌, nat_eq, List, [], ◌∷◌, length}
-use Rattle.std.specs.List.{list_any, filter}
-use Rattle.std.proofs.Common.{arith, sym, ap, ◌∙◌}
+use Rattle.std.{specs.Prelude.{◌≡◌, refl, Bool, true, false, cond, not, ◌&&◌, ◌||◌, ℕ, zero, suc, ◌%◌, ◌<◌, nat_eq, List, [], ◌∷◌, length}, specs.List.{list_any, filter}}
+use Rattle.std.{specs.declared.cmp.Ordering.{Ordering}, specs.declared.cmp.Ordering.TheVariants.{Less, Greater}, specs.Ordering.{is_lt, is_gt}, proofs.Common.{arith, sym, ap, ◌∙◌}}
 use Rattle.std.proofs.Math.Nat.{suc-mod}
-use Rattle.std.specs.declared.cmp.Ordering.{Ordering}
-use Rattle.std.specs.declared.cmp.Ordering.TheVariants.{Less, Greater}
-use Rattle.std.specs.Ordering.{is_lt, is_gt}
-use Rattle.mob_ratio.specs.Ratio.{Ratio, ◌-ℚ◌}
-use Rattle.mob_ratio.specs.Order.{before}
-use Rattle.mob_ratio.specs.Sign.{sign_of, nil}
-use Rattle.mob_ratio.proofs.Order.{before-back, before-from}
-use Rattle.mob_ratio.proofs.Signs.{lt_sign, gt_sign, eq_sign, lt_diff, gt_diff}
-use Rattle.mob_plane.specs.Turns.{turn}
-use Rattle.mob_plane.specs.Rings.{all_edges}
-use Rattle.mob_plane.specs.Membership.{lies_between, lies_on, is_one_alone, passes_height, crossing_at, passes_right, is_odd, inside}
-use Rattle.mob_plane.specs.EdgeWise.{signs_at, signs_to, is_between, is_on, crosses, some_on, odd_cross, inside_by, same_order}
-use Rattle.mob_plane.proofs.Crossings.{rising_crossing, falling_crossing}
-use Rattle.mob_plane.proofs.DifferenceSigns.{side_below, side_above}
-use Rattle.mob_plane.specs.declared.point.Point.{Point}
+use Rattle.mob_ratio.{specs.Ratio.{Ratio, ◌-ℚ◌}, specs.Order.{before}, specs.Sign.{sign_of, nil}, proofs.Order.{before-back, before-from}, proofs.Signs.{lt_sign, gt_sign, eq_sign, lt_diff, gt_diff}}
+use Rattle.mob_plane.{specs.Turns.{turn}, specs.Rings.{all_edges}, specs.Membership.{lies_between, lies_on, is_one_alone, passes_height, crossing_at, passes_right, is_odd, inside}}
+use Rattle.mob_plane.{specs.EdgeWise.{signs_at, signs_to, is_between, is_on, crosses, some_on, odd_cross, inside_by, same_order}, specs.declared.point.Point.{Point}}
+use Rattle.mob_plane.{proofs.Crossings.{rising_crossing, falling_crossing}, proofs.DifferenceSigns.{side_below, side_above}}
 
 -- ---- the meaning of a sign
 

@@ -1,19 +1,10 @@
 -- Counting edges.
-use Rattle.std.specs.Prelude.{◌≡◌, refl, Bool, true, false, ◌||◌, ℕ, zero, suc, ◌-◌, ◌<◌, ◌≤◌, List, [], ◌∷◌, ◌++◌, length, get_or}
-use Rattle.std.specs.Prelude.{Vec}
-use Rattle.std.proofs.Common.{ap, sym, ◌∙◌, subst, arith, drop, ◌+◌, add-one, drop-cons}
-use Rattle.std.proofs.Math.Bool.{or_assoc}
-use Rattle.std.specs.declared.alloc.Global.{Global}
-use Rattle.mob_frac.specs.Formula.{AllFit}
-use Rattle.mob_frac.proofs.Fitting.{all_both, all_first, all_second}
-use Rattle.mob_plane.specs.Turns.{turn_parts, turns_parts}
-use Rattle.mob_plane.specs.Rings.{edges, all_edges, rings_of}
-use Rattle.mob_plane.specs.Membership.{is_one_alone, inside}
-use Rattle.mob_plane.specs.EdgeWise.{with_edge, counted, none_yet, inside_by, some_on, odd_cross, is_on, crosses, signs_to, signs_at}
-use Rattle.mob_plane.proofs.BySigns.{inside_signs}
-use Rattle.mob_plane.specs.declared.point.Point.{Point}
-use Rattle.mob_plane.specs.declared.edges.EdgeSigns.{EdgeSigns}
-use Rattle.mob_plane.specs.declared.edges.Tally.{Tally}
+use Rattle.std.{specs.Prelude.{◌≡◌, refl, Bool, true, false, ◌||◌, ℕ, zero, suc, ◌-◌, ◌<◌, ◌≤◌, List, [], ◌∷◌, ◌++◌, length, get_or, Vec}, specs.declared.alloc.Global.{Global}}
+use Rattle.std.{proofs.Common.{ap, sym, ◌∙◌, subst, arith, drop, ◌+◌, add-one, drop-cons}, proofs.Math.Bool.{or_assoc}}
+use Rattle.mob_frac.{specs.Formula.{AllFit}, proofs.Fitting.{all_both, all_first, all_second}}
+use Rattle.mob_plane.{specs.Turns.{turn_parts, turns_parts}, specs.Rings.{edges, all_edges, rings_of}, specs.Membership.{is_one_alone, inside}}
+use Rattle.mob_plane.{specs.EdgeWise.{with_edge, counted, none_yet, inside_by, some_on, odd_cross, is_on, crosses, signs_to, signs_at}, specs.declared.point.Point.{Point}}
+use Rattle.mob_plane.{specs.declared.edges.EdgeSigns.{EdgeSigns}, specs.declared.edges.Tally.{Tally}, proofs.BySigns.{inside_signs}}
 
 pub alone_assoc : (a b c : Bool) → is_one_alone (is_one_alone a b) c ≡ is_one_alone a (is_one_alone b c)
 alone_assoc true true true = refl

@@ -1,18 +1,10 @@
 -- An edge crosses the height of a point to the right of it exactly if the point lies to the left of
 -- an edge that goes up, or to the right of one that goes down.
-use Rattle.std.specs.Prelude.{◌≡◌, ◌≢◌, refl, Bool, false, true, pos, ◌+ℤ◌, neg_ℤ}
-use Rattle.std.proofs.Common.{arith}
-use Rattle.mob_ratio.specs.Ratio.{Ratio, whole, ◌<ℚ◌, ◌+ℚ◌, ◌-ℚ◌, ◌*ℚ◌}
-use Rattle.mob_ratio.specs.Order.{before}
-use Rattle.mob_ratio.specs.Sign.{nil}
-use Rattle.mob_ratio.specs.Line.{IsOnLine, line_value}
-use Rattle.mob_ratio.proofs.IntRing.{linear, products, lt_mul, lt_of_mul}
-use Rattle.mob_ratio.proofs.Clear.{clear2, clear7, cleared, fractions}
-use Rattle.mob_ratio.proofs.Divide.{div-mul, sub_ne-zero}
+use Rattle.std.{specs.Prelude.{◌≡◌, ◌≢◌, refl, Bool, false, true, pos, ◌+ℤ◌, neg_ℤ}, proofs.Common.{arith}}
+use Rattle.mob_ratio.{specs.Ratio.{Ratio, whole, ◌<ℚ◌, ◌+ℚ◌, ◌-ℚ◌, ◌*ℚ◌}, specs.Order.{before}, specs.Sign.{nil}, specs.Line.{IsOnLine, line_value}}
+use Rattle.mob_ratio.{proofs.IntRing.{linear, products, lt_mul, lt_of_mul}, proofs.Clear.{clear2, clear7, cleared, fractions}, proofs.Divide.{div-mul, sub_ne-zero}}
 use Rattle.mob_ratio.proofs.Order.{before-lt, lt-before, before-neither, same_truth}
-use Rattle.mob_plane.specs.Turns.{turn}
-use Rattle.mob_plane.specs.Membership.{crossing_at}
-use Rattle.mob_plane.specs.declared.point.Point.{Point}
+use Rattle.mob_plane.{specs.Turns.{turn}, specs.Membership.{crossing_at}, specs.declared.point.Point.{Point}}
 
 -- the turn, from its coordinates
 abbrev turned : Ratio → Ratio → Ratio → Ratio → Ratio → Ratio → Ratio

@@ -1,14 +1,7 @@
 -- The signs of differences.
-use Rattle.std.specs.Prelude.{◌≡◌, true, false, cond}
+use Rattle.std.{specs.Prelude.{◌≡◌, true, false, cond}, specs.declared.cmp.Ordering.{Ordering}, specs.declared.cmp.Ordering.TheVariants.{Less, Equal, Greater}, specs.Ordering.{MatchOrdering}}
 use Rattle.std.proofs.Common.{sym, ap, ◌∙◌, subst}
-use Rattle.std.specs.declared.cmp.Ordering.{Ordering}
-use Rattle.std.specs.declared.cmp.Ordering.TheVariants.{Less, Equal, Greater}
-use Rattle.std.specs.Ordering.{MatchOrdering}
-use Rattle.mob_ratio.specs.Ratio.{Ratio, ◌<ℚ◌, ◌-ℚ◌}
-use Rattle.mob_ratio.specs.Order.{before}
-use Rattle.mob_ratio.specs.Sign.{sign_of, nil}
-use Rattle.mob_ratio.proofs.Order.{lt-before}
-use Rattle.mob_ratio.proofs.Signs.{sign-diff, sign_below, sign_above, sign_nil}
+use Rattle.mob_ratio.{specs.Ratio.{Ratio, ◌<ℚ◌, ◌-ℚ◌}, specs.Order.{before}, specs.Sign.{sign_of, nil}, proofs.Order.{lt-before}, proofs.Signs.{sign-diff, sign_below, sign_above, sign_nil}}
 
 pub side_below : (x y : Ratio) → before x y ≡ true → Less ≡ sign_of (x -ℚ y)
 side_below x y h = subst (λ b. cond b Less (cond (before y x) Greater Equal) ≡ sign_of (x -ℚ y)) h (sign-diff x y)

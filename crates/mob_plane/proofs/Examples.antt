@@ -1,15 +1,7 @@
 -- Worked examples of points. Each holds by computing.
 use Rattle.std.proofs.Common.{◌≡◌, true, false, pos, ℕ, List, [], ◌∷◌, refl}
-use Rattle.mob_ratio.specs.Gcd.{gcd, gcd_steps}
-use Rattle.mob_ratio.specs.Lowest.{in_lowest_terms}
-use Rattle.mob_ratio.specs.Ratio.{over, whole, ◌+ℚ◌, neg_ℚ, ◌*ℚ◌, turned, inverse}
-use Rattle.mob_ratio.specs.Order.{before, same}
-use Rattle.mob_ratio.specs.Line.{line_value}
-use Rattle.mob_plane.specs.Points.{same_point}
-use Rattle.mob_plane.specs.Turns.{turn}
-use Rattle.mob_plane.specs.Rings.{has_short, has_open}
-use Rattle.mob_plane.specs.Membership.{inside, crossing_at}
-use Rattle.mob_plane.specs.declared.point.Point.{Point}
+use Rattle.mob_ratio.{specs.Gcd.{gcd, gcd_steps}, specs.Lowest.{in_lowest_terms}, specs.Ratio.{over, whole, ◌+ℚ◌, neg_ℚ, ◌*ℚ◌, turned, inverse}, specs.Order.{before, same}, specs.Line.{line_value}}
+use Rattle.mob_plane.{specs.Points.{same_point}, specs.Turns.{turn}, specs.Rings.{has_short, has_open}, specs.Membership.{inside, crossing_at}, specs.declared.point.Point.{Point}}
 
 -- POINT(1/2 3) and POINT(2/4 3) are equal
 one_point : same_point (record { x = over (pos 1) 2; y = whole (pos 3) }) (record { x = over (pos 2) 4; y = whole (pos 3) }) ≡ true

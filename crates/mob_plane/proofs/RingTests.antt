@@ -1,12 +1,7 @@
 -- Tests over all rings.
-use Rattle.std.specs.Prelude.{◌≡◌, refl, Bool, true, false, ◌||◌, nat_eq, List, [], ◌∷◌, length}
-use Rattle.std.specs.Prelude.{Vec}
-use Rattle.std.specs.List.{list_any}
-use Rattle.std.proofs.Common.{sym, ap, ◌∙◌}
+use Rattle.std.{specs.Prelude.{◌≡◌, refl, Bool, true, false, ◌||◌, nat_eq, List, [], ◌∷◌, length, Vec}, specs.List.{list_any}, specs.declared.alloc.Global.{Global}, proofs.Common.{sym, ap, ◌∙◌}}
 use Rattle.std.proofs.lemmas.List.{length-map}
-use Rattle.std.specs.declared.alloc.Global.{Global}
-use Rattle.mob_plane.specs.Rings.{rings_of, is_short_ring, has_short, has_open, are_sound}
-use Rattle.mob_plane.specs.declared.point.Point.{Point}
+use Rattle.mob_plane.{specs.Rings.{rings_of, is_short_ring, has_short, has_open, are_sound}, specs.declared.point.Point.{Point}}
 
 pub any_of : (test : List Point → Bool) (rings : List (Vec Point Global)) → list_any (λ r. test r.items) rings ≡ list_any test (rings_of rings)
 any_of test [] = refl

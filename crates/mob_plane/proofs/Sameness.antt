@@ -1,9 +1,7 @@
 -- A test of two points by the tests of their coordinates is exact.
-use Rattle.std.specs.Prelude.{◌≡◌, ◌↔◌, Bool, true, false, IsTrue, refl}
-use Rattle.std.proofs.Common.{sym, ◌∙◌}
+use Rattle.std.{specs.Prelude.{◌≡◌, ◌↔◌, Bool, true, false, IsTrue, refl}, proofs.Common.{sym, ◌∙◌}}
 use Rattle.mob_ratio.specs.Order.{same}
-use Rattle.mob_plane.specs.Points.{same_point, same_point_exact}
-use Rattle.mob_plane.specs.declared.point.Point.{Point}
+use Rattle.mob_plane.{specs.Points.{same_point, same_point_exact}, specs.declared.point.Point.{Point}}
 
 exact_as : (a b : Point) (r : Bool) → r ≡ same_point a b → IsTrue r ↔ (a ≡ b)
 exact_as a b r e = (λ h. (same_point_exact a b).0 (sym e ∙ h), λ p. e ∙ (same_point_exact a b).1 p)

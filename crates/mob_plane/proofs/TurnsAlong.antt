@@ -1,13 +1,7 @@
 -- The turn of a point that moves linearly changes linearly.
-use Rattle.std.specs.Prelude.{◌≡◌}
-use Rattle.std.proofs.Common.{sym, ap, ◌∙◌}
-use Rattle.mob_ratio.specs.Ratio.{Ratio, ◌-ℚ◌, ◌*ℚ◌}
-use Rattle.mob_ratio.specs.Line.{line_at}
-use Rattle.mob_ratio.proofs.Field.{mul_comm}
-use Rattle.mob_ratio.proofs.LineAt.{line_at-level, line_at-scale}
-use Rattle.mob_ratio.proofs.Signs.{line_at-diff}
-use Rattle.mob_plane.specs.Turns.{turn}
-use Rattle.mob_plane.specs.declared.point.Point.{Point}
+use Rattle.std.{specs.Prelude.{◌≡◌}, proofs.Common.{sym, ap, ◌∙◌}}
+use Rattle.mob_ratio.{specs.Ratio.{Ratio, ◌-ℚ◌, ◌*ℚ◌}, specs.Line.{line_at}, proofs.Field.{mul_comm}, proofs.LineAt.{line_at-level, line_at-scale}, proofs.Signs.{line_at-diff}}
+use Rattle.mob_plane.{specs.Turns.{turn}, specs.declared.point.Point.{Point}}
 
 line_at-times : (k x0 x1 l u t : Ratio) → k *ℚ line_at x0 x1 l u t ≡ line_at (k *ℚ x0) (k *ℚ x1) l u t
 line_at-times k x0 x1 l u t =

@@ -1,12 +1,7 @@
 -- The corners of rings, widened point by point, are those of all points.
-use Rattle.std.specs.Prelude.{◌≡◌, refl, Bool, true, false, cond, ◌⊎◌, zero, suc, List, [], ◌∷◌, Any, All, Contains, fold}
-use Rattle.std.proofs.Common.{arith, sym, ◌∙◌, subst, inl, inr}
-use Rattle.mob_ratio.specs.Ratio.{Ratio}
-use Rattle.mob_ratio.specs.Order.{before, up_to, smaller, greater}
-use Rattle.mob_ratio.proofs.Order.{up_to-self, up_to-trans, smaller_left, smaller_right, greater_left, greater_right}
-use Rattle.mob_plane.specs.Corners.{IsLeastAmong, IsGreatestAmong, AreCorners, widened}
-use Rattle.mob_plane.specs.declared.point.Point.{Point}
-use Rattle.mob_plane.specs.declared.rectangle.Corners.{Corners}
+use Rattle.std.{specs.Prelude.{◌≡◌, refl, Bool, true, false, cond, ◌⊎◌, zero, suc, List, [], ◌∷◌, Any, All, Contains, fold}, proofs.Common.{arith, sym, ◌∙◌, subst, inl, inr}}
+use Rattle.mob_ratio.{specs.Ratio.{Ratio}, specs.Order.{before, up_to, smaller, greater}, proofs.Order.{up_to-self, up_to-trans, smaller_left, smaller_right, greater_left, greater_right}}
+use Rattle.mob_plane.{specs.Corners.{IsLeastAmong, IsGreatestAmong, AreCorners, widened}, specs.declared.point.Point.{Point}, specs.declared.rectangle.Corners.{Corners}}
 
 any_first : (P : Point → Type 0) (p : Point) (ps : List Point) → P p → Any P (p ∷ ps)
 any_first P p ps h = (0, p, omega arith, refl, h)

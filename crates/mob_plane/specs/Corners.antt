@@ -1,10 +1,7 @@
 -- The smallest and the greatest coordinates of points.
-use Rattle.std.specs.Prelude.{◌≡◌, true, List, Any, All}
-use Rattle.std.specs.List.{flat_map}
-use Rattle.mob_ratio.specs.Ratio.{Ratio}
-use Rattle.mob_ratio.specs.Order.{up_to, smaller, greater}
-use Rattle.mob_plane.specs.declared.point.Point.{Point}
-use Rattle.mob_plane.specs.declared.rectangle.Corners.{Corners}
+use Rattle.std.{specs.Prelude.{◌≡◌, true, List, Any, All}, specs.List.{flat_map}}
+use Rattle.mob_ratio.{specs.Ratio.{Ratio}, specs.Order.{up_to, smaller, greater}}
+use Rattle.mob_plane.{specs.declared.point.Point.{Point}, specs.declared.rectangle.Corners.{Corners}}
 
 -- the points of all rings
 abbrev pub all_points : List (List Point) → List Point

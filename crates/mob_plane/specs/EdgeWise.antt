@@ -1,16 +1,9 @@
 -- Membership in a polygon by signs alone: those of the turn from each edge to the point, and of the
 -- differences of its coordinates to those of the edge's ends.
-use Rattle.std.specs.Prelude.{Bool, false, not, ◌&&◌, ◌||◌, List, [], ◌∷◌, map}
-use Rattle.std.specs.declared.cmp.Ordering.{Ordering}
-use Rattle.std.specs.declared.cmp.Ordering.TheVariants.{Less, Equal, Greater}
+use Rattle.std.{specs.Prelude.{Bool, false, not, ◌&&◌, ◌||◌, List, [], ◌∷◌, map}, specs.declared.cmp.Ordering.{Ordering}, specs.declared.cmp.Ordering.TheVariants.{Less, Equal, Greater}}
 use Rattle.std.specs.Ordering.{is_eq, is_lt, is_gt}
-use Rattle.mob_ratio.specs.Ratio.{◌-ℚ◌}
-use Rattle.mob_ratio.specs.Sign.{sign_of}
-use Rattle.mob_plane.specs.Turns.{turn}
-use Rattle.mob_plane.specs.Membership.{is_one_alone}
-use Rattle.mob_plane.specs.declared.point.Point.{Point}
-use Rattle.mob_plane.specs.declared.edges.EdgeSigns.{EdgeSigns}
-use Rattle.mob_plane.specs.declared.edges.Tally.{Tally}
+use Rattle.mob_ratio.{specs.Ratio.{◌-ℚ◌}, specs.Sign.{sign_of}}
+use Rattle.mob_plane.{specs.Turns.{turn}, specs.Membership.{is_one_alone}, specs.declared.point.Point.{Point}, specs.declared.edges.EdgeSigns.{EdgeSigns}, specs.declared.edges.Tally.{Tally}}
 
 -- the position of p relative to the edge from a to b
 abbrev pub signs_at : Point → Point → Point → EdgeSigns

@@ -5,15 +5,9 @@
 -- if one end is above the point and the other is not. So of two edges that meet at the height of
 -- the point, both count, or none, or just one, depending on whether the ring passes that height
 -- there or only touches it.
-use Rattle.std.specs.Prelude.{Bool, true, false, not, ◌&&◌, ◌||◌, ◌%◌, ℕ, nat_eq, List, length}
-use Rattle.std.specs.List.{list_any, filter}
-use Rattle.mob_ratio.specs.Ratio.{Ratio}
-use Rattle.mob_ratio.specs.Order.{before, up_to, same}
-use Rattle.mob_ratio.specs.Sign.{nil}
-use Rattle.mob_ratio.specs.Line.{line_value}
-use Rattle.mob_plane.specs.Turns.{turn}
-use Rattle.mob_plane.specs.Rings.{all_edges}
-use Rattle.mob_plane.specs.declared.point.Point.{Point}
+use Rattle.std.{specs.Prelude.{Bool, true, false, not, ◌&&◌, ◌||◌, ◌%◌, ℕ, nat_eq, List, length}, specs.List.{list_any, filter}}
+use Rattle.mob_ratio.{specs.Ratio.{Ratio}, specs.Order.{before, up_to, same}, specs.Sign.{nil}, specs.Line.{line_value}}
+use Rattle.mob_plane.{specs.Turns.{turn}, specs.Rings.{all_edges}, specs.declared.point.Point.{Point}}
 
 -- q lies between x and y, or is one of them
 abbrev pub lies_between : Ratio → Ratio → Ratio → Bool

@@ -1,9 +1,6 @@
 -- When two points of the plane are equal: by coordinate.
-use Rattle.std.specs.Prelude.{◌≡◌, ◌↔◌, Bool, IsTrue, ◌&&◌, refl}
-use Rattle.std.proofs.Common.{arith, ap, sym}
-use Rattle.std.specs.Cmp.{IsEquivalence}
-use Rattle.mob_ratio.specs.Order.{same}
-use Rattle.mob_ratio.proofs.Order.{same_exact, same_truth}
+use Rattle.std.{specs.Prelude.{◌≡◌, ◌↔◌, Bool, IsTrue, ◌&&◌, refl}, specs.Cmp.{IsEquivalence}, proofs.Common.{arith, ap, sym}}
+use Rattle.mob_ratio.{specs.Order.{same}, proofs.Order.{same_exact, same_truth}}
 use Rattle.mob_plane.specs.declared.point.Point.{Point}
 
 -- both coordinates are the same numbers

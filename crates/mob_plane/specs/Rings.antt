@@ -1,10 +1,7 @@
 -- Rings of points: their edges, and when they bound a polygon.
-use Rattle.std.specs.Prelude.{Bool, false, not, ◌&&◌, ◌||◌, ◌-◌, List, [], ◌∷◌, ◌++◌, map, length, slice_get, nat_eq, nat_lt, Option, Some}
-use Rattle.std.specs.Prelude.{Vec}
-use Rattle.std.specs.List.{list_any}
+use Rattle.std.{specs.Prelude.{Bool, false, not, ◌&&◌, ◌||◌, ◌-◌, List, [], ◌∷◌, ◌++◌, map, length, slice_get, nat_eq, nat_lt, Option, Some, Vec}, specs.List.{list_any}}
 use Rattle.std.specs.declared.alloc.Global.{Global}
-use Rattle.mob_plane.specs.Points.{same_point}
-use Rattle.mob_plane.specs.declared.point.Point.{Point}
+use Rattle.mob_plane.{specs.Points.{same_point}, specs.declared.point.Point.{Point}}
 
 -- the points of each ring
 abbrev pub rings_of : List (Vec Point Global) → List (List Point)

@@ -1,10 +1,7 @@
 -- Examples, worked by hand: which texts are points.
-use Rattle.std.proofs.Common.{◌≡◌, true, Option, None, codes, refl}
-use Rattle.std.specs.Prelude.{is_some}
-use Rattle.mob_language.specs.Language.{Text}
-use Rattle.mob_language.specs.Readers.{all_of, within_blanks_at}
-use Rattle.mob_numeral.specs.Blanks.{some_blanks_at}
-use Rattle.mob_numeral.specs.Fitting.{number_value_at}
+use Rattle.std.{specs.Prelude.{is_some}, proofs.Common.{◌≡◌, true, Option, None, codes, refl}}
+use Rattle.mob_language.{specs.Language.{Text}, specs.Readers.{all_of, within_blanks_at}}
+use Rattle.mob_numeral.{specs.Blanks.{some_blanks_at}, specs.Fitting.{number_value_at}}
 use Rattle.mob_numeral.specs.NumberReaders.{numeral_at, sign_at, digits_at, tail_at, over_at, decimal_at, point_at, exponent_at, power_at}
 use Rattle.mob_plane.specs.declared.point.Point.{Point}
 use Rattle.mob_points.specs.Points.{close_bracket_at, coordinates_at, written_point_at, srid_zero_at, behind_srid_at, point_value_at}

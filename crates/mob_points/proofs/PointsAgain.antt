@@ -1,16 +1,10 @@
 -- A printed point reads back as itself.
 use Rattle.std.proofs.Common.{[], ◌++◌, Some, None, Ok, refl, codes}
 use Rattle.mob_frac.specs.Fits.{Fits}
-use Rattle.mob_language.specs.Language.{Text, Language, spaced}
-use Rattle.mob_language.proofs.Heads.{within_said}
-use Rattle.mob_numeral.specs.Blanks.{some_blanks}
-use Rattle.mob_numeral.specs.NumberText.{number_text}
-use Rattle.mob_numeral.specs.Verdict.{Lit}
-use Rattle.mob_numeral.proofs.Fitted.{number_value_said}
+use Rattle.mob_language.{specs.Language.{Text, Language, spaced}, proofs.Heads.{within_said}}
+use Rattle.mob_numeral.{specs.Blanks.{some_blanks}, specs.NumberText.{number_text}, specs.Verdict.{Lit}, proofs.Fitted.{number_value_said}}
 use Rattle.mob_plane.specs.declared.point.Point.{Point}
-use Rattle.mob_points.specs.Points.{close_bracket, coordinates, written_point, behind_srid, points}
-use Rattle.mob_points.specs.PointText.{point_text}
-use Rattle.mob_points.proofs.PointsExact.{some_none}
+use Rattle.mob_points.{specs.Points.{close_bracket, coordinates, written_point, behind_srid, points}, specs.PointText.{point_text}, proofs.PointsExact.{some_none}}
 
 pub close_said : close_bracket (codes ")") tt
 close_said = record {

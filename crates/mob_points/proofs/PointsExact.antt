@@ -1,21 +1,16 @@
 -- The reader of points accepts exactly the texts of points.
-use Rattle.std.proofs.Common.{◌≡◌, ℕ, [], ◌∷◌, Bool, false, Option, Some, None, Ok, Err, refl, sym, ◌∙◌, rules, codes}
-use Rattle.std.specs.Prelude.{◌||◌, nat_eq}
-use Rattle.std.specs.Char.{to_ascii_lowercase}
+use Rattle.std.{specs.Prelude.{◌||◌, nat_eq}, specs.Char.{to_ascii_lowercase}, proofs.Common.{◌≡◌, ℕ, [], ◌∷◌, Bool, false, Option, Some, None, Ok, Err, refl, sym, ◌∙◌, rules, codes}}
 use Rattle.std.proofs.lemmas.Bool.{or_parts, or_from}
-use Rattle.mob_language.specs.Language.{Text, Language, ◌▷◌, AnyCase, is_blank, spaced, within_blanks}
-use Rattle.mob_language.specs.Readers.{TextReader, then_at, all_of, within_blanks_at}
+use Rattle.mob_language.{specs.Language.{Text, Language, ◌▷◌, AnyCase, is_blank, spaced, within_blanks}, specs.Readers.{TextReader, then_at, all_of, within_blanks_at}}
 use Rattle.mob_language.proofs.Exact.{Exact, Stops, Any, means_exact, many_exact, word_exact, any_case_exact, is_said, not_said}
-use Rattle.mob_language.proofs.Heads.{NoHead, HasByte, Nothing, exact_less, stops_less, then_head, maybe_head, means_head, where_head, many_head, word_head, maybe_stops, byte_head, then_byte, means_byte, word_byte, then_byte_stops, after_any, spaced_exact, IsEnd, within_exact}
-use Rattle.mob_numeral.specs.Blanks.{some_blanks, some_blanks_at}
-use Rattle.mob_numeral.specs.Fitting.{number_value, number_value_at}
-use Rattle.mob_numeral.specs.declared.fault.ReadText.TheVariants.{NotText, TooLarge}
-use Rattle.mob_numeral.specs.Verdict.{Lit}
-use Rattle.mob_numeral.proofs.NumberExact.{continues}
-use Rattle.mob_numeral.proofs.SomeBlanks.{some_blanks_exact, some_blanks_byte}
+use Rattle.mob_language.proofs.Heads.{NoHead, HasByte, Nothing, exact_less, stops_less, then_head, maybe_head, means_head, where_head, many_head, word_head, maybe_stops, byte_head, then_byte}
+use Rattle.mob_language.proofs.Heads.{means_byte, word_byte, then_byte_stops, after_any, spaced_exact, IsEnd, within_exact}
+use Rattle.mob_numeral.{specs.Blanks.{some_blanks, some_blanks_at}, specs.Fitting.{number_value, number_value_at}, specs.declared.fault.ReadText.TheVariants.{NotText, TooLarge}, specs.Verdict.{Lit}}
+use Rattle.mob_numeral.{proofs.NumberExact.{continues}, proofs.SomeBlanks.{some_blanks_exact, some_blanks_byte}}
 use Rattle.mob_numeral.proofs.WholeTexts.{back_nil, blank_stops, number_value_exact, number_value_blank, number_value_byte}
 use Rattle.mob_plane.specs.declared.point.Point.{Point}
-use Rattle.mob_points.specs.Points.{close_bracket, coordinates_said, coordinates, point_said, written_point, srid_said, srid_zero, past_srid, behind_srid, point_value, points, close_bracket_at, coordinates_at, written_point_at, srid_zero_at, behind_srid_at, point_value_at}
+use Rattle.mob_points.specs.Points.{close_bracket, coordinates_said, coordinates, point_said, written_point, srid_said, srid_zero, past_srid, behind_srid, point_value, points, close_bracket_at}
+use Rattle.mob_points.specs.Points.{coordinates_at, written_point_at, srid_zero_at, behind_srid_at, point_value_at}
 
 -- ---- two numbers and a closing bracket
 

@@ -7,9 +7,7 @@ use Rattle.std.specs.Prelude.{◌≡◌, codes, Option, Some, None}
 use Rattle.mob_ratio.specs.Ratio.{Ratio}
 use Rattle.mob_language.specs.Language.{Text, Language, ◌▷◌, Maybe, Means, Word, AnyCase, blanks, spaced, within_blanks}
 use Rattle.mob_language.specs.Readers.{TextReader, ◌>>=◌, then_at, maybe_at, means_at, word_at, any_case_at, blanks_at, spaced_at}
-use Rattle.mob_numeral.specs.Blanks.{some_blanks, some_blanks_at}
-use Rattle.mob_numeral.specs.Fitting.{number_value, number_value_at}
-use Rattle.mob_numeral.specs.Verdict.{TextForm}
+use Rattle.mob_numeral.{specs.Blanks.{some_blanks, some_blanks_at}, specs.Fitting.{number_value, number_value_at}, specs.Verdict.{TextForm}}
 use Rattle.mob_plane.specs.declared.point.Point.{Point}
 
 -- the point with these coordinates, if both fit

@@ -1,11 +1,7 @@
 -- The values of a line between two of its points, and how closely they approach its limits.
 use Rattle.std.proofs.Common.{◌≡◌, Bool, true, false, ℤ, pos, negsuc, ◌+ℤ◌, neg_ℤ, ◌*ℤ◌, ◌<ℤ◌, ◌≤ℤ◌, refl, arith}
-use Rattle.mob_ratio.specs.Ratio.{Ratio, ◌<ℚ◌, ◌≤ℚ◌}
-use Rattle.mob_ratio.specs.Order.{before, up_to}
-use Rattle.mob_ratio.specs.Line.{IsOnLine, line_at}
-use Rattle.mob_ratio.proofs.IntRing.{linear, products, lt_mul, le_mul, lt_of_mul, le_cancel}
-use Rattle.mob_ratio.proofs.Clear.{clear6, fractions, cleared}
-use Rattle.mob_ratio.proofs.Order.{before-lt, lt-before, before-trans, before-weak, before-up_to, up_to-before, between, le-test, not-up_to-le}
+use Rattle.mob_ratio.{specs.Ratio.{Ratio, ◌<ℚ◌, ◌≤ℚ◌}, specs.Order.{before, up_to}, specs.Line.{IsOnLine, line_at}, proofs.IntRing.{linear, products, lt_mul, le_mul, lt_of_mul, le_cancel}}
+use Rattle.mob_ratio.{proofs.Clear.{clear6, fractions, cleared}, proofs.Order.{before-lt, lt-before, before-trans, before-weak, before-up_to, up_to-before, between, le-test, not-up_to-le}}
 use Rattle.mob_ratio.proofs.LineAt.{line_at-is, line_at-known}
 
 le_of_mul : (a b c : ℤ) → pos 0 <ℤ c → (a *ℤ c) ≤ℤ (b *ℤ c) → a ≤ℤ b

@@ -1,15 +1,8 @@
 -- The text of records reads back as these records.
-use Rattle.std.specs.Prelude.{◌≡◌, ℕ, List, [], ◌∷◌, ◌++◌, false, map, Some, None, refl}
-use Rattle.std.specs.List.{concat, AllByRecursion}
-use Rattle.std.proofs.Common.{ap, sym, ◌∙◌}
-use Rattle.csv.specs.Machine.{next_record}
-use Rattle.csv.specs.Reading.{Reached, default_config}
-use Rattle.csv.specs.Writing.{read_back}
+use Rattle.std.{specs.Prelude.{◌≡◌, ℕ, List, [], ◌∷◌, ◌++◌, false, map, Some, None, refl}, specs.List.{concat, AllByRecursion}, proofs.Common.{ap, sym, ◌∙◌}}
+use Rattle.csv.{specs.Machine.{next_record}, specs.Reading.{Reached, default_config}, specs.Writing.{read_back}, proofs.RoundTrip.{read-write}}
+use Rattle.mob_records.{specs.AnswerText.{record_line}, specs.ReadAgain.{HasFields, ReadsAgain}, proofs.RecordText.{record_text-csv}}
 use Rattle.csv.specs.declared.parser.State.TheVariants as st
-use Rattle.csv.proofs.RoundTrip.{read-write}
-use Rattle.mob_records.specs.AnswerText.{record_line}
-use Rattle.mob_records.specs.ReadAgain.{HasFields, ReadsAgain}
-use Rattle.mob_records.proofs.RecordText.{record_text-csv}
 
 same_back : (r : List (List ℕ)) → HasFields r → read_back r ≡ r
 same_back [] h = absurd h

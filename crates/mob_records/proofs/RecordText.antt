@@ -1,13 +1,10 @@
 -- `csv` gives each record the text that `record_line` defines.
+use Rattle.std.{specs.Prelude.{◌||◌, ◌==◌, if◌then◌else◌, length, map, Option, unwrap_or}, specs.List.{concat, join_with_byte, list_any}}
 use Rattle.std.proofs.Common.{◌≡◌, ◌∙◌, ap, ap₂, sym, refl, ℕ, ◌+◌, ◌<◌, List, [], ◌∷◌, ◌++◌, true, false, Bool, take, get_or, Some}
-use Rattle.std.specs.Prelude.{◌||◌, ◌==◌, if◌then◌else◌, length, map, Option, unwrap_or}
-use Rattle.std.specs.List.{concat, join_with_byte, list_any}
-use Rattle.std.proofs.lemmas.List.{append-nil, append_assoc, map-append, take_more}
-use Rattle.std.proofs.lemmas.List.Folds.{concat-append}
+use Rattle.std.{proofs.lemmas.List.{append-nil, append_assoc, map-append, take_more}, proofs.lemmas.List.Folds.{concat-append}, proofs.Math.Dec.{eqb-suc-zero}}
 use Rattle.csv.specs.declared.writer.WriterBuilder.{WriterBuilder}
-use Rattle.std.proofs.Math.Dec.{eqb-suc-zero}
-use Rattle.csv.specs.Writing as csv
 use Rattle.mob_records.specs.AnswerText.{with_doubled_quotes, record_field, is_special, record_line}
+use Rattle.csv.specs.Writing as csv
 
 -- the usual writer, for records of any length or of one fixed length
 abbrev pub writer : Bool → WriterBuilder

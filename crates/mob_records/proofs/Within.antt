@@ -1,14 +1,10 @@
 -- A record, written field by field.
+use Rattle.std.{specs.Io.KnownBytes.{Appends}, specs.declared.vec.Vec.{Vec}}
 use Rattle.std.proofs.Common.{◌≡◌, ◌≢◌, ◌∙◌, ◌==◌, ◌<◌, ◌+◌, ◌-◌, ◌^◌, ◌++◌, ◌∷◌, [], ℕ, List, Option, Some, false, true, not, length, min, refl, sym, subst, length-append, arith}
-use Rattle.std.specs.Io.KnownBytes.{Appends}
-use Rattle.std.specs.declared.vec.Vec.{Vec}
-use Rattle.csv.specs.declared.writer.QuoteStyle.TheVariants as style
-use Rattle.csv.specs.declared.writer.Writer.{Writer}
-use Rattle.csv.specs.Writing.{field_text, fields_written, has_written, is_blank, next_sep, tail_text, text_written, writer_setup}
+use Rattle.csv.{specs.declared.writer.Writer.{Writer}, specs.Writing.{field_text, fields_written, has_written, is_blank, next_sep, tail_text, text_written, writer_setup}}
 use Rattle.csv.proofs.WriteFacts.{appends-more, appends-none, blank-more, row-final, row-more}
-use Rattle.mob_records.specs.AnswerText.{record_line}
-use Rattle.mob_records.specs.Writers.{any_length, IsBetweenRecords, IsWithinRecord}
-use Rattle.mob_records.proofs.RecordText.{record_text-csv}
+use Rattle.mob_records.{specs.AnswerText.{record_line}, specs.Writers.{any_length, IsBetweenRecords, IsWithinRecord}, proofs.RecordText.{record_text-csv}}
+use Rattle.csv.specs.declared.writer.QuoteStyle.TheVariants as style
 
 module _ {A : Type 0} where
   abbrev pub held : Writer (Vec ℕ A) → Option (List ℕ)

@@ -1,7 +1,6 @@
 -- The text of an answer: a record of the column names, a record for each row, and a line with the
 -- number of rows.
-use Rattle.std.specs.Prelude.{◌==◌, ◌||◌, ◌++◌, Bool, ℕ, List, [], ◌∷◌, if◌then◌else◌, codes, decimal, length, map}
-use Rattle.std.specs.List.{concat, join_with_byte, list_any}
+use Rattle.std.{specs.Prelude.{◌==◌, ◌||◌, ◌++◌, Bool, ℕ, List, [], ◌∷◌, if◌then◌else◌, codes, decimal, length, map}, specs.List.{concat, join_with_byte, list_any}}
 
 -- a comma, a double quote, a carriage return or a line feed
 abbrev pub is_special : ℕ → Bool

@@ -1,9 +1,8 @@
 -- The text of records reads back as these records.
-use Rattle.std.specs.Prelude.{List, [], ◌∷◌, ℕ, map}
-use Rattle.std.specs.List.{concat, AllByRecursion}
+use Rattle.std.{specs.Prelude.{List, [], ◌∷◌, ℕ, map}, specs.List.{concat, AllByRecursion}}
 use Rattle.csv.specs.Reading.{AreRecords, default_config}
-use Rattle.csv.specs.declared.parser.State.TheVariants as st
 use Rattle.mob_records.specs.AnswerText.{record_line}
+use Rattle.csv.specs.declared.parser.State.TheVariants as st
 
 -- a record has at least one field; one without fields would be read as one empty field
 abbrev pub HasFields : List (List ℕ) → Type 0

@@ -1,19 +1,12 @@
 -- A coordinate of a moving point, slice by slice.
-use Rattle.std.specs.Prelude.{◌≡◌, ◌≢◌, Bool, true, false, cond, List, [], ◌∷◌, ◌++◌, map, Some, option_map, refl, ℕ, ◌≤◌, length}
-use Rattle.std.proofs.Common.{ap, sym, ◌∙◌, append-nil, drop}
+use Rattle.std.{specs.Prelude.{◌≡◌, ◌≢◌, Bool, true, false, cond, List, [], ◌∷◌, ◌++◌, map, Some, option_map, refl, ℕ, ◌≤◌, length}, proofs.Common.{ap, sym, ◌∙◌, append-nil, drop}}
 use Rattle.std.proofs.lemmas.List.{drop_all}
-use Rattle.mob_ratio.specs.Ratio.{Ratio}
-use Rattle.mob_ratio.specs.Line.{line_at}
+use Rattle.mob_ratio.{specs.Ratio.{Ratio}, specs.Line.{line_at}}
 use Rattle.mob_span.specs.Span.{has}
 use Rattle.mob_plane.specs.declared.point.Point.{Point}
-use Rattle.mob_slice.specs.Lines.{line_value_of, plane_value_of}
-use Rattle.mob_slice.specs.Slices.{OfHead, IsClearOf, IsOrdered, value_at}
-use Rattle.mob_slice.specs.declared.line.Line.{Line}
-use Rattle.mob_slice.specs.declared.line.PlaneLine.{PlaneLine}
-use Rattle.mob_slice.specs.declared.slice.Slice.{Slice}
-use Rattle.mob_restrict.specs.declared.coordinates.Axis.{Axis}
-use Rattle.mob_restrict.specs.declared.coordinates.Axis.TheVariants.{X, Y}
-use Rattle.mob_restrict.specs.Coordinates.{coordinate_of, coordinate_line}
+use Rattle.mob_slice.{specs.Lines.{line_value_of, plane_value_of}, specs.Slices.{OfHead, IsClearOf, IsRisingInTime, value_at}, specs.declared.line.Line.{Line}}
+use Rattle.mob_slice.{specs.declared.line.PlaneLine.{PlaneLine}, specs.declared.slice.Slice.{Slice}}
+use Rattle.mob_restrict.{specs.declared.coordinates.Axis.{Axis}, specs.declared.coordinates.Axis.TheVariants.{X, Y}, specs.Coordinates.{coordinate_of, coordinate_line}}
 
 abbrev plane_start : PlaneLine → Point
 plane_start c = c.from
@@ -32,7 +25,7 @@ coordinate_head axis s [] h = tt
 coordinate_head axis s (r ∷ v) h = h
 
 -- the lines of a coordinate have the same spans
-pub coordinate_ordered : (axis : Axis) (v : List (Slice PlaneLine)) → IsOrdered plane_start plane_end v → IsOrdered line_start line_end (map (coordinate_line axis) v)
+pub coordinate_ordered : (axis : Axis) (v : List (Slice PlaneLine)) → IsRisingInTime plane_start plane_end v → IsRisingInTime line_start line_end (map (coordinate_line axis) v)
 coordinate_ordered axis [] h = tt
 coordinate_ordered axis (s ∷ v) h = (record { some = h.0.some; level = λ n. ap (coordinate_of axis) (h.0.level n) }, coordinate_head axis s v h.1, coordinate_ordered axis v h.2)
 

@@ -1,38 +1,15 @@
 -- The parts cut out of a temporal value.
-use Rattle.std.specs.Prelude.{◌≡◌, Bool, true, List, [], ◌∷◌, map, Option, Some, None, option_map, Result, Ok, Err, MatchResult, IfOk, refl}
-use Rattle.std.specs.List.{flat_map, AllByRecursion}
-use Rattle.std.specs.Iterator.{Yields, Drains, YieldsFirstBy}
-use Rattle.std.proofs.Common.{ap, sym, ◌∙◌, subst, inl, inr}
-use Rattle.std.proofs.lemmas.Result.{IfOk-weaker}
+use Rattle.std.{specs.Prelude.{◌≡◌, Bool, true, List, [], ◌∷◌, map, Option, Some, None, option_map, Result, Ok, Err, MatchResult, IfOk, refl}, specs.List.{flat_map, AllByRecursion}}
+use Rattle.std.{specs.Iterator.{Yields, Drains, YieldsFirstBy}, proofs.Common.{ap, sym, ◌∙◌, subst, inl, inr}, proofs.lemmas.Result.{IfOk-weaker}}
 use Rattle.mob_ratio.specs.Ratio.{Ratio}
 use Rattle.mob_frac.specs.Formula.{AllFit}
-use Rattle.mob_span.specs.Span.{SpanOf}
-use Rattle.mob_span.specs.Meets.{PieceOf, shared_pieces}
-use Rattle.mob_span.specs.Pieces.{piece_at}
-use Rattle.mob_span.specs.Sets.{in_some}
-use Rattle.mob_span.proofs.MeetLaws.{meets_at, meets_hold, HoldsBoth, sides}
+use Rattle.mob_span.{specs.Span.{SpanOf}, specs.Meets.{PieceOf, shared_pieces}, specs.Pieces.{piece_at}, specs.Sets.{in_some}, proofs.MeetLaws.{meets_at, meets_hold, HoldsBoth, sides}}
 use Rattle.mob_span.proofs.Sharing.{is_there, there}
-use Rattle.mob_slice.specs.Slices.{IsSound, IsOrdered, value_at}
-use Rattle.mob_slice.specs.Parts.{HoldsMet}
-use Rattle.mob_slice.specs.Operands.{map_both}
-use Rattle.mob_slice.specs.Look.{IsLookFault}
-use Rattle.mob_slice.specs.Cut.{slice_value, slice_parts}
-use Rattle.mob_slice.specs.Sides.{at_ends, HasValues}
-use Rattle.mob_list.specs.Faults.{OnCause}
-use Rattle.mob_slice.specs.Entries.{IsFirst, IsJudged}
-use Rattle.mob_slice.specs.declared.slice.Slice.{Slice}
-use Rattle.mob_slice.specs.declared.formula.Formula.{Formula}
-use Rattle.mob_list.specs.declared.fault.Fault.{Fault}
-use Rattle.mob_list.specs.declared.fault.Fault.TheVariants.{Because, NoMemory}
-use Rattle.mob_slice.proofs.LookUps.{value_by}
-use Rattle.mob_slice.proofs.Orders.{all_sound}
-use Rattle.mob_slice.proofs.Yielded.{drained}
-use Rattle.mob_lifted.specs.Piecewise.{IsPiecewise, IsFirstFailure}
-use Rattle.mob_lift.specs.Given.{AreOn, IsGiven}
-use Rattle.mob_lift.proofs.OnPieces.{one_on}
-use Rattle.mob_lift.proofs.PieceLaws.{map_at, twice, both_map}
-use Rattle.mob_lift.proofs.Pointwise.{mapped_at}
-use Rattle.mob_lift.proofs.Judged.{judged}
+use Rattle.mob_slice.{specs.Slices.{IsSound, IsRisingInTime, value_at}, specs.Parts.{HoldsMet}, specs.Operands.{map_both}, specs.Look.{IsLookFault}, specs.Cut.{slice_value, slice_parts}}
+use Rattle.mob_slice.{specs.Sides.{at_ends, HasValues}, specs.Entries.{IsFirst, IsJudged}, specs.declared.slice.Slice.{Slice}, specs.declared.formula.Formula.{Formula}}
+use Rattle.mob_slice.{specs.Piecewise.{IsPiecewise, IsFirstFailure}, proofs.LookUps.{value_by}, proofs.Orders.{all_sound}, proofs.Yielded.{drained}}
+use Rattle.mob_list.{specs.Faults.{OnCause}, specs.declared.fault.Fault.{Fault}, specs.declared.fault.Fault.TheVariants.{Because, NoMemory}}
+use Rattle.mob_lift.{specs.Given.{AreOn, IsGiven}, proofs.OnPieces.{one_on}, proofs.PieceLaws.{map_at, twice, both_map}, proofs.Pointwise.{mapped_at}, proofs.Judged.{judged}}
 use Rattle.mob_cells.specs.Restricted.{where_wanted, AreRestricted}
 use Rattle.mob_restrict.specs.Cuts.{entry_of_cut}
 
@@ -51,7 +28,7 @@ all_units [] = tt
 all_units (r ∷ rs) = (tt, all_units rs)
 
 -- the slices of the pieces contain them
-pub met_hold : {C B : Type 0} (start end : C → B) (v : List (Slice C)) (spans : List SpanOf) → IsOrdered start end v → AllByRecursion (HoldsMet start end) (shared_pieces (λ s. s.span) (λ r. r) v spans)
+pub met_hold : {C B : Type 0} (start end : C → B) (v : List (Slice C)) (spans : List SpanOf) → IsRisingInTime start end v → AllByRecursion (HoldsMet start end) (shared_pieces (λ s. s.span) (λ r. r) v spans)
 met_hold {C} start end v spans h = firsts (shared_pieces (λ s. s.span) (λ r. r) v spans) (meets_hold (λ s. s.span) (λ r. r) (IsSound start end) (λ r. Unit {0}) v spans (all_sound start end v h) (all_units spans))
   where
     firsts : (ps : List (PieceOf (Slice C) SpanOf)) → AllByRecursion (HoldsBoth (λ s. s.span) (λ r. r) (IsSound start end) (λ r. Unit {0})) ps → AllByRecursion (HoldsMet start end) ps

@@ -1,15 +1,9 @@
 -- Worked examples of the definitions. Each holds by computing.
-use Rattle.std.specs.Prelude.{◌≡◌, true, false, pos, [], ◌∷◌, Some, None, refl}
-use Rattle.std.specs.List.{flat_map}
-use Rattle.mob_ratio.specs.Gcd.{gcd, gcd_steps}
-use Rattle.mob_ratio.specs.Lowest.{in_lowest_terms}
-use Rattle.mob_ratio.specs.Ratio.{Ratio, over, whole, turned, inverse, ◌+ℚ◌, ◌*ℚ◌, neg_ℚ}
-use Rattle.mob_ratio.specs.Order.{before, same}
+use Rattle.std.{specs.Prelude.{◌≡◌, true, false, pos, [], ◌∷◌, Some, None, refl}, specs.List.{flat_map}}
+use Rattle.mob_ratio.{specs.Gcd.{gcd, gcd_steps}, specs.Lowest.{in_lowest_terms}, specs.Ratio.{Ratio, over, whole, turned, inverse, ◌+ℚ◌, ◌*ℚ◌, neg_ℚ}, specs.Order.{before, same}}
 use Rattle.mob_frac.specs.Formula.{line_parts}
-use Rattle.mob_span.specs.Span.{SpanOf}
-use Rattle.mob_span.specs.Meets.{shared_pieces}
-use Rattle.mob_slice.specs.declared.slice.Slice.{Slice}
-use Rattle.mob_slice.specs.declared.formula.Formula.TheVariants.{F1}
+use Rattle.mob_span.{specs.Span.{SpanOf}, specs.Meets.{shared_pieces}}
+use Rattle.mob_slice.{specs.declared.slice.Slice.{Slice}, specs.declared.formula.Formula.TheVariants.{F1}}
 use Rattle.mob_cells.specs.Restricted.{where_wanted}
 use Rattle.mob_restrict.specs.Cuts.{entry_of_cut}
 

@@ -1,31 +1,17 @@
 -- Restrictions, and the instants and coordinates of a value, are one value.
-use Rattle.std.proofs.Common.{◌≡◌, Bool, List, Option, Some, None, MatchOption, sym, ap, ◌∙◌, option_map}
-use Rattle.std.specs.Prelude.{is_some}
-use Rattle.mob_normal.proofs.Unique.{OneList}
-use Rattle.mob_ratio.specs.Ratio.{Ratio}
-use Rattle.mob_ratio.specs.Order.{same}
-use Rattle.mob_ratio.proofs.Order.{same_exact}
-use Rattle.mob_span.specs.Flags.{same_bool, same_bool_exact}
-use Rattle.mob_slice.specs.CourseOf.{CourseOf, steady_course, line_course, plane_course}
-use Rattle.mob_slice.specs.Sameness.{same_bytes, same_bytes_exact}
-use Rattle.mob_slice.specs.Slices.{value_at}
-use Rattle.mob_slice.specs.declared.slice.Slice.{Slice}
+use Rattle.std.{specs.Prelude.{is_some}, proofs.Common.{◌≡◌, Bool, List, Option, Some, None, MatchOption, sym, ap, ◌∙◌, option_map}}
+use Rattle.mob_lift.{proofs.Unique.{OneList}, proofs.ByCourse.{one_of_points, one_of_lines, one_of_steps}}
+use Rattle.mob_ratio.{specs.Ratio.{Ratio}, specs.Order.{same}, proofs.Order.{same_exact}}
+use Rattle.mob_span.{specs.Flags.{same_bool, same_bool_exact}, specs.Sets.{in_some}, specs.Span.{SpanOf}}
+use Rattle.mob_slice.{specs.CourseOf.{CourseOf, steady_course, line_course, plane_course}, specs.Sameness.{same_bytes, same_bytes_exact}, specs.Slices.{value_at}, specs.declared.slice.Slice.{Slice}}
+use Rattle.mob_slice.{specs.LineComparison.{point_relates, number_relates}, specs.declared.comparison.Rel.TheVariants.{Eq}}
 use Rattle.mob_value.specs.declared.value.Value.{Value}
 use Rattle.mob_value.specs.declared.value.Value.TheVariants.{MovingBool, MovingInt, MovingFrac, MovingText, Bool as Truth, Number, Text, Point, MovingPoint, Null, SpanSet}
-use Rattle.mob_value.specs.Moving.{OverTime, line_function, step_function, plane_function}
-use Rattle.mob_slice.specs.LineComparison.{point_relates, number_relates}
-use Rattle.mob_value.specs.Relations.{text_relates, truth_relates}
-use Rattle.mob_span.specs.Sets.{in_some}
-use Rattle.mob_span.specs.Span.{SpanOf}
-use Rattle.mob_cells.specs.Restricted.{where_wanted}
-use Rattle.mob_slice.specs.declared.comparison.Rel.TheVariants.{Eq}
-use Rattle.mob_plane.specs.declared.point.Point.{Point as PointOf}
-use Rattle.mob_normal.proofs.ByCourse.{one_of_points, one_of_lines, one_of_steps}
-use Rattle.mob_value.proofs.OneValue.{or_null_once, function_once, Once}
+use Rattle.mob_value.{specs.Moving.{OverTime, line_function, step_function, plane_function}, specs.Relations.{text_relates, truth_relates}, proofs.OneValue.{or_null_once, function_once, Once}}
 use Rattle.mob_value.proofs.OneTime.{instants_once}
-use Rattle.mob_restrict.specs.Sql.ByValue.{IsWhere, IsValueRestriction}
-use Rattle.mob_restrict.specs.Sql.Times.{IsRestrictionOf, IsRestriction, IsTimeOf, IsDefinedTime}
-use Rattle.mob_restrict.specs.Sql.Coordinates.{IsCoordinate}
+use Rattle.mob_cells.specs.Restricted.{where_wanted}
+use Rattle.mob_plane.specs.declared.point.Point.{Point as PointOf}
+use Rattle.mob_restrict.{specs.Sql.ByValue.{IsWhere, IsValueRestriction}, specs.Sql.Times.{IsRestrictionOf, IsRestriction, IsTimeOf, IsDefinedTime}, specs.Sql.Coordinates.{IsCoordinate}}
 
 -- the restriction of slices is one value
 restriction_of_once : {C B : Type 0} (course : CourseOf C B) → OneList course → (make : List (Slice C) → Value) (want : Bool) (spans : List SpanOf) (slices : List (Slice C)) → Once (IsRestrictionOf course make want spans slices)

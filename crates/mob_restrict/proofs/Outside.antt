@@ -1,32 +1,13 @@
 -- A temporal value at the instants that are not in a set, by the remainders of its time.
-use Rattle.std.specs.Prelude.{◌≡◌, ◌⊎◌, Bool, true, false, cond, ◌&&◌, not, List, [], ◌∷◌, ◌++◌, map, Option, Some, None, Result, Ok, Err, refl}
-use Rattle.std.specs.List.{flat_map, filter, AllByRecursion}
+use Rattle.std.{specs.Prelude.{◌≡◌, ◌⊎◌, Bool, true, false, cond, ◌&&◌, not, List, [], ◌∷◌, ◌++◌, map, Option, Some, None, Result, Ok, Err, refl}, specs.List.{flat_map, filter, AllByRecursion}}
 use Rattle.std.proofs.Common.{ap, sym, ◌∙◌, subst, inl, inr, ⊎_elim, true≢false}
 use Rattle.mob_ratio.specs.Ratio.{Ratio}
-use Rattle.mob_frac.specs.Formula.{AllFit}
-use Rattle.mob_frac.proofs.Fits.{fits_or}
-use Rattle.mob_span.specs.Span.{SpanOf, has, has_instant}
-use Rattle.mob_span.specs.Neighbours.{is_inside}
-use Rattle.mob_span.specs.Meet.{meet_of}
-use Rattle.mob_span.specs.Meets.{PieceOf, shared_pieces}
-use Rattle.mob_span.specs.Sets.{in_some, IsSpanSet}
-use Rattle.mob_span.specs.Remainders.{AreRemainders, remainders_of}
-use Rattle.mob_span.proofs.Insides.{inside_has}
-use Rattle.mob_span.proofs.Shared.{row}
-use Rattle.mob_span.proofs.Leaving.{set_clear}
-use Rattle.mob_span.proofs.RemainderEnds.{remainders_cut, spans_cut}
-use Rattle.mob_slice.specs.Course.{IsCourse}
-use Rattle.mob_slice.specs.Slices.{value_at}
-use Rattle.mob_slice.specs.Sides.{at_ends}
-use Rattle.mob_slice.specs.Cut.{slice_parts}
-use Rattle.mob_slice.specs.Entries.{IsFirst, IsJudged}
-use Rattle.mob_slice.specs.declared.slice.Slice.{Slice}
-use Rattle.mob_slice.specs.declared.formula.Formula.{Formula}
-use Rattle.mob_slice.specs.declared.formula.Formula.TheVariants.{F1}
-use Rattle.mob_list.specs.declared.fault.Fault.{Fault}
-use Rattle.mob_list.specs.declared.fault.Fault.TheVariants.{Because, NoMemory}
-use Rattle.mob_slice.proofs.Cuts.{all_both, all_first, all_second}
-use Rattle.mob_lifted.proofs.Options.{none_some}
+use Rattle.mob_frac.{specs.Formula.{AllFit}, proofs.Fits.{fits_or}}
+use Rattle.mob_span.{specs.Span.{SpanOf, has, has_instant}, specs.Neighbours.{is_inside}, specs.Meet.{meet_of}, specs.Meets.{PieceOf, shared_pieces}, specs.Sets.{in_some, IsSpanSet}}
+use Rattle.mob_span.{specs.Remainders.{AreRemainders, remainders_of}, proofs.Insides.{inside_has}, proofs.Shared.{row}, proofs.Leaving.{set_clear}, proofs.RemainderEnds.{remainders_cut, spans_cut}}
+use Rattle.mob_slice.{specs.Course.{IsCourse}, specs.Slices.{value_at}, specs.Sides.{at_ends}, specs.Cut.{slice_parts}, specs.Entries.{IsFirst, IsJudged}, specs.declared.slice.Slice.{Slice}}
+use Rattle.mob_slice.{specs.declared.formula.Formula.{Formula}, specs.declared.formula.Formula.TheVariants.{F1}, proofs.Cuts.{all_both, all_first, all_second}, proofs.Options.{none_some}}
+use Rattle.mob_list.{specs.declared.fault.Fault.{Fault}, specs.declared.fault.Fault.TheVariants.{Because, NoMemory}}
 use Rattle.mob_cells.specs.Restricted.{where_wanted, AreRestricted}
 use Rattle.mob_restrict.specs.Cuts.{entry_of_cut}
 

@@ -1,12 +1,9 @@
 -- The instants at which a temporal value is defined.
-use Rattle.std.specs.Prelude.{◌≡◌, Bool, true, false, cond, ◌||◌, Some, List, [], ◌∷◌, ◌++◌, map, refl, ℕ, ◌≤◌, length, is_some}
-use Rattle.std.proofs.Common.{ap, sym, ◌∙◌, append-nil, drop}
+use Rattle.std.{specs.Prelude.{◌≡◌, Bool, true, false, cond, ◌||◌, Some, List, [], ◌∷◌, ◌++◌, map, refl, ℕ, ◌≤◌, length, is_some}, proofs.Common.{ap, sym, ◌∙◌, append-nil, drop}}
 use Rattle.std.proofs.lemmas.List.{drop_all}
 use Rattle.mob_ratio.specs.Ratio.{Ratio}
-use Rattle.mob_span.specs.Span.{SpanOf, has}
-use Rattle.mob_span.specs.Sets.{in_some}
-use Rattle.mob_slice.specs.Slices.{value_at}
-use Rattle.mob_slice.specs.declared.slice.Slice.{Slice}
+use Rattle.mob_span.{specs.Span.{SpanOf, has}, specs.Sets.{in_some}}
+use Rattle.mob_slice.{specs.Slices.{value_at}, specs.declared.slice.Slice.{Slice}}
 
 -- the spans of a list of slices
 abbrev pub spans_of : {C : Type 0} → List (Slice C) → List SpanOf

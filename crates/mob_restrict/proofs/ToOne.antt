@@ -1,38 +1,17 @@
 -- The restriction of a slice to one value.
-use Rattle.std.specs.Prelude.{◌≡◌, Bool, true, false, cond, List, [], ◌∷◌, ◌++◌, Some, None, Result, Ok, Err, MatchResult, refl}
-use Rattle.std.specs.List.{AllByRecursion}
+use Rattle.std.{specs.Prelude.{◌≡◌, Bool, true, false, cond, List, [], ◌∷◌, ◌++◌, Some, None, Result, Ok, Err, MatchResult, refl}, specs.List.{AllByRecursion}}
 use Rattle.std.proofs.Common.{ap, sym, ◌∙◌, subst, inl, inr}
 use Rattle.mob_ratio.specs.Ratio.{Ratio}
 use Rattle.mob_frac.specs.Formula.{AllFit}
 use Rattle.mob_span.specs.Flags.{same_bool}
-use Rattle.mob_slice.specs.declared.formula.Formula.TheVariants.{F2}
-use Rattle.mob_slice.specs.Course.{IsCourse}
-use Rattle.mob_slice.specs.Slices.{IsSound}
-use Rattle.mob_slice.specs.Comparison.{IsComparison, gap_parts}
-use Rattle.mob_slice.specs.Look.{IsLookFault}
-use Rattle.mob_slice.specs.Cut.{slice_value, slice_parts}
-use Rattle.mob_slice.specs.Sides.{at_ends, HasValues}
-use Rattle.mob_list.specs.Faults.{OnCause}
-use Rattle.mob_slice.specs.Entries.{IsFirst, IsPartFault}
-use Rattle.mob_slice.specs.declared.slice.Slice.{Slice}
-use Rattle.mob_slice.specs.declared.comparison.Rel.{Rel}
-use Rattle.mob_slice.specs.declared.comparison.Rel.TheVariants.{Eq}
-use Rattle.mob_slice.specs.declared.comparison.Gaps.{Gaps}
-use Rattle.mob_slice.specs.declared.comparison.Gaps.TheVariants.{Constant}
-use Rattle.mob_list.specs.declared.fault.Fault.{Fault}
-use Rattle.mob_list.specs.declared.fault.Fault.TheVariants.{Because, NoMemory}
-use Rattle.mob_cells.specs.declared.linear.Ends.{Ends}
-use Rattle.mob_cells.specs.Roots.{IsLevel}
-use Rattle.mob_cells.specs.Cells.{signs_of}
-use Rattle.mob_lifted.specs.OnPiece.{AreKeptOn, IsKeptBy}
-use Rattle.mob_cells.specs.Kept.{entries_of_cuts}
-use Rattle.mob_cells.specs.Restricted.{kept_value}
-use Rattle.mob_cells.specs.Gaps.{gap_ends, related_by}
-use Rattle.mob_cells.proofs.GapSigns.{by_gaps, no_gaps, gaps_level}
-use Rattle.mob_lifted.proofs.OnOnePiece.{kept_behind, one_kept}
-use Rattle.mob_cells.proofs.OwnEnds.{own_fit, start_value, end_value}
+use Rattle.mob_slice.{specs.declared.formula.Formula.TheVariants.{F2}, specs.Course.{IsCourse}, specs.Slices.{IsSound}, specs.Comparison.{IsComparison, gap_parts}, specs.Look.{IsLookFault}}
+use Rattle.mob_slice.{specs.Cut.{slice_value, slice_parts}, specs.Sides.{at_ends, HasValues}, specs.Entries.{IsFirst, IsPartFault}, specs.declared.slice.Slice.{Slice}}
+use Rattle.mob_slice.{specs.declared.comparison.Rel.{Rel}, specs.declared.comparison.Rel.TheVariants.{Eq}, specs.declared.comparison.Gaps.{Gaps}, specs.declared.comparison.Gaps.TheVariants.{Constant}}
+use Rattle.mob_slice.{specs.OnPiece.{AreKeptOn, IsKeptBy}, specs.declared.formula.Formula.{Formula}, proofs.OnOnePiece.{kept_behind, one_kept}}
+use Rattle.mob_list.{specs.Faults.{OnCause}, specs.declared.fault.Fault.{Fault}, specs.declared.fault.Fault.TheVariants.{Because, NoMemory}}
+use Rattle.mob_cells.{specs.declared.linear.Ends.{Ends}, specs.Roots.{IsLevel}, specs.Cells.{signs_of}, specs.Kept.{entries_of_cuts}, specs.Restricted.{kept_value}, specs.Gaps.{gap_ends, related_by}}
+use Rattle.mob_cells.{proofs.GapSigns.{by_gaps, no_gaps, gaps_level}, proofs.OwnEnds.{own_fit, start_value, end_value}}
 use Rattle.mob_restrict.specs.Values.{entries_of_value, slice_gaps}
-use Rattle.mob_slice.specs.declared.formula.Formula.{Formula}
 
 module _ {C B : Type 0} {steady copies : Bool} {value : C → Ratio → Ratio → Ratio → B} {start end : C → B} {can_make : B → B → Type 0} {make : B → B → C} {continues : C → C → Ratio → Ratio → Ratio → Bool} {parts : C → Ratio → Ratio → Ratio → List Ratio} (laws : IsCourse steady copies value start end can_make make continues parts)
     {relation : Rel → B → B → Bool} {gaps : B → B → Gaps} {ordered : Bool} (comparison : IsComparison steady ordered value start end relation gaps) (s : Slice C) (sound : IsSound start end s) (x : B) where

@@ -1,11 +1,8 @@
 -- The coordinates of a moving point, as numbers that change linearly.
 use Rattle.mob_ratio.specs.Ratio.{Ratio}
 use Rattle.mob_plane.specs.declared.point.Point.{Point}
-use Rattle.mob_slice.specs.declared.line.Line.{Line}
-use Rattle.mob_slice.specs.declared.line.PlaneLine.{PlaneLine}
-use Rattle.mob_slice.specs.declared.slice.Slice.{Slice}
-use Rattle.mob_restrict.specs.declared.coordinates.Axis.{Axis}
-use Rattle.mob_restrict.specs.declared.coordinates.Axis.TheVariants.{X, Y}
+use Rattle.mob_slice.{specs.declared.line.Line.{Line}, specs.declared.line.PlaneLine.{PlaneLine}, specs.declared.slice.Slice.{Slice}}
+use Rattle.mob_restrict.{specs.declared.coordinates.Axis.{Axis}, specs.declared.coordinates.Axis.TheVariants.{X, Y}}
 
 -- the coordinate of a point on that axis
 abbrev pub coordinate_of : Axis → Point → Ratio

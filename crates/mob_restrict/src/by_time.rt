@@ -12,9 +12,9 @@ ghost use Rattle.mob_lift.specs.Given.{IsGiven};
 ghost use Rattle.mob_cells.specs.Restricted.{IsRestricted, AreRestricted};
 ghost use Rattle.mob_restrict.specs.Cuts.{entry_of_cut};
 
+use mob_lift::normal::normal;
 use mob_lift::{lift, listed};
 use mob_list::fault::Fault;
-use mob_normal::normal;
 use mob_slice::{Course, Formula, Moving, Slice, cut};
 use mob_span::{Met, SharedPieces, Span, SpanSet, remainders, whole};
 use std::alloc::Global;

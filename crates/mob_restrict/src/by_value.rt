@@ -10,8 +10,8 @@ ghost use Rattle.mob_restrict.specs.Values.{entries_of_value};
 
 use mob_cells::{ByGaps, Restriction, gap_functions, kept, restricted};
 use mob_lift::listed;
+use mob_lift::normal::normal;
 use mob_list::fault::Fault;
-use mob_normal::normal;
 use mob_slice::{Compared, Course, Formula, Moving, Rel, Slice, cut};
 use mob_span::same_bool;
 use std::alloc::Global;

@@ -6,7 +6,7 @@ ghost use Rattle.mob_slice.specs.Slices.{value_at};
 ghost use Rattle.mob_restrict.specs.Coordinates.{coordinate_of, coordinate_line};
 
 use mob_frac::Frac;
-use mob_normal::normal;
+use mob_lift::normal::normal;
 use mob_plane::Point;
 use mob_slice::{Line, Moving, PlaneLine, Slice};
 use std::alloc::{AllocError, Global};

@@ -1,16 +1,9 @@
 -- Signs, and the root.
-use Rattle.std.specs.Prelude.{◌≡◌, Bool, true, false, [], ◌∷◌, Result, pos, refl}
-use Rattle.std.proofs.Common.{ap, sym, ◌∙◌, subst, inl, inr}
+use Rattle.std.{specs.Prelude.{◌≡◌, Bool, true, false, [], ◌∷◌, Result, pos, refl}, specs.declared.cmp.Ordering.TheVariants.{Less, Equal, Greater}, proofs.Common.{ap, sym, ◌∙◌, subst, inl, inr}}
 use Rattle.std.proofs.lemmas.Bool.{false_from_ne_true}
-use Rattle.std.specs.declared.cmp.Ordering.TheVariants.{Less, Equal, Greater}
-use Rattle.mob_ratio.specs.Ratio.{Ratio, whole, ◌+ℚ◌, ◌-ℚ◌, ◌*ℚ◌, ◌/ℚ◌, ◌<ℚ◌}
-use Rattle.mob_ratio.specs.Order.{before}
-use Rattle.mob_ratio.specs.Sign.{nil, opposite, root_at, sign_of}
-use Rattle.mob_ratio.proofs.Order.{before-trans, before-neither, before-lt, lt-before}
-use Rattle.mob_ratio.proofs.Signs.{opposite_cases, sign_below, sign_above, sign_nil, ne_by, ne_by'}
-use Rattle.mob_frac.specs.Fits.{Fits, IsExact}
-use Rattle.mob_frac.specs.Formula.{IsFormula, inner_root_parts}
-use Rattle.mob_frac.proofs.PartsOfLines.{last_part}
+use Rattle.mob_ratio.{specs.Ratio.{Ratio, whole, ◌+ℚ◌, ◌-ℚ◌, ◌*ℚ◌, ◌/ℚ◌, ◌<ℚ◌}, specs.Order.{before}, specs.Sign.{nil, opposite, root_at, sign_of}}
+use Rattle.mob_ratio.{proofs.Order.{before-trans, before-neither, before-lt, lt-before}, proofs.Signs.{opposite_cases, sign_below, sign_above, sign_nil, ne_by, ne_by'}}
+use Rattle.mob_frac.{specs.Fits.{Fits, IsExact}, specs.Formula.{IsFormula, inner_root_parts}, proofs.PartsOfLines.{last_part}}
 
 pub opposite_differ : (f0 f1 : Ratio) → opposite f0 f1 ≡ true → f0 -ℚ f1 ≡ nil → ⊥
 opposite_differ f0 f1 h e = elim (opposite_cases f0 f1 h) [ inl k ↦ ne_by f0 f1 (before-trans f0 nil f1 k.0 k.1) e | inr k ↦ ne_by' f0 f1 (before-trans f1 nil f0 k.1 k.0) e ]

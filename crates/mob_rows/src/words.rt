@@ -1,7 +1,7 @@
 //! The settings that arguments give. Which arguments are refused is in `checks/rows`.
 
 use crate::ends::listed;
-use mob_words::settings;
+use mob_arguments::settings;
 use std::alloc::Global;
 
 // Arguments, and what they give: the workers, the day of the epoch, the ships of the demo, and

@@ -1,11 +1,7 @@
 -- From the nodes to what a contract sees of them.
-use Rattle.std.proofs.Common.{◌≡◌, refl, suc, ◌<◌, List, [], ◌∷◌, ◌++◌, length, map, arith, ap, sym, ◌∙◌, inl, inr}
-use Rattle.std.specs.Prelude.{All}
-use Rattle.std.proofs.lemmas.List.Concat.{flat_map-cons}
+use Rattle.std.{specs.Prelude.{All}, proofs.Common.{◌≡◌, refl, suc, ◌<◌, List, [], ◌∷◌, ◌++◌, length, map, arith, ap, sym, ◌∙◌, inl, inr}, proofs.lemmas.List.Concat.{flat_map-cons}}
 use Rattle.std.proofs.lemmas.List.Elements.{All-head, All-tail, All-cons, All-nil}
-use Rattle.mob_rtree_nodes.specs.Tree.{IsSoundNode, IsReused, AreLive, IsTree, Ref, areas_list, if_live_list}
-use Rattle.mob_rtree_nodes.specs.Reach.{Branch, branch_of}
-use Rattle.mob_rtree_nodes.specs.declared.node.TreeNode.{TreeNode}
+use Rattle.mob_rtree_nodes.{specs.Tree.{IsSoundNode, IsReused, AreLive, IsTree, Ref, areas_list, if_live_list}, specs.Reach.{Branch, branch_of}, specs.declared.node.TreeNode.{TreeNode}}
 use Rattle.mob_rtree.specs.Shape.{AreUsedAgain, HasLeastBox, boxes_of}
 
 sizes : (ps : List TreeNode) → length (map branch_of ps) ≡ length ps

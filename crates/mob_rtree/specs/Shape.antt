@@ -1,8 +1,7 @@
 -- What a contract sees of an R-tree.
 use Rattle.std.specs.Prelude.{◌≡◌, ◌⊎◌, ◌<◌, ℕ, true, List, All, Option, length, flat_map}
 use Rattle.mob_stbox.specs.Boxes.{BoxOf, contains}
-use Rattle.mob_rtree_nodes.specs.Tree.{EntryOf, IsLeastOver, if_live_list}
-use Rattle.mob_rtree_nodes.specs.Reach.{Branch}
+use Rattle.mob_rtree_nodes.{specs.Tree.{EntryOf, IsLeastOver, if_live_list}, specs.Reach.{Branch}}
 
 -- the entries, in any order; the boxes of the nodes that have children; for how many more entries
 -- there is memory; the nodes by their numbers, with the dropped ones, which have no children; and

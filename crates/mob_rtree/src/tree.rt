@@ -8,11 +8,11 @@ ghost use Rattle.mob_rtree_nodes.specs.Ids.{without_ids};
 ghost use Rattle.mob_rtree_nodes.specs.Reach.{HaveOneDepth, IsReachedNode, IsSpread, children, entries_under};
 ghost use Rattle.mob_rtree.specs.Shape.{Shape, IsAsBefore, AreUsedAgain, HasLeastBox, boxes_of};
 
+use mob_list::steps::Steps;
 use mob_rtree_nodes::node::{Child, Root, TreeNode};
 use mob_rtree_nodes::remove::Removed;
 use mob_rtree_nodes::whole::{gather, put_any, raise_entries, take_entry, take_ids};
 use mob_stbox::StBox;
-use mob_steps::Steps;
 use std::alloc::{AllocError, Global};
 use std::marker::Model;
 use std::sync::ledger::Ledger;

@@ -1,18 +1,12 @@
 -- How sums over a forest change when a level is packed.
-use Rattle.std.proofs.Common.{◌≡◌, refl, ℕ, zero, suc, ◌+◌, ◌<◌, ◌≤◌, Bool, true, false, cond, not, ◌==◌, ◌&&◌, List, [], ◌∷◌, ◌++◌, length, map, arith, ap, sym, ◌∙◌, subst}
 use Rattle.std.specs.Prelude.{All, sum_by, count_by, Result, Ok, Err, OnOk, IfOk}
-use Rattle.std.proofs.lemmas.Bool.Decides.{nat_tests}
-use Rattle.std.proofs.lemmas.List.Sums.{sum_by-cons, sum_by-append}
+use Rattle.std.proofs.Common.{◌≡◌, refl, ℕ, zero, suc, ◌+◌, ◌<◌, ◌≤◌, Bool, true, false, cond, not, ◌==◌, ◌&&◌, List, [], ◌∷◌, ◌++◌, length, map, arith, ap, sym, ◌∙◌, subst}
+use Rattle.std.{proofs.lemmas.Bool.Decides.{nat_tests}, proofs.lemmas.List.Sums.{sum_by-cons, sum_by-append}}
 use Rattle.std.proofs.lemmas.List.Elements.{All-head, All-tail, All-append, All-cons, All-nil, All-weaker}
 use Rattle.mob_stbox.specs.Boxes.{is_whole}
 use Rattle.mob_rtree_nodes.specs.Tree.{Kid, EntryOf, entry_of, target, Ref, IsSoundNode, AreLive, is_fit, nodes_sum, kids_sum, refs_sum, entries_sum, entries_list, AreSame}
-use Rattle.mob_rtree_nodes.specs.Builds.{kid_of, leaf_sum, IsForest, IsPacking, IsClosed}
-use Rattle.mob_rtree_nodes.specs.declared.node.Child.TheVariants.{Node}
-use Rattle.mob_rtree_nodes.specs.declared.node.TreeNode.{TreeNode}
-use Rattle.mob_rtree_nodes.proofs.Sums.{mapped_sum, live_is}
-use Rattle.mob_rtree_nodes.proofs.Walks.{kids_nil}
-use Rattle.mob_rtree_nodes.proofs.Inserts.{ref_of, links_of, leaf_of, leaf_nil, nodes_append, node_fit}
-use Rattle.mob_rtree_nodes.proofs.Roots.{entries_listed}
+use Rattle.mob_rtree_nodes.{specs.Builds.{kid_of, leaf_sum, IsForest, IsPacking, IsClosed}, specs.declared.node.Child.TheVariants.{Node}, specs.declared.node.TreeNode.{TreeNode}}
+use Rattle.mob_rtree_nodes.{proofs.Sums.{mapped_sum, live_is}, proofs.Walks.{kids_nil}, proofs.Inserts.{ref_of, links_of, leaf_of, leaf_nil, nodes_append, node_fit}, proofs.Roots.{entries_listed}}
 
 kids_push : (f : Ref → ℕ) (h : ℕ) (xs ys : List Kid) → kids_sum f h (xs ++ ys) ≡ kids_sum f h xs + kids_sum f h ys
 kids_push f zero xs ys = refl

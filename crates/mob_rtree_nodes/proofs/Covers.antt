@@ -1,16 +1,10 @@
 -- Boxes over many boxes, and reordered children.
+use Rattle.std.{specs.Prelude.{All, sum_by, count_by, IsPermutation}, specs.List.{refill, remove}}
 use Rattle.std.proofs.Common.{◌≡◌, refl, ℕ, zero, suc, ◌+◌, ◌<◌, ◌≤◌, Bool, true, false, cond, not, ◌&&◌, ◌==◌, List, [], ◌∷◌, ◌++◌, length, get_or, set, take, drop, arith, ap, sym, ◌∙◌}
-use Rattle.std.specs.Prelude.{All, sum_by, count_by, IsPermutation}
-use Rattle.std.proofs.lemmas.Bool.{true≢false}
-use Rattle.std.proofs.lemmas.Bool.Decides.{nat_tests}
-use Rattle.std.proofs.lemmas.List.Sums.{sum_by-cons, sum_by-remove, sum_by-set, sum_by-append, get_or-le-sum_by}
-use Rattle.std.specs.List.{refill, remove}
-use Rattle.std.proofs.lemmas.List.{length-set}
-use Rattle.std.proofs.lemmas.List.Elements.{All-more, All-weaker}
-use Rattle.std.proofs.lemmas.List.Sorted.{sum_by-IsPermutation, length_permutation}
-use Rattle.mob_stbox.specs.Boxes.{BoxOf, contains, cover, is_whole}
+use Rattle.std.{proofs.lemmas.Bool.{true≢false}, proofs.lemmas.Bool.Decides.{nat_tests}, proofs.lemmas.List.Sums.{sum_by-cons, sum_by-remove, sum_by-set, sum_by-append, get_or-le-sum_by}}
+use Rattle.std.{proofs.lemmas.List.{length-set}, proofs.lemmas.List.Elements.{All-more, All-weaker}, proofs.lemmas.List.Sorted.{sum_by-IsPermutation, length_permutation}}
+use Rattle.mob_stbox.{specs.Boxes.{BoxOf, contains, cover, is_whole}, proofs.BoxLaws.{cover_whole, cover_over_left, cover_over_right, cover_least, over_trans}}
 use Rattle.mob_rtree_nodes.specs.Tree.{Kid, IsLeastOver, is_fit, is_kind}
-use Rattle.mob_stbox.proofs.BoxLaws.{cover_whole, cover_over_left, cover_over_right, cover_least, over_trans}
 
 -- if no element fails a test, none of these does
 pub none_fails : {X : Type 0} (test : X → Bool) (xs : List X) (i : ℕ) (d : X) → count_by (λ x. not (test x)) xs ≡ 0 → i < length xs → test (get_or xs i d) ≡ true

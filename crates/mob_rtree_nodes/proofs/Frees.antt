@@ -1,14 +1,9 @@
 -- The numbers of dropped nodes.
-use Rattle.std.proofs.Common.{◌≡◌, refl, ℕ, zero, suc, ◌+◌, ◌<◌, ◌≤◌, Bool, true, false, cond, ◌==◌, List, [], ◌∷◌, ◌++◌, length, get_or, set, take, arith, ap, sym, ◌∙◌, subst, eq-eqb, inl, inr}
 use Rattle.std.specs.Prelude.{sum_by}
-use Rattle.std.proofs.lemmas.Bool.{cases_lt}
-use Rattle.std.proofs.lemmas.Bool.Decides.{nat_tests}
-use Rattle.std.proofs.lemmas.List.{length-set, length-take-le, take_more}
-use Rattle.std.proofs.lemmas.List.Sums.{sum_by-cons, sum_by-append}
+use Rattle.std.proofs.Common.{◌≡◌, refl, ℕ, zero, suc, ◌+◌, ◌<◌, ◌≤◌, Bool, true, false, cond, ◌==◌, List, [], ◌∷◌, ◌++◌, length, get_or, set, take, arith, ap, sym, ◌∙◌, subst, eq-eqb, inl, inr}
+use Rattle.std.{proofs.lemmas.Bool.{cases_lt}, proofs.lemmas.Bool.Decides.{nat_tests}, proofs.lemmas.List.{length-set, length-take-le, take_more}, proofs.lemmas.List.Sums.{sum_by-cons, sum_by-append}}
 use Rattle.std.proofs.lemmas.List.Elements.{All-head, All-tail, All-set, All-append, All-cons, All-nil}
-use Rattle.mob_rtree_nodes.specs.Tree.{Kid, if_dropped, dropped_sum, IsFree, AreLive, IsReused, kids_at}
-use Rattle.mob_rtree_nodes.specs.declared.node.TreeNode.{TreeNode}
-use Rattle.mob_rtree_nodes.proofs.Sums.{kids_of, node_at}
+use Rattle.mob_rtree_nodes.{specs.Tree.{Kid, if_dropped, dropped_sum, IsFree, AreLive, IsReused, kids_at}, specs.declared.node.TreeNode.{TreeNode}, proofs.Sums.{kids_of, node_at}}
 
 abbrev IsLive : TreeNode → Type 0
 IsLive p = 0 < length p.kids.items

@@ -1,20 +1,13 @@
 -- How sums over a tree change when one child is added.
-use Rattle.std.proofs.Common.{◌≡◌, refl, ℕ, zero, suc, ◌+◌, ◌<◌, ◌≤◌, Bool, true, false, cond, ◌==◌, ◌&&◌, List, [], ◌∷◌, ◌++◌, length, get_or, set, arith, ap, sym, ◌∙◌, subst, length-append, Option, Some, None, inl, inr}
-use Rattle.std.specs.Prelude.{MatchOption}
-use Rattle.std.specs.Prelude.{All, sum_by}
-use Rattle.std.proofs.lemmas.Bool.{ne_eqb}
-use Rattle.std.proofs.lemmas.List.{length-set, get_or-set_same, get_or-set_other, get_or_append_left, get_or_default}
-use Rattle.std.proofs.lemmas.List.Sums.{sum_by-cons, sum_by-append, sum_by-set}
-use Rattle.std.proofs.lemmas.List.Elements.{All-set, All-append, All-cons, All-nil, All-get_or}
-use Rattle.mob_rtree_nodes.specs.Tree.{Kid, EntryOf, entry_of, target, if_live, is_fit, Ref, IsTree, IsSoundNode, nodes_sum, kids_sum, refs_sum, entries_sum, kids_at, height_at, kids_of_more, IsPut, IsAttached, IsReplaced, IsGrown, more_sum, IsFree, IsReused}
-use Rattle.mob_rtree_nodes.specs.Builds.{leaf_sum}
-use Rattle.mob_rtree_nodes.specs.declared.node.TreeNode.{TreeNode}
-use Rattle.mob_rtree_nodes.specs.declared.insert.Grown.{Grown}
-use Rattle.mob_rtree_nodes.specs.declared.node.Child.TheVariants.{Node}
-use Rattle.mob_stbox.specs.Boxes.{BoxOf, is_whole}
-use Rattle.mob_rtree_nodes.proofs.Sums.{live_is, kids_of, height_of, node_at}
-use Rattle.mob_rtree_nodes.proofs.Frees.{free_set, reused_set}
+use Rattle.std.specs.Prelude.{MatchOption, All, sum_by}
+use Rattle.std.proofs.Common.{◌≡◌, refl, ℕ, zero, suc, ◌+◌, ◌<◌, ◌≤◌, Bool, true, false, cond, ◌==◌, ◌&&◌, List, [], ◌∷◌, ◌++◌, length, get_or, set, arith, ap, sym, ◌∙◌, subst, length-append, Option}
+use Rattle.std.{proofs.Common.{Some, None, inl, inr}, proofs.lemmas.Bool.{ne_eqb}, proofs.lemmas.List.{length-set, get_or-set_same, get_or-set_other, get_or_append_left, get_or_default}}
+use Rattle.std.{proofs.lemmas.List.Sums.{sum_by-cons, sum_by-append, sum_by-set}, proofs.lemmas.List.Elements.{All-set, All-append, All-cons, All-nil, All-get_or}}
+use Rattle.mob_rtree_nodes.specs.Tree.{Kid, EntryOf, entry_of, target, if_live, is_fit, Ref, IsTree, IsSoundNode, nodes_sum, kids_sum, refs_sum, entries_sum, kids_at, height_at, kids_of_more, IsPut}
+use Rattle.mob_rtree_nodes.{specs.Tree.{IsAttached, IsReplaced, IsGrown, more_sum, IsFree, IsReused}, specs.Builds.{leaf_sum}, specs.declared.node.TreeNode.{TreeNode}}
+use Rattle.mob_rtree_nodes.{specs.declared.insert.Grown.{Grown}, specs.declared.node.Child.TheVariants.{Node}, proofs.Sums.{live_is, kids_of, height_of, node_at}, proofs.Frees.{free_set, reused_set}}
 use Rattle.mob_rtree_nodes.proofs.Walks.{alive, kids_nil, tied_same, tied_height}
+use Rattle.mob_stbox.specs.Boxes.{BoxOf, is_whole}
 
 -- the reference to a node
 abbrev pub ref_of : TreeNode → ℕ → Ref

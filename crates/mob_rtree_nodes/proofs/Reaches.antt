@@ -1,21 +1,13 @@
 -- From the root each entry is reached as often as it occurs.
-use Rattle.std.proofs.Common.{◌≡◌, refl, ℕ, zero, suc, ◌+◌, ◌<◌, ◌≤◌, Bool, true, false, cond, List, [], ◌∷◌, ◌++◌, length, get_or, map, arith, ap, sym, ◌∙◌, subst, Option, Some, None}
 use Rattle.std.specs.Prelude.{All, sum_by, flat_map}
-use Rattle.std.proofs.lemmas.Bool.{true≢false}
-use Rattle.std.proofs.lemmas.List.{get_or_default}
-use Rattle.std.proofs.lemmas.List.Sums.{sum_by-cons, sum_by-append, get_or-le-sum_by}
-use Rattle.std.proofs.lemmas.List.Concat.{flat_map-cons, flat_map_single}
-use Rattle.std.proofs.lemmas.List.Elements.{All-head, All-tail, All-append, All-cons, All-nil}
-use Rattle.mob_stbox.specs.Boxes.{BoxOf, contains, is_whole}
-use Rattle.mob_stbox.proofs.BoxLaws.{over_self, over_trans, over_whole}
+use Rattle.std.proofs.Common.{◌≡◌, refl, ℕ, zero, suc, ◌+◌, ◌<◌, ◌≤◌, Bool, true, false, cond, List, [], ◌∷◌, ◌++◌, length, get_or, map, arith, ap, sym, ◌∙◌, subst, Option, Some, None}
+use Rattle.std.{proofs.lemmas.Bool.{true≢false}, proofs.lemmas.List.{get_or_default}, proofs.lemmas.List.Sums.{sum_by-cons, sum_by-append, get_or-le-sum_by}}
+use Rattle.std.{proofs.lemmas.List.Concat.{flat_map-cons, flat_map_single}, proofs.lemmas.List.Elements.{All-head, All-tail, All-append, All-cons, All-nil}}
+use Rattle.mob_stbox.{specs.Boxes.{BoxOf, contains, is_whole}, proofs.BoxLaws.{over_self, over_trans, over_whole}}
 use Rattle.mob_rtree_nodes.specs.Tree.{Kid, EntryOf, entry_of, target, Ref, IsTree, IsSoundNode, entries_list, kids_at, height_at, walk_sum, is_fit, is_kind, AreSame, IsLeastOver}
-use Rattle.mob_rtree_nodes.specs.Reach.{Branch, branch_of, root_number, children, branch_height, gathered, entries_under, entries_below, StandsAtDepth, IsReachedNode, is_root, is_child, IsLeaf, HaveOneDepth, IsSpread}
-use Rattle.mob_rtree_nodes.specs.declared.node.Child.{Child}
-use Rattle.mob_rtree_nodes.specs.declared.node.Child.TheVariants.{Node, Entry}
-use Rattle.mob_rtree_nodes.specs.declared.node.TreeNode.{TreeNode}
-use Rattle.mob_rtree_nodes.proofs.Sums.{mapped_sum, kids_of, height_of, node_at, sound_at}
-use Rattle.mob_rtree_nodes.proofs.Covers.{none_fails, right_true}
-use Rattle.mob_rtree_nodes.proofs.Walks.{tied_same, tied_height, alive}
+use Rattle.mob_rtree_nodes.specs.Reach.{Branch, branch_of, root_number, children, branch_height, gathered, entries_under, entries_below, StandsAtDepth, IsReachedNode, is_root, is_child, IsLeaf}
+use Rattle.mob_rtree_nodes.{specs.Reach.{HaveOneDepth, IsSpread}, specs.declared.node.Child.{Child}, specs.declared.node.Child.TheVariants.{Node, Entry}, specs.declared.node.TreeNode.{TreeNode}}
+use Rattle.mob_rtree_nodes.{proofs.Sums.{mapped_sum, kids_of, height_of, node_at, sound_at}, proofs.Covers.{none_fails, right_true}, proofs.Walks.{tied_same, tied_height, alive}}
 use Rattle.mob_rtree_nodes.proofs.Roots.{root_there, root_height, root_alive, walk_entries}
 
 pub children_is : (ps : List TreeNode) (n : ℕ) → children (map branch_of ps) n ≡ kids_at ps n

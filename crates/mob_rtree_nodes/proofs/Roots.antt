@@ -1,21 +1,14 @@
 -- The root, and the contents of the whole tree.
-use Rattle.std.proofs.Common.{◌≡◌, refl, ℕ, suc, ◌+◌, ◌<◌, ◌≤◌, Bool, true, false, cond, not, ◌==◌, ◌&&◌, List, [], ◌∷◌, length, get_or, map, arith, ap, sym, ◌∙◌, subst, Some, None, eq-eqb, inl, inr}
 use Rattle.std.specs.Prelude.{MatchOption, All, sum_by, count_by, nat_le}
-use Rattle.std.proofs.lemmas.Bool.{cases_lt, ne_eqb}
-use Rattle.std.proofs.lemmas.Bool.Decides.{nat_tests}
-use Rattle.std.proofs.lemmas.List.Sums.{sum_by-cons, sum_by-append}
-use Rattle.std.proofs.lemmas.List.Concat.{flat_map-cons}
+use Rattle.std.proofs.Common.{◌≡◌, refl, ℕ, suc, ◌+◌, ◌<◌, ◌≤◌, Bool, true, false, cond, not, ◌==◌, ◌&&◌, List, [], ◌∷◌, length, get_or, map, arith, ap, sym, ◌∙◌, subst, Some, None, eq-eqb, inl, inr}
+use Rattle.std.{proofs.lemmas.Bool.{cases_lt, ne_eqb}, proofs.lemmas.Bool.Decides.{nat_tests}, proofs.lemmas.List.Sums.{sum_by-cons, sum_by-append}, proofs.lemmas.List.Concat.{flat_map-cons}}
 use Rattle.std.proofs.lemmas.List.Elements.{All-head, All-tail, All-cons, All-nil, All-weaker}
-use Rattle.mob_stbox.specs.Boxes.{BoxOf, overlaps, contains, cover, is_whole}
-use Rattle.mob_rtree_nodes.specs.Tree.{areas_list, if_live_list, is_kind, GoesUp, Kid, EntryOf, entry_of, target, if_live, is_fit, Ref, IsTree, IsSoundNode, IsLeastOver, nodes_sum, kids_sum, refs_sum, entries_sum, entries_list, kids_at, height_at, IsGrown, more_sum, IsPut, walk_sum, AreFound, IsAdded}
-use Rattle.mob_rtree_nodes.specs.declared.node.TreeNode.{TreeNode}
-use Rattle.mob_rtree_nodes.specs.declared.node.Child.TheVariants.{Node}
-use Rattle.mob_rtree_nodes.specs.declared.insert.Grown.{Grown}
-use Rattle.mob_stbox.proofs.BoxLaws.{cover_whole, cover_over_left, cover_over_right, cover_least, over_self, over_overlaps}
-use Rattle.mob_rtree_nodes.proofs.Sums.{mapped_sum, live_le, live_some, live_is, live_zero, kids_of, height_of, node_at, nodes_none, nodes_one}
-use Rattle.mob_rtree_nodes.proofs.Covers.{left_true}
-use Rattle.mob_rtree_nodes.proofs.Walks.{one_same, self_is, cond_nil, walk_all, own_upto, entries_of}
-use Rattle.mob_rtree_nodes.proofs.Inserts.{node_fit, put_in, put_all, ref_of, links_of, leaf_of}
+use Rattle.mob_stbox.{specs.Boxes.{BoxOf, overlaps, contains, cover, is_whole}, proofs.BoxLaws.{cover_whole, cover_over_left, cover_over_right, cover_least, over_self, over_overlaps}}
+use Rattle.mob_rtree_nodes.specs.Tree.{areas_list, if_live_list, is_kind, GoesUp, Kid, EntryOf, entry_of, target, if_live, is_fit, Ref, IsTree, IsSoundNode, IsLeastOver, nodes_sum, kids_sum, refs_sum}
+use Rattle.mob_rtree_nodes.{specs.Tree.{entries_sum, entries_list, kids_at, height_at, IsGrown, more_sum, IsPut, walk_sum, AreFound, IsAdded}, specs.declared.node.TreeNode.{TreeNode}}
+use Rattle.mob_rtree_nodes.{specs.declared.node.Child.TheVariants.{Node}, specs.declared.insert.Grown.{Grown}}
+use Rattle.mob_rtree_nodes.{proofs.Sums.{mapped_sum, live_le, live_some, live_is, live_zero, kids_of, height_of, node_at, nodes_none, nodes_one}, proofs.Covers.{left_true}}
+use Rattle.mob_rtree_nodes.{proofs.Walks.{one_same, self_is, cond_nil, walk_all, own_upto, entries_of}, proofs.Inserts.{node_fit, put_in, put_all, ref_of, links_of, leaf_of}}
 
 -- the root exists
 pub root_there : (root : Ref) (ps : List TreeNode) → IsTree root ps → root.node < length ps

@@ -1,24 +1,15 @@
 -- Nodes are sifted level by level, and the contents of the whole tree then.
-use Rattle.std.proofs.Common.{◌≡◌, refl, ℕ, zero, suc, ◌+◌, ◌<◌, ◌≤◌, Bool, true, false, cond, not, ◌==◌, ◌&&◌, List, [], ◌∷◌, ◌++◌, length, get_or, set, take, arith, ap, sym, ◌∙◌, subst, ◌⊎◌, inl, inr, Option, Some, None}
-use Rattle.std.specs.Prelude.{All, sum_by, count_by, slice_get, option_and_then}
-use Rattle.std.specs.List.{cons_option, filter_map}
-use Rattle.std.proofs.lemmas.Bool.{cases_lt, ne_eqb, true≢false}
-use Rattle.std.proofs.lemmas.Bool.Decides.{eqb_tells}
-use Rattle.std.proofs.lemmas.List.{length-set, get_or-set_same, get_or-set_other, get_or_default, take_more}
-use Rattle.std.proofs.lemmas.List.Elements.{All-head, All-tail, All-get_or, filter_map-append}
-use Rattle.std.proofs.lemmas.List.Sums.{sum_by-cons}
-use Rattle.std.proofs.lemmas.Option.{get_or_from_slice_get, slice_get_read, slice_get_within}
+use Rattle.std.{specs.Prelude.{All, sum_by, count_by, slice_get, option_and_then}, specs.List.{cons_option, filter_map}}
+use Rattle.std.proofs.Common.{◌≡◌, refl, ℕ, zero, suc, ◌+◌, ◌<◌, ◌≤◌, Bool, true, false, cond, not, ◌==◌, ◌&&◌, List, [], ◌∷◌, ◌++◌, length, get_or, set, take, arith, ap, sym, ◌∙◌, subst, ◌⊎◌, inl}
+use Rattle.std.{proofs.Common.{inr, Option, Some, None}, proofs.lemmas.Bool.{cases_lt, ne_eqb, true≢false}, proofs.lemmas.Bool.Decides.{eqb_tells}}
+use Rattle.std.{proofs.lemmas.List.{length-set, get_or-set_same, get_or-set_other, get_or_default, take_more}, proofs.lemmas.List.Elements.{All-head, All-tail, All-get_or, filter_map-append}}
+use Rattle.std.{proofs.lemmas.List.Sums.{sum_by-cons}, proofs.lemmas.Option.{get_or_from_slice_get, slice_get_read, slice_get_within}}
 use Rattle.mob_stbox.specs.Boxes.{is_whole}
 use Rattle.mob_rtree_nodes.specs.Tree.{Kid, EntryOf, entry_of, target, if_live, is_fit, is_kind, Ref, IsTree, IsSoundNode, nodes_sum, kids_sum, refs_sum, entries_sum, entries_list, height_at}
-use Rattle.mob_rtree_nodes.specs.Builds.{leaf_sum}
-use Rattle.mob_live.specs.Rows.{is_among}
-use Rattle.mob_rtree_nodes.specs.Ids.{without_ids}
-use Rattle.mob_rtree_nodes.specs.Sifts.{left_entry, left_node, left_kid, IsSiftedNode, IsSifted, IsSiftedAt, IsSiftedUpTo, IsTreeLeft}
-use Rattle.mob_rtree_nodes.specs.declared.node.TreeNode.{TreeNode}
-use Rattle.mob_rtree_nodes.proofs.Sums.{same_sums, height_of, node_at, live_is}
-use Rattle.mob_rtree_nodes.proofs.Walks.{tied_height, all_dead, entries_of}
-use Rattle.mob_rtree_nodes.proofs.Inserts.{ref_of, live_of, links_of, leaf_of, inner, same_read}
-use Rattle.mob_rtree_nodes.proofs.Roots.{root_there, root_height, entries_listed, passed_sum}
+use Rattle.mob_rtree_nodes.{specs.Builds.{leaf_sum}, specs.Ids.{without_ids}, specs.Sifts.{left_entry, left_node, left_kid, IsSiftedNode, IsSifted, IsSiftedAt, IsSiftedUpTo, IsTreeLeft}}
+use Rattle.mob_rtree_nodes.{specs.declared.node.TreeNode.{TreeNode}, proofs.Sums.{same_sums, height_of, node_at, live_is}, proofs.Walks.{tied_height, all_dead, entries_of}}
+use Rattle.mob_rtree_nodes.{proofs.Inserts.{ref_of, live_of, links_of, leaf_of, inner, same_read}, proofs.Roots.{root_there, root_height, entries_listed, passed_sum}}
+use Rattle.mob_list.specs.Live.{is_among}
 
 -- ---- lists of what is left
 

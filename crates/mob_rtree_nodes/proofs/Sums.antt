@@ -1,11 +1,7 @@
 -- Sums over the nodes of a tree.
-use Rattle.std.proofs.Common.{◌≡◌, refl, ℕ, zero, ◌+◌, ◌<◌, ◌≤◌, cond, ◌==◌, List, [], ◌∷◌, length, get_or, map, arith, ap, sym, eq-eqb, suc, subst}
-use Rattle.std.proofs.lemmas.Bool.{ne_eqb}
-use Rattle.std.specs.Prelude.{All, sum_by}
-use Rattle.std.proofs.lemmas.List.Sums.{sum_by-cons}
-use Rattle.std.proofs.lemmas.List.Elements.{All-head, All-tail}
-use Rattle.mob_rtree_nodes.specs.Tree.{IsSoundNode, Kid, if_live, Ref, nodes_sum, kids_at, height_at}
-use Rattle.mob_rtree_nodes.specs.declared.node.TreeNode.{TreeNode}
+use Rattle.std.{specs.Prelude.{All, sum_by}, proofs.Common.{◌≡◌, refl, ℕ, zero, ◌+◌, ◌<◌, ◌≤◌, cond, ◌==◌, List, [], ◌∷◌, length, get_or, map, arith, ap, sym, eq-eqb, suc, subst}}
+use Rattle.std.{proofs.lemmas.Bool.{ne_eqb}, proofs.lemmas.List.Sums.{sum_by-cons}, proofs.lemmas.List.Elements.{All-head, All-tail}}
+use Rattle.mob_rtree_nodes.{specs.Tree.{IsSoundNode, Kid, if_live, Ref, nodes_sum, kids_at, height_at}, specs.declared.node.TreeNode.{TreeNode}}
 
 -- equal terms, if each element satisfies P
 pub same_sums : {X : Type 0} (f g : X → ℕ) (P : X → Type 0) → ((x : X) → P x → f x ≡ g x) → (xs : List X) → All P xs → sum_by f xs ≡ sum_by g xs

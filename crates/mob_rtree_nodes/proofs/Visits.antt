@@ -1,11 +1,9 @@
 -- One child after another in a walk.
-use Rattle.std.proofs.Common.{◌≡◌, refl, ℕ, zero, suc, ◌+◌, ◌*◌, ◌<◌, ◌≤◌, Bool, true, false, cond, List, [], ◌∷◌, ◌++◌, length, get_or, take, arith, ap, sym, ◌∙◌, append_assoc, take_all, subst}
 use Rattle.std.specs.Prelude.{sum_by}
+use Rattle.std.proofs.Common.{◌≡◌, refl, ℕ, zero, suc, ◌+◌, ◌*◌, ◌<◌, ◌≤◌, Bool, true, false, cond, List, [], ◌∷◌, ◌++◌, length, get_or, take, arith, ap, sym, ◌∙◌, append_assoc, take_all, subst}
 use Rattle.std.proofs.lemmas.List.Sums.{sum_by-cons, sum_by-append, sum_by_more, sum_by-take-le}
 use Rattle.mob_stbox.specs.Boxes.{BoxOf}
-use Rattle.mob_rtree_nodes.specs.Tree.{Kid, EntryOf, entry_of, target, Ref, IsTree, height_at, walk_sum, step_sum}
-use Rattle.mob_rtree_nodes.specs.declared.node.TreeNode.{TreeNode}
-use Rattle.mob_rtree_nodes.proofs.Sums.{kids_of, height_of}
+use Rattle.mob_rtree_nodes.{specs.Tree.{Kid, EntryOf, entry_of, target, Ref, IsTree, height_at, walk_sum, step_sum}, specs.declared.node.TreeNode.{TreeNode}, proofs.Sums.{kids_of, height_of}}
 use Rattle.mob_rtree_nodes.proofs.Walks.{tied_height, walk_steps}
 
 -- a function of an id, as one of the entry

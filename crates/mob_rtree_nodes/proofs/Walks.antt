@@ -1,10 +1,7 @@
 -- A walk down a tree meets each node and each entry once.
-use Rattle.std.proofs.Common.{◌≡◌, refl, ℕ, zero, suc, ◌+◌, ◌<◌, ◌≤◌, Bool, true, false, cond, ◌&&◌, ◌==◌, List, [], ◌∷◌, length, get_or, arith, ap, sym, ◌∙◌, eq-eqb, ◌⊎◌, inl, inr}
-use Rattle.std.proofs.lemmas.Bool.{cases_lt, true≢false}
 use Rattle.std.specs.Prelude.{All, sum_by, nat_le}
-use Rattle.std.proofs.lemmas.Bool.{ne_eqb}
-use Rattle.std.proofs.lemmas.Bool.Decides.{nat_tests, eqb_tells}
-use Rattle.std.proofs.lemmas.List.Sums.{sum_by-cons, get_or-le-sum_by}
+use Rattle.std.proofs.Common.{◌≡◌, refl, ℕ, zero, suc, ◌+◌, ◌<◌, ◌≤◌, Bool, true, false, cond, ◌&&◌, ◌==◌, List, [], ◌∷◌, length, get_or, arith, ap, sym, ◌∙◌, eq-eqb, ◌⊎◌, inl, inr}
+use Rattle.std.{proofs.lemmas.Bool.{cases_lt, true≢false, ne_eqb}, proofs.lemmas.Bool.Decides.{nat_tests, eqb_tells}, proofs.lemmas.List.Sums.{sum_by-cons, get_or-le-sum_by}}
 use Rattle.mob_stbox.specs.Boxes.{BoxOf, contains, is_whole}
 use Rattle.mob_rtree_nodes.specs.Tree.{Kid, EntryOf, entry_of, target, if_live, Ref, IsTree, IsSoundNode, nodes_sum, kids_sum, refs_sum, kids_at, height_at, walk_sum, step_sum, GoesUp}
 use Rattle.mob_rtree_nodes.specs.declared.node.TreeNode.{TreeNode}

@@ -1,7 +1,6 @@
 -- How a tree is built, level by level.
 use Rattle.std.specs.Prelude.{◌≡◌, ℕ, suc, ◌+◌, ◌<◌, ◌≤◌, cond, not, ◌==◌, List, [], ◌∷◌, ◌++◌, All, sum_by, count_by, length}
-use Rattle.mob_rtree_nodes.specs.Tree.{Kid, EntryOf, entry_of, Ref, IsSoundNode, AreLive, is_fit, nodes_sum, kids_sum, refs_sum, entries_sum}
-use Rattle.mob_rtree_nodes.specs.declared.node.Child.TheVariants.{Node, Entry}
+use Rattle.mob_rtree_nodes.{specs.Tree.{Kid, EntryOf, entry_of, Ref, IsSoundNode, AreLive, is_fit, nodes_sum, kids_sum, refs_sum, entries_sum}, specs.declared.node.Child.TheVariants.{Node, Entry}}
 use Rattle.mob_rtree_nodes.specs.declared.node.TreeNode.{TreeNode}
 
 -- an entry as a child of a leaf

@@ -1,7 +1,6 @@
 -- The entries that have none of some ids.
-use Rattle.std.specs.Prelude.{not, ℕ, List}
-use Rattle.std.specs.List.{filter}
-use Rattle.mob_live.specs.Rows.{is_among}
+use Rattle.std.{specs.Prelude.{not, ℕ, List}, specs.List.{filter}}
+use Rattle.mob_list.specs.Live.{is_among}
 use Rattle.mob_rtree_nodes.specs.Tree.{EntryOf}
 
 -- the entries whose id is none of these

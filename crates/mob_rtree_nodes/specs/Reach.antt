@@ -1,9 +1,7 @@
 -- What a caller sees of the nodes, and what can be reached from the root.
 use Rattle.std.specs.Prelude.{◌≡◌, ℕ, zero, suc, ◌+◌, ◌<◌, true, List, [], ◌∷◌, All, length, Option, Some, None, get_or, map, flat_map}
 use Rattle.mob_stbox.specs.Boxes.{BoxOf, contains}
-use Rattle.mob_rtree_nodes.specs.Tree.{Kid, EntryOf, entry_of, target, is_kind, IsLeastOver}
-use Rattle.mob_rtree_nodes.specs.declared.node.Child.TheVariants.{Node, Entry}
-use Rattle.mob_rtree_nodes.specs.declared.node.TreeNode.{TreeNode}
+use Rattle.mob_rtree_nodes.{specs.Tree.{Kid, EntryOf, entry_of, target, is_kind, IsLeastOver}, specs.declared.node.Child.TheVariants.{Node, Entry}, specs.declared.node.TreeNode.{TreeNode}}
 
 -- a node: its box, its height above the leaves, and its children
 pub record Branch : Type 0 where

@@ -2,9 +2,7 @@
 use Rattle.std.specs.Prelude.{◌≡◌, ℕ, ◌+◌, ◌<◌, ◌≤◌, ◌&&◌, Bool, true, cond, ◌==◌, List, [], All, sum_by, length, set, get_or}
 use Rattle.mob_stbox.specs.Boxes.{BoxOf, contains, is_whole, same_box}
 use Rattle.mob_rtree_nodes.specs.Tree.{Kid, EntryOf, target, Ref, IsTree, IsAdded, entries_list, IsSoundNode, nodes_sum, refs_sum, entries_sum, height_at, walk_sum}
-use Rattle.mob_rtree_nodes.specs.declared.node.TreeNode.{TreeNode}
-use Rattle.mob_rtree_nodes.specs.declared.remove.Removed.{Removed}
-use Rattle.mob_rtree_nodes.specs.declared.remove.Removed.TheVariants.{Missing, Narrowed, Emptied}
+use Rattle.mob_rtree_nodes.{specs.declared.node.TreeNode.{TreeNode}, specs.declared.remove.Removed.{Removed}, specs.declared.remove.Removed.TheVariants.{Missing, Narrowed, Emptied}}
 
 -- a child is the entry of this box and id, if it is an entry
 abbrev pub is_entry : BoxOf → ℕ → Kid → Bool

@@ -1,11 +1,8 @@
 -- How an arena of nodes changes when the entries of many ids are removed.
-use Rattle.std.specs.Prelude.{◌≡◌, ◌⊎◌, ℕ, ◌<◌, ◌≤◌, ◌==◌, cond, List, [], length, get_or, set, slice_get, Option, Some, None, option_and_then}
-use Rattle.std.specs.List.{filter_map}
+use Rattle.std.{specs.Prelude.{◌≡◌, ◌⊎◌, ℕ, ◌<◌, ◌≤◌, ◌==◌, cond, List, [], length, get_or, set, slice_get, Option, Some, None, option_and_then}, specs.List.{filter_map}}
 use Rattle.mob_stbox.specs.Boxes.{BoxOf}
-use Rattle.mob_rtree_nodes.specs.Tree.{Kid, target, Ref, IsTree, IsSoundNode, AreSame, entries_list}
-use Rattle.mob_live.specs.Rows.{is_among}
-use Rattle.mob_rtree_nodes.specs.Ids.{without_ids}
-use Rattle.mob_rtree_nodes.specs.declared.node.TreeNode.{TreeNode}
+use Rattle.mob_rtree_nodes.{specs.Tree.{Kid, target, Ref, IsTree, IsSoundNode, AreSame, entries_list}, specs.Ids.{without_ids}, specs.declared.node.TreeNode.{TreeNode}}
+use Rattle.mob_list.specs.Live.{is_among}
 
 -- an entry, unless its id is one of these
 abbrev pub left_entry : List ℕ → Kid → Option Kid

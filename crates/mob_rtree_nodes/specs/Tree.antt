@@ -1,10 +1,8 @@
 -- When an arena of nodes is a tree.
-use Rattle.std.specs.Prelude.{◌≡◌, ◌⊎◌, ℕ, zero, suc, ◌+◌, ◌<◌, ◌≤◌, Bool, true, false, cond, ◌&&◌, ◌==◌, not, List, [], ◌∷◌, ◌++◌, All, sum_by, count_by, length, Option, Some, None, MatchOption, set, get_or, flat_map, map}
+use Rattle.std.specs.Prelude.{◌≡◌, ◌⊎◌, ℕ, zero, suc, ◌+◌, ◌<◌, ◌≤◌, Bool, true, false, cond, ◌&&◌, ◌==◌, not, List, [], ◌∷◌, ◌++◌, All, sum_by, count_by, length, Option, Some, None, MatchOption, set}
+use Rattle.std.specs.Prelude.{get_or, flat_map, map}
 use Rattle.mob_stbox.specs.Boxes.{BoxOf, overlaps, contains, is_whole}
-use Rattle.mob_rtree_nodes.specs.declared.node.Child.{Child}
-use Rattle.mob_rtree_nodes.specs.declared.node.Child.TheVariants.{Node, Entry}
-use Rattle.mob_rtree_nodes.specs.declared.node.TreeNode.{TreeNode}
-use Rattle.mob_rtree_nodes.specs.declared.node.Root.{Root}
+use Rattle.mob_rtree_nodes.{specs.declared.node.Child.{Child}, specs.declared.node.Child.TheVariants.{Node, Entry}, specs.declared.node.TreeNode.{TreeNode}, specs.declared.node.Root.{Root}}
 use Rattle.mob_rtree_nodes.specs.declared.insert.Grown.{Grown}
 
 -- a child of a node, with its box

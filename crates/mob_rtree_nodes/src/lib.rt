@@ -3,6 +3,8 @@
 //!
 //! Contracts describe a tree by the contents of its nodes; none depends on how nodes are chosen.
 //! `mob_rtree` has the tree itself.
+//!
+//! It is apart from `mob_rtree` so that three wrong bodies are tried on a small crate.
 #![tactic(auto)]
 
 mod build;

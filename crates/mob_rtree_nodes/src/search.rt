@@ -4,8 +4,8 @@ ghost use Rattle.mob_stbox.specs.Boxes.{overlaps};
 ghost use Rattle.mob_rtree_nodes.specs.Tree.{IsTree, height_at, walk_sum, Ref};
 
 use crate::node::TreeNode;
+use mob_list::steps::Steps;
 use mob_stbox::StBox;
-use mob_steps::Steps;
 use std::alloc::AllocError;
 use std::sync::ledger::Ledger;
 

@@ -10,7 +10,7 @@ ghost use Rattle.mob_rtree_nodes.specs.Sifts.{IsSifted, IsSiftedAt, IsSiftedUpTo
 use crate::insert::cover_all;
 use crate::node::{Child, TreeNode};
 use arrayvec::ArrayVec;
-use mob_live::rows::is_among;
+use mob_list::live::is_among;
 use mob_stbox::StBox;
 
 /// An entry, unless it is removed.

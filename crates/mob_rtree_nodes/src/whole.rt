@@ -16,8 +16,8 @@ use crate::remove::{Removed, remove_at};
 use crate::search::visit;
 use crate::sift::{number_free, sift};
 use arrayvec::ArrayVec;
+use mob_list::steps::Steps;
 use mob_stbox::StBox;
-use mob_steps::Steps;
 use std::alloc::{AllocError, Global};
 use std::sync::ledger::Ledger;
 

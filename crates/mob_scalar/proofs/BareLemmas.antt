@@ -1,12 +1,8 @@
 -- Bare values of a ttext, as a loop over the bytes finds them.
-use Rattle.std.proofs.Common.{◌≡◌, ℕ, zero, suc, ◌+◌, ◌-◌, ◌<◌, ◌≤◌, [], ◌∷◌, ◌++◌, length, get_or, take, drop, Bool, true, false, cond, not, Option, Some, None, refl, sym, ap, ◌∙◌, append_assoc, append-nil, arith, length-append}
-use Rattle.std.proofs.lemmas.List.{take_more}
-use Rattle.std.proofs.Math.Seq.{take-append_seam, drop-append_seam}
-use Rattle.mob_language.specs.Language.{Text, is_blank}
-use Rattle.mob_language.specs.Readers.{split_while}
-use Rattle.mob_language.proofs.Exact.{split_parts}
-use Rattle.mob_scalar.specs.Quoted.{is_plain, begins_well, ends_well, is_bare, put_before, trimmed, bare_at}
-use Rattle.mob_scalar.proofs.QuotedExact.{trim_whole, trim_again}
+use Rattle.std.proofs.Common.{◌≡◌, ℕ, zero, suc, ◌+◌, ◌-◌, ◌<◌, ◌≤◌, [], ◌∷◌, ◌++◌, length, get_or, take, drop, Bool, true, false, cond, not, Option, Some, None, refl, sym, ap, ◌∙◌, append_assoc}
+use Rattle.std.{proofs.Common.{append-nil, arith, length-append}, proofs.lemmas.List.{take_more}, proofs.Math.Seq.{take-append_seam, drop-append_seam}}
+use Rattle.mob_language.{specs.Language.{Text, is_blank}, specs.Readers.{split_while}, proofs.Exact.{split_parts}}
+use Rattle.mob_scalar.{specs.Quoted.{is_plain, begins_well, ends_well, is_bare, put_before, trimmed, bare_at}, proofs.QuotedExact.{trim_whole, trim_again}}
 
 same_first : (d : ℕ) (p q : Text × Text) → p.0 ≡ q.0 → (put_before d p).0 ≡ (put_before d q).0
 same_first d p q e = first p.0 p.1 ∙ ap (λ (t : Text). (put_before d (t, [])).0) e ∙ sym (first q.0 q.1)

@@ -1,10 +1,7 @@
 -- Bools and values of a ttext may come before a sign with blanks beside it, such as the @ of a
 -- temporal text.
-use Rattle.std.proofs.Common.{◌∷◌, ◌++◌, refl, rules, codes}
-use Rattle.std.specs.Char.{is_ascii_alphabetic}
-use Rattle.mob_language.specs.Language.{Text, is_blank, spaced}
-use Rattle.mob_language.proofs.Exact.{Stops}
-use Rattle.mob_language.proofs.Heads.{Apart}
+use Rattle.std.{specs.Char.{is_ascii_alphabetic}, proofs.Common.{◌∷◌, ◌++◌, refl, rules, codes}}
+use Rattle.mob_language.{specs.Language.{Text, is_blank, spaced}, proofs.Exact.{Stops}, proofs.Heads.{Apart}}
 use Rattle.mob_numeral.proofs.BeforeSign.{signed_of, stops_before}
 use Rattle.mob_scalar.proofs.QuotedExact.{Behind}
 

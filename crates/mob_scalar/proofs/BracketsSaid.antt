@@ -2,14 +2,9 @@
 use Rattle.std.proofs.Common.{◌≡◌, ℤ, List, [], ◌∷◌, ◌++◌, map, codes, Bool, true, false, cond, Some, refl, sym, append_assoc}
 use Rattle.mob_ratio.specs.Ratio.{Ratio}
 use Rattle.mob_language.specs.Language.{Text, Language, Separated}
-use Rattle.mob_numeral.specs.Fitting.{fitting}
-use Rattle.mob_numeral.proofs.Fitted.{fitting_fits}
-use Rattle.mob_scalar.specs.declared.stamp.Stamp.{Stamp}
-use Rattle.mob_scalar.specs.Brackets.{comma, opening, closing, within_braces, with_commas, in_braces}
-use Rattle.mob_scalar.specs.Moment.{moment, instant}
-use Rattle.mob_scalar.specs.Moments.{moment_value}
-use Rattle.mob_scalar.specs.MomentText.{moment_text, IsDated}
-use Rattle.mob_scalar.proofs.MomentAgain.{moment_plain}
+use Rattle.mob_numeral.{specs.Fitting.{fitting}, proofs.Fitted.{fitting_fits}}
+use Rattle.mob_scalar.{specs.declared.stamp.Stamp.{Stamp}, specs.Brackets.{comma, opening, closing, within_braces, with_commas, in_braces}, specs.Moment.{moment, instant}}
+use Rattle.mob_scalar.{specs.Moments.{moment_value}, specs.MomentText.{moment_text, IsDated}, proofs.MomentAgain.{moment_plain}}
 
 -- ---- printed signs
 

@@ -1,13 +1,8 @@
 -- A sign with blanks before it may follow a moment.
 use Rattle.std.proofs.Common.{◌≡◌, ℕ, [], ◌∷◌, ◌++◌, true, false, Some, None, refl, rules}
-use Rattle.mob_language.specs.Language.{Text, AreAll, is_blank, is_digit}
-use Rattle.mob_language.proofs.Exact.{many_again, many_stops}
-use Rattle.mob_numeral.specs.NumberReaders.{digits_at}
-use Rattle.mob_numeral.specs.Blanks.{is_some_text, some_blanks_at}
-use Rattle.mob_scalar.specs.CalendarReaders.{fixed_at}
-use Rattle.mob_scalar.specs.Moment.{is_t}
-use Rattle.mob_scalar.specs.MomentReaders.{two_digits_below_at, clock_at, t_at, gap_at, time_at}
-use Rattle.mob_scalar.proofs.MomentExact.{moment_on, Closes}
+use Rattle.mob_language.{specs.Language.{Text, AreAll, is_blank, is_digit}, proofs.Exact.{many_again, many_stops}}
+use Rattle.mob_numeral.{specs.NumberReaders.{digits_at}, specs.Blanks.{is_some_text, some_blanks_at}}
+use Rattle.mob_scalar.{specs.CalendarReaders.{fixed_at}, specs.Moment.{is_t}, specs.MomentReaders.{two_digits_below_at, clock_at, t_at, gap_at, time_at}, proofs.MomentExact.{moment_on, Closes}}
 
 -- a byte with which no moment goes on
 pub record Ends (c : ℕ) : Type 0 where

@@ -1,6 +1,5 @@
 -- Texts with commas between them, as a loop writes them.
-use Rattle.std.proofs.Common.{◌≡◌, ℕ, ◌≤◌, List, [], ◌∷◌, ◌++◌, map, length, drop, codes, sym, ap, ◌∙◌, append_assoc, append-nil}
-use Rattle.std.proofs.lemmas.List.{drop_all}
+use Rattle.std.{proofs.Common.{◌≡◌, ℕ, ◌≤◌, List, [], ◌∷◌, ◌++◌, map, length, drop, codes, sym, ap, ◌∙◌, append_assoc, append-nil}, proofs.lemmas.List.{drop_all}}
 use Rattle.mob_language.specs.Language.{Text}
 use Rattle.mob_scalar.specs.Brackets.{with_commas, more_texts}
 

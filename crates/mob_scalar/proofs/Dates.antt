@@ -1,19 +1,11 @@
 -- Dates of the years 0001 to 9999, part by part, and their days.
-use Rattle.std.proofs.Common.{◌≡◌, ℕ, ◌^◌, ◌<◌, ◌≤◌, true, ℤ, pos, neg_ℤ, ◌≤ℤ◌, negsuc, unsigned_abs, to_z, of_z, refl, sym, subst, arith, rules, inl, inr}
-use Rattle.std.specs.Prelude.{◌&&◌, nat_le}
-use Rattle.std.specs.Int.Signed.{le_z}
-use Rattle.std.specs.Int.{IsInRange, w16, w32}
-use Rattle.std.proofs.lemmas.Bool.{cases_lt}
+use Rattle.std.{specs.Prelude.{◌&&◌, nat_le}, specs.Int.Signed.{le_z}, specs.Int.{IsInRange, w16, w32}}
+use Rattle.std.{proofs.Common.{◌≡◌, ℕ, ◌^◌, ◌<◌, ◌≤◌, true, ℤ, pos, neg_ℤ, ◌≤ℤ◌, negsuc, unsigned_abs, to_z, of_z, refl, sym, subst, arith, rules, inl, inr}, proofs.lemmas.Bool.{cases_lt}}
 use Rattle.std.proofs.lemmas.Int.{ints, by_lt_z}
-use Rattle.jiff_core.specs.declared.civil.date.Date.{Date}
-use Rattle.jiff_core.specs.Date.{epoch_day}
-use Rattle.jiff_core.specs.Calendar.{days_from_civil, day_count, days_in_month, IsCivilDate}
-use Rattle.jiff_core.proofs.CalendarLemmas.{day_count-lt_year, day_count-day_of_year, day_count-later_year, day_count_bounds, days_from_civil-day_count}
-use Rattle.jiff_core.proofs.DateLemmas.{civil}
-use Rattle.jiff_core.proofs.MarchLemmas.{day_count-early}
-use Rattle.jiff_core.proofs.SignedLemmas.{signed_arith, back_small}
-use Rattle.mob_scalar.specs.declared.civil.Civil.{Civil}
-use Rattle.mob_scalar.specs.Calendar.{is_civil, day_of, IsInYears}
+use Rattle.jiff_core.{specs.declared.civil.date.Date.{Date}, specs.Date.{epoch_day}, specs.Calendar.{days_from_civil, day_count, days_in_month, IsCivilDate}}
+use Rattle.jiff_core.{proofs.CalendarLemmas.{day_count-lt_year, day_count-day_of_year, day_count-later_year, day_count_bounds, days_from_civil-day_count}, proofs.DateLemmas.{civil}}
+use Rattle.jiff_core.{proofs.MarchLemmas.{day_count-early}, proofs.SignedLemmas.{signed_arith, back_small}}
+use Rattle.mob_scalar.{specs.declared.civil.Civil.{Civil}, specs.Calendar.{is_civil, day_of, IsInYears}}
 
 pub le_yes : (a b : ℤ) → a ≤ℤ b → le_z a b ≡ true
 le_yes a b h = grind (arith, ints)

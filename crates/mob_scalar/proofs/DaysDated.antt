@@ -1,17 +1,11 @@
 -- Each day of the years 0001 to 9999 is the day of its date.
+use Rattle.std.{specs.Int.Signed.{le_z}, specs.Int.{IsInRange}}
 use Rattle.std.proofs.Common.{◌≡◌, ℕ, zero, suc, ◌+◌, ◌<◌, ◌≤◌, Bool, true, false, cond, ℤ, pos, ◌+ℤ◌, ◌-ℤ◌, ◌≤ℤ◌, ◌<ℤ◌, unsigned_abs, refl, sym, ap, subst, ◌∙◌, arith, inl, inr}
-use Rattle.std.specs.Int.Signed.{le_z}
-use Rattle.std.specs.Int.{IsInRange}
-use Rattle.std.proofs.lemmas.Bool.{cases_lt}
-use Rattle.std.proofs.lemmas.Int.{ints}
-use Rattle.jiff_core.specs.declared.civil.date.Date.{Date}
-use Rattle.jiff_core.specs.Date.{epoch_day}
-use Rattle.jiff_core.specs.Calendar.{days_from_civil, days_in_month}
+use Rattle.std.{proofs.lemmas.Bool.{cases_lt}, proofs.lemmas.Int.{ints}}
+use Rattle.jiff_core.{specs.declared.civil.date.Date.{Date}, specs.Date.{epoch_day}, specs.Calendar.{days_from_civil, days_in_month}}
 use Rattle.jiff_core.proofs.CalendarLemmas.{day_count-end, days_from_civil-day_count, days_in_month_bounds}
-use Rattle.jiff_core.proofs.DateLemmas.{epoch_day_injective, days_from_civil-day, days_from_civil-next_month, days_from_civil-next_year}
-use Rattle.jiff_core.proofs.SignedLemmas.{signed_arith}
-use Rattle.mob_scalar.specs.declared.civil.Civil.{Civil}
-use Rattle.mob_scalar.specs.Calendar.{is_civil, day_of, greatest_passing, year_of, month_of, place_in, date_of, IsInYears}
+use Rattle.jiff_core.{proofs.DateLemmas.{epoch_day_injective, days_from_civil-day, days_from_civil-next_month, days_from_civil-next_year}, proofs.SignedLemmas.{signed_arith}}
+use Rattle.mob_scalar.{specs.declared.civil.Civil.{Civil}, specs.Calendar.{is_civil, day_of, greatest_passing, year_of, month_of, place_in, date_of, IsInYears}}
 use Rattle.mob_scalar.proofs.Dates.{first, civil_again, le_yes, dated, as_civil}
 
 -- the greatest number up to n that passes the test, if 1 does

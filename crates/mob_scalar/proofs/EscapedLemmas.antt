@@ -1,9 +1,9 @@
 -- Characters and their escapes.
-use Rattle.std.proofs.Common.{◌≡◌, ℕ, ◌+◌, ◌/◌, ◌%◌, ◌<◌, ◌≤◌, [], ◌∷◌, ◌++◌, Bool, true, false, cond, refl, sym, ap, ◌∙◌, append_assoc, append-nil, arith, rules, codes, encode_utf8}
-use lib.Utf8.{encode}
 use Rattle.std.specs.Prelude.{nat_lt}
+use Rattle.std.proofs.Common.{◌≡◌, ℕ, ◌+◌, ◌/◌, ◌%◌, ◌<◌, ◌≤◌, [], ◌∷◌, ◌++◌, Bool, true, false, cond, refl, sym, ap, ◌∙◌, append_assoc, append-nil, arith, rules, codes, encode_utf8}
 use Rattle.mob_language.specs.Language.{Text}
 use Rattle.mob_scalar.specs.Quoted.{is_escaped, escaped, quoted_text}
+use lib.Utf8.{encode}
 
 pub escaped-append : (a b : Text) → escaped (a ++ b) ≡ escaped a ++ escaped b
 escaped-append [] b = refl

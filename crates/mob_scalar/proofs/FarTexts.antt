@@ -1,20 +1,11 @@
 -- The text of an instant outside the years 0001 to 9999 is not a moment: it begins with a letter,
 -- and a moment begins with a digit.
-use Rattle.std.proofs.Common.{◌≡◌, [], ◌++◌, Bool, true, false, Some, None, ℤ, refl, sym, ◌∙◌, codes}
-use Rattle.std.specs.Prelude.{Option, Err, if◌then◌else◌}
+use Rattle.std.{specs.Prelude.{Option, Err, if◌then◌else◌}, proofs.Common.{◌≡◌, [], ◌++◌, Bool, true, false, Some, None, ℤ, refl, sym, ◌∙◌, codes}}
 use Rattle.mob_ratio.specs.Ratio.{Ratio}
-use Rattle.mob_language.specs.Language.{Text, within_blanks}
-use Rattle.mob_language.specs.Readers.{within_blanks_at}
-use Rattle.mob_scalar.specs.declared.stamp.Stamp.{Stamp}
-use Rattle.mob_numeral.specs.declared.fault.ReadText.TheVariants.{NotText}
-use Rattle.mob_scalar.specs.CalendarReaders.{fixed_at, date_at}
-use Rattle.mob_numeral.specs.NumberReaders.{digits_at}
-use Rattle.mob_scalar.specs.Moment.{moment, is_year_second}
-use Rattle.mob_scalar.specs.MomentReaders.{moment_at}
-use Rattle.mob_scalar.specs.MomentText.{HasDate, second_of, second_text, part_numerator, far_text, moment_text}
-use Rattle.mob_scalar.specs.Moments.{moments}
-use Rattle.mob_numeral.specs.Verdict.{Lit}
-use Rattle.mob_scalar.proofs.WholeTexts.{moment_whole}
+use Rattle.mob_language.{specs.Language.{Text, within_blanks}, specs.Readers.{within_blanks_at}}
+use Rattle.mob_scalar.{specs.declared.stamp.Stamp.{Stamp}, specs.CalendarReaders.{fixed_at, date_at}, specs.Moment.{moment, is_year_second}, specs.MomentReaders.{moment_at}}
+use Rattle.mob_scalar.{specs.MomentText.{HasDate, second_of, second_text, part_numerator, far_text, moment_text}, specs.Moments.{moments}, proofs.WholeTexts.{moment_whole}}
+use Rattle.mob_numeral.{specs.declared.fault.ReadText.TheVariants.{NotText}, specs.NumberReaders.{digits_at}, specs.Verdict.{Lit}}
 
 reads_none : (rest : Text) → within_blanks_at moment_at (codes "epoch+(" ++ rest) ≡ None
 unfolding moment_at date_at fixed_at digits_at

@@ -1,37 +1,19 @@
 -- The printed text of a moment denotes that moment.
-use Rattle.std.proofs.Common.{◌≡◌, ℕ, zero, suc, ◌+◌, ◌*◌, ◌/◌, ◌%◌, ◌^◌, ◌<◌, ◌≤◌, [], ◌++◌, length, true, Option, Some, None, ℤ, pos, neg_ℤ, ◌+ℤ◌, ◌-ℤ◌, ◌*ℤ◌, unsigned_abs, codes, refl, sym, ap, subst, ◌∙◌, append_assoc, arith, rules, inl, inr}
-use Rattle.std.specs.Prelude.{Ok}
-use Rattle.std.specs.Int.{int_div_euclid, int_rem_euclid}
-use Rattle.std.specs.Int.Signed.{le_z}
-use Rattle.std.specs.Fmt.{decimal}
-use Rattle.std.specs.Str.Parse.{digits_value}
-use Rattle.std.proofs.lemmas.Bool.{and_parts as both, cases_lt}
-use Rattle.std.proofs.lemmas.Nat.{div-add-mod'}
-use Rattle.std.proofs.Math.Nat.{mul-div_cancel, mul-le-mul_right}
-use Rattle.mob_numeral.proofs.Powers.{ten_pos}
-use Rattle.jiff_core.proofs.CalendarLemmas.{days_in_month_bounds}
-use Rattle.jiff_core.proofs.SignedLemmas.{signed_arith, int_rem_euclid-parts, int_div_euclid-parts}
-use Rattle.mob_ratio.specs.Ratio.{Ratio, over, whole, ◌+ℚ◌}
-use Rattle.mob_ratio.proofs.RatioLemmas.{den_pos, over-add, over-same, over-self}
+use Rattle.std.{specs.Prelude.{Ok}, specs.Int.{int_div_euclid, int_rem_euclid}, specs.Int.Signed.{le_z}, specs.Fmt.{decimal}, specs.Str.Parse.{digits_value}}
+use Rattle.std.proofs.Common.{◌≡◌, ℕ, zero, suc, ◌+◌, ◌*◌, ◌/◌, ◌%◌, ◌^◌, ◌<◌, ◌≤◌, [], ◌++◌, length, true, Option, Some, None, ℤ, pos, neg_ℤ, ◌+ℤ◌, ◌-ℤ◌, ◌*ℤ◌, unsigned_abs, codes, refl, sym, ap}
+use Rattle.std.{proofs.Common.{subst, ◌∙◌, append_assoc, arith, rules, inl, inr}, proofs.lemmas.Bool.{and_parts as both, cases_lt}, proofs.lemmas.Nat.{div-add-mod'}}
+use Rattle.std.{proofs.Math.Nat.{mul-div_cancel, mul-le-mul_right}, proofs.lemmas.Int.{ints}}
+use Rattle.mob_numeral.{specs.declared.numeral.Figures.{Figures}, specs.Figures.{figures}, specs.Verdict.{Lit}, proofs.Powers.{ten_pos}, proofs.Again.{digits_said, size_of, nonempty}}
+use Rattle.jiff_core.{proofs.CalendarLemmas.{days_in_month_bounds}, proofs.SignedLemmas.{signed_arith, int_rem_euclid-parts, int_div_euclid-parts}}
+use Rattle.mob_ratio.{specs.Ratio.{Ratio, over, whole, ◌+ℚ◌}, proofs.RatioLemmas.{den_pos, over-add, over-same, over-self}}
 use Rattle.mob_frac.specs.Fits.{Fits}
-use Rattle.mob_language.specs.Language.{Text, Language, ◌▷◌, Maybe, behind}
-use Rattle.mob_language.proofs.Heads.{within_said}
-use Rattle.mob_numeral.specs.declared.numeral.Figures.{Figures}
-use Rattle.mob_scalar.specs.declared.civil.Civil.{Civil}
-use Rattle.mob_scalar.specs.declared.stamp.Part.{Part}
-use Rattle.mob_scalar.specs.declared.stamp.Clock.{Clock}
-use Rattle.mob_scalar.specs.declared.stamp.Stamp.{Stamp}
-use Rattle.mob_numeral.specs.Figures.{figures}
+use Rattle.mob_language.{specs.Language.{Text, Language, ◌▷◌, Maybe, behind}, proofs.Heads.{within_said}}
+use Rattle.mob_scalar.{specs.declared.civil.Civil.{Civil}, specs.declared.stamp.Part.{Part}, specs.declared.stamp.Clock.{Clock}, specs.declared.stamp.Stamp.{Stamp}}
 use Rattle.mob_scalar.specs.Calendar.{fixed, date, is_civil, day_of, date_of, IsInYears}
-use Rattle.mob_scalar.specs.Moment.{two_digits_below, part, point_part, is_point_part, fraction_part, is_fraction_part, part_of, clock, zone, utc, time, moment, seconds, is_year_second, is_in_years, instant}
-use Rattle.mob_scalar.specs.MomentText.{padded, date_text, clock_text, places, quotient_text, decimals_text, part_in, part_text, stamp_text, second_text, moment_text, whole_seconds, part_numerator, second_of, HasDate}
-use Rattle.mob_numeral.specs.Verdict.{Lit}
-use Rattle.mob_scalar.specs.Moments.{moments}
-use Rattle.mob_numeral.proofs.Again.{digits_said, size_of, nonempty}
-use Rattle.std.proofs.lemmas.Int.{ints}
-use Rattle.mob_scalar.proofs.DaysDated.{date_there, le_from}
-use Rattle.mob_scalar.proofs.Dates.{dated}
-use Rattle.mob_scalar.proofs.Padding.{placed}
+use Rattle.mob_scalar.specs.Moment.{two_digits_below, part, point_part, is_point_part, fraction_part, is_fraction_part, part_of, clock, zone, utc, time, moment, seconds, is_year_second, is_in_years}
+use Rattle.mob_scalar.specs.Moment.{instant}
+use Rattle.mob_scalar.specs.MomentText.{padded, date_text, clock_text, places, quotient_text, decimals_text, part_in, part_text, stamp_text, second_text, moment_text, whole_seconds, part_numerator}
+use Rattle.mob_scalar.{specs.MomentText.{second_of, HasDate}, specs.Moments.{moments}, proofs.DaysDated.{date_there, le_from}, proofs.Dates.{dated}, proofs.Padding.{placed}}
 use Rattle.mob_scalar.proofs.PaddedAgain.{padded_is, padded_digits, fixed_said, behind_said}
 
 -- a text of the first language, and a text of the second after it

@@ -1,15 +1,10 @@
 -- Texts of moments denote small parts of a second.
 use Rattle.std.proofs.Common.{◌≡◌, ℕ, ◌<◌, Option, Some, None, sym, subst, arith, rules, codes, true, inl, inr}
 use Rattle.mob_language.specs.Language.{Text, ◌▷◌, Maybe, behind}
-use Rattle.mob_numeral.specs.declared.numeral.Figures.{Figures}
-use Rattle.mob_scalar.specs.declared.stamp.Part.{Part}
-use Rattle.mob_scalar.specs.declared.civil.Civil.{Civil}
-use Rattle.mob_scalar.specs.declared.stamp.Clock.{Clock}
-use Rattle.mob_scalar.specs.declared.stamp.Offset.{Offset}
+use Rattle.mob_numeral.{specs.declared.numeral.Figures.{Figures}, specs.NumberValue.{IsSmall}, proofs.Bounded.{digits_small, small_lt}}
+use Rattle.mob_scalar.{specs.declared.stamp.Part.{Part}, specs.declared.civil.Civil.{Civil}, specs.declared.stamp.Clock.{Clock}, specs.declared.stamp.Offset.{Offset}}
 use Rattle.mob_scalar.specs.declared.stamp.Stamp.{Stamp}
-use Rattle.mob_numeral.specs.NumberValue.{IsSmall}
 use Rattle.mob_scalar.specs.Moment.{IsPartSmall, part, clock, time, moment, is_fraction_part, second_part, part_of, two_digits_below, point_part, fraction_part, stamp_of}
-use Rattle.mob_numeral.proofs.Bounded.{digits_small, small_lt}
 
 none_small : IsPartSmall (record { numerator = 0; denominator = 1 })
 none_small = record { below = omega arith; fits = omega arith }

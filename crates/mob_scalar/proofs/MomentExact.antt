@@ -1,24 +1,19 @@
 -- The reader of moments accepts exactly the texts of moments.
-use Rattle.std.proofs.Common.{◌≡◌, ℕ, suc, [], ◌∷◌, length, Bool, true, false, Option, None, refl, sym, ap, ◌∙◌, arith, rules, codes}
-use Rattle.std.specs.Prelude.{◌||◌, nat_eq}
-use Rattle.std.proofs.lemmas.Bool.{eqb-true}
+use Rattle.std.{specs.Prelude.{◌||◌, nat_eq}, proofs.Common.{◌≡◌, ℕ, suc, [], ◌∷◌, length, Bool, true, false, Option, None, refl, sym, ap, ◌∙◌, arith, rules, codes}, proofs.lemmas.Bool.{eqb-true}}
 use Rattle.mob_language.specs.Language.{Text, Language, ◌▷◌, Maybe, Means, Where, Word, OneOf, behind, is_blank, is_digit, is_number_sign}
 use Rattle.mob_language.specs.Readers.{TextReader, then_at, maybe_at, word_at, behind_at}
 use Rattle.mob_language.proofs.Exact.{Exact, Stops, then_exact, maybe_exact, means_exact, where_exact, one_exact, word_exact, many_stops}
-use Rattle.mob_language.proofs.Heads.{NoHead, Apart, Nothing, HasByte, exact_less, stops_less, stops_both, then_head, word_then_head, one_then_head, or_head, maybe_head, means_head, where_head, word_head, one_head, many_head, one_nothing, word_nothing, then_nothing, means_nothing, where_nothing, or_nothing, then_stops, after_any, maybe_stops, or_stops, then_byte, means_byte, where_byte, then_byte_stops, byte_head, one_byte, or_byte}
-use Rattle.mob_numeral.specs.declared.numeral.Figures.{Figures}
-use Rattle.mob_numeral.specs.Blanks.{some_blanks, some_blanks_at}
-use Rattle.mob_numeral.proofs.SomeBlanks.{some_blanks_exact, some_blanks_byte}
-use Rattle.mob_scalar.specs.declared.stamp.Part.{Part}
-use Rattle.mob_scalar.specs.declared.stamp.Offset.{Offset}
-use Rattle.mob_numeral.specs.Figures.{digits}
-use Rattle.mob_numeral.specs.NumberReaders.{digits_at}
-use Rattle.mob_scalar.specs.Calendar.{has_count, number_in, fixed, civil_of, is_civil, date}
+use Rattle.mob_language.proofs.Heads.{NoHead, Apart, Nothing, HasByte, exact_less, stops_less, stops_both, then_head, word_then_head, one_then_head, or_head, maybe_head, means_head, where_head}
+use Rattle.mob_language.proofs.Heads.{word_head, one_head, many_head, one_nothing, word_nothing, then_nothing, means_nothing, where_nothing, or_nothing, then_stops, after_any, maybe_stops, or_stops}
+use Rattle.mob_language.proofs.Heads.{then_byte, means_byte, where_byte, then_byte_stops, byte_head, one_byte, or_byte}
+use Rattle.mob_numeral.{specs.declared.numeral.Figures.{Figures}, specs.Blanks.{some_blanks, some_blanks_at}, specs.Figures.{digits}, specs.NumberReaders.{digits_at}}
+use Rattle.mob_numeral.{proofs.SomeBlanks.{some_blanks_exact, some_blanks_byte}, proofs.NumberExact.{digits_base, left, right}, proofs.WholeTexts.{sign_blank}}
+use Rattle.mob_scalar.{specs.declared.stamp.Part.{Part}, specs.declared.stamp.Offset.{Offset}, specs.Calendar.{has_count, number_in, fixed, civil_of, is_civil, date}}
 use Rattle.mob_scalar.specs.CalendarReaders.{fixed_at, dash_at, date_at}
-use Rattle.mob_scalar.specs.Moment.{is_below, two_digits_below, point_part, is_point_part, fraction_part, is_fraction_part, part, clock_of, clock, offset_of, utc, is_z, zone, is_t, gap, time_of, time, stamp_of, is_in_years, moment}
-use Rattle.mob_scalar.specs.MomentReaders.{two_digits_below_at, colon_at, decimals_at, below_at, quotient_at, second_part_at, seconds_at, clock_at, z_at, hours_at, zone_at, t_at, gap_at, time_at, moment_at}
-use Rattle.mob_numeral.proofs.NumberExact.{digits_base, left, right}
-use Rattle.mob_numeral.proofs.WholeTexts.{sign_blank}
+use Rattle.mob_scalar.specs.Moment.{is_below, two_digits_below, point_part, is_point_part, fraction_part, is_fraction_part, part, clock_of, clock, offset_of, utc, is_z, zone, is_t, gap, time_of, time}
+use Rattle.mob_scalar.specs.Moment.{stamp_of, is_in_years, moment}
+use Rattle.mob_scalar.specs.MomentReaders.{two_digits_below_at, colon_at, decimals_at, below_at, quotient_at, second_part_at, seconds_at, clock_at, z_at, hours_at, zone_at, t_at, gap_at, time_at}
+use Rattle.mob_scalar.specs.MomentReaders.{moment_at}
 
 same : (c : ℕ) → is_digit c ≡ false → is_digit c ≡ false
 same c e = e

@@ -1,15 +1,8 @@
 -- A text has at most one reading as a number, as an int, as a moment, as a bool and as an epoch.
 use Rattle.std.proofs.Common.{ℤ, sym, ◌∙◌, refl}
 use Rattle.mob_language.proofs.Exact.{one_value}
-use Rattle.mob_numeral.specs.Numbers.{numbers, whole_numbers}
-use Rattle.mob_scalar.specs.Moments.{moments}
-use Rattle.mob_scalar.specs.Epochs.{epochs}
-use Rattle.mob_scalar.specs.Truth.{truths}
-use Rattle.mob_numeral.specs.Verdict.{HasOneReading}
-use Rattle.mob_numeral.proofs.WholeTexts.{number_whole}
-use Rattle.mob_scalar.proofs.WholeTexts.{moment_whole, truth_whole}
-use Rattle.mob_scalar.proofs.MomentExact.{date_exact}
-use Rattle.mob_numeral.proofs.Settled.{settled}
+use Rattle.mob_numeral.{specs.Numbers.{numbers, whole_numbers}, specs.Verdict.{HasOneReading}, proofs.WholeTexts.{number_whole}, proofs.Settled.{settled}}
+use Rattle.mob_scalar.{specs.Moments.{moments}, specs.Epochs.{epochs}, specs.Truth.{truths}, proofs.WholeTexts.{moment_whole, truth_whole}, proofs.MomentExact.{date_exact}}
 
 pub one_number : HasOneReading numbers
 one_number text = settled numbers text (one_value number_whole refl text) (λ s v w a b. a ∙ sym b)

@@ -1,16 +1,9 @@
 -- Numbers printed with leading zeros read back as themselves.
-use Rattle.std.proofs.Common.{◌≡◌, ℕ, zero, suc, ◌+◌, ◌-◌, ◌^◌, ◌<◌, ◌≤◌, ◌++◌, length, replicate, true, refl, sym, ◌∙◌, arith, rules}
-use Rattle.std.specs.Prelude.{nat_eq}
-use Rattle.std.specs.Fmt.{decimal}
-use Rattle.std.specs.Str.Parse.{digits_value}
-use Rattle.std.proofs.lemmas.Fmt.{decimal_is_IsNumeral}
+use Rattle.std.{specs.Prelude.{nat_eq}, specs.Fmt.{decimal}, specs.Str.Parse.{digits_value}}
+use Rattle.std.{proofs.Common.{◌≡◌, ℕ, zero, suc, ◌+◌, ◌-◌, ◌^◌, ◌<◌, ◌≤◌, ◌++◌, length, replicate, true, refl, sym, ◌∙◌, arith, rules}, proofs.lemmas.Fmt.{decimal_is_IsNumeral}}
 use Rattle.mob_language.specs.Language.{Text, Language, behind}
-use Rattle.mob_numeral.specs.Figures.{figures, digits, AreFigures}
-use Rattle.mob_scalar.specs.Calendar.{has_count, fixed}
-use Rattle.mob_scalar.specs.MomentText.{padded}
-use Rattle.mob_numeral.proofs.Again.{are_figures, few_digits_test}
-use Rattle.mob_scalar.proofs.Padding.{decimal_short}
-use Rattle.mob_numeral.proofs.Powers.{ten_le}
+use Rattle.mob_numeral.{specs.Figures.{figures, digits, AreFigures}, proofs.Again.{are_figures, few_digits_test}, proofs.Powers.{ten_le}}
+use Rattle.mob_scalar.{specs.Calendar.{has_count, fixed}, specs.MomentText.{padded}, proofs.Padding.{decimal_short}}
 
 zeros_first : (z : ℕ) (ds : Text) → AreFigures ds → AreFigures (replicate z 48 ++ ds)
 zeros_first zero ds h = h

@@ -1,11 +1,7 @@
 -- The length of a number in digits.
-use Rattle.std.proofs.Common.{◌≡◌, ℕ, zero, suc, ◌%◌, ◌==◌, Some, get_or, refl, sym, inl, inr, ◌^◌, ◌<◌, ◌≤◌, length, arith, ap, ◌∙◌}
-use Rattle.std.specs.Fmt.{decimal}
-use Rattle.std.proofs.lemmas.Bool.{eqb-true, cases_lt}
-use Rattle.std.proofs.lemmas.List.Quantifiers.{position-Some}
-use Rattle.std.proofs.Math.Nat.{mod-eq_of_lt}
+use Rattle.std.{specs.Fmt.{decimal}, proofs.Common.{◌≡◌, ℕ, zero, suc, ◌%◌, ◌==◌, Some, get_or, refl, sym, inl, inr, ◌^◌, ◌<◌, ◌≤◌, length, arith, ap, ◌∙◌}, proofs.lemmas.Bool.{eqb-true, cases_lt}}
+use Rattle.std.{proofs.lemmas.List.Quantifiers.{position-Some}, proofs.Math.Nat.{mod-eq_of_lt}, proofs.lemmas.Fmt.{decimal_is_IsNumeral, length-decimal-le}}
 use Rattle.mob_scalar.specs.MomentText.{powers, places}
-use Rattle.std.proofs.lemmas.Fmt.{decimal_is_IsNumeral, length-decimal-le}
 use Rattle.mob_numeral.proofs.Powers.{ten_le, ten_pos}
 
 -- a number of at most six digits

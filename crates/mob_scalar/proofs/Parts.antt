@@ -1,15 +1,9 @@
 -- A whole number and a part of one.
-use Rattle.std.proofs.Common.{◌≡◌, ℕ, ◌*◌, ◌/◌, ◌^◌, ◌<◌, ◌≤◌, ℤ, pos, neg_ℤ, nat_abs, sym, ap, ◌∙◌, arith}
-use Rattle.std.proofs.Math.Nat.{div-le_self, div-le_of_le-mul, mul-pos, mul-le-mul_left, mul_comm}
-use native.Mathlib.Nat.{div-mul_cancel}
-use Rattle.mob_ratio.specs.Gcd.{gcd}
-use Rattle.mob_ratio.specs.GcdLaws.{gcd_one_right, gcd-is}
-use Rattle.mob_ratio.specs.LowestLaws.{lowest_in}
-use Rattle.mob_ratio.specs.Ratio.{Ratio, over, whole, ◌+ℚ◌, ◌/ℚ◌, neg_ℚ}
-use Rattle.mob_ratio.proofs.Divide.{over-pos}
-use Rattle.mob_ratio.proofs.RatioLemmas.{over-lowest, over-parts, den_pos}
-use Rattle.mob_ratio.proofs.Field.{add_comm, add_assoc, add_zero, sub_self}
+use Rattle.std.{proofs.Common.{◌≡◌, ℕ, ◌*◌, ◌/◌, ◌^◌, ◌<◌, ◌≤◌, ℤ, pos, neg_ℤ, nat_abs, sym, ap, ◌∙◌, arith}, proofs.Math.Nat.{div-le_self, div-le_of_le-mul, mul-pos, mul-le-mul_left, mul_comm}}
+use Rattle.mob_ratio.{specs.Gcd.{gcd}, specs.GcdLaws.{gcd_one_right, gcd-is}, specs.LowestLaws.{lowest_in}, specs.Ratio.{Ratio, over, whole, ◌+ℚ◌, ◌/ℚ◌, neg_ℚ}, proofs.Divide.{over-pos}}
+use Rattle.mob_ratio.{proofs.RatioLemmas.{over-lowest, over-parts, den_pos}, proofs.Field.{add_comm, add_assoc, add_zero, sub_self}}
 use Rattle.mob_frac.specs.Fits.{Fits}
+use native.Mathlib.Nat.{div-mul_cancel}
 
 whole_parts : (n : ℤ) → ((whole n).num ≡ n) × ((whole n).den ≡ 1)
 unfolding whole

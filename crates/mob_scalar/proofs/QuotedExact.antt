@@ -1,13 +1,11 @@
 -- The reader of the values of a ttext accepts exactly their texts.
-use Rattle.std.proofs.Common.{◌≡◌, ℕ, [], ◌∷◌, ◌++◌, Bool, true, false, cond, Some, None, refl, sym, ap, subst, ◌∙◌, append_assoc, rules, codes}
-use Rattle.std.specs.Prelude.{nat_eq}
-use Rattle.std.specs.Str.{is_utf8}
+use Rattle.std.{specs.Prelude.{nat_eq}, specs.Str.{is_utf8}, proofs.Common.{◌≡◌, ℕ, [], ◌∷◌, ◌++◌, Bool, true, false, cond, Some, None, refl, sym, ap, subst, ◌∙◌, append_assoc, rules, codes}}
 use Rattle.std.proofs.lemmas.Bool.{and_parts as both, eqb-true, not-true as not_true, or_parts, or_from}
-use Rattle.mob_language.specs.Language.{Text, AreAll, is_blank}
-use Rattle.mob_language.specs.Readers.{◌>>=◌, behind_at, word_at, split_while}
+use Rattle.mob_language.{specs.Language.{Text, AreAll, is_blank}, specs.Readers.{◌>>=◌, behind_at, word_at, split_while}}
 use Rattle.mob_language.proofs.Exact.{Reads, Exact, Stops, Any, bind_some, some_is, or_exact, where_exact, many_again, split_parts, word_exact, chosen_by, two_heads}
 use Rattle.mob_language.proofs.Heads.{NoHead, Nothing, HasByte, exact_less, byte_stops, word_nothing, then_nothing, means_nothing, where_head, or_head, where_byte, or_byte}
-use Rattle.mob_scalar.specs.Quoted.{is_escaped, escaped, quoted_text, quoted, is_plain, begins_well, ends_well, is_bare, bare, text_value, put_first, unescaped_at, quoted_at, put_before, trimmed, bare_of, bare_at, text_value_at}
+use Rattle.mob_scalar.specs.Quoted.{is_escaped, escaped, quoted_text, quoted, is_plain, begins_well, ends_well, is_bare, bare, text_value, put_first, unescaped_at, quoted_at, put_before, trimmed}
+use Rattle.mob_scalar.specs.Quoted.{bare_of, bare_at, text_value_at}
 
 -- ---- quoted values
 

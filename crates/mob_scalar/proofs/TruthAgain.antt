@@ -1,6 +1,5 @@
 -- The printed text of a bool denotes that bool.
-use Rattle.std.proofs.Common.{Bool, true, false, refl, codes}
-use Rattle.std.specs.Prelude.{Ok}
+use Rattle.std.{specs.Prelude.{Ok}, proofs.Common.{Bool, true, false, refl, codes}}
 use Rattle.mob_language.proofs.Heads.{within_said}
 use Rattle.mob_numeral.specs.Verdict.{Lit}
 use Rattle.mob_scalar.specs.Truth.{truth, truth_text, truths}

@@ -1,20 +1,12 @@
 -- Texts of moments and bools with blanks at both ends are read exactly.
-use Rattle.std.proofs.Common.{◌≡◌, ℕ, ℤ, [], ◌∷◌, ◌++◌, Bool, true, Some, None, refl, sym, subst, ◌∙◌, rules}
-use Rattle.std.specs.Char.{is_ascii_alphabetic}
-use Rattle.mob_scalar.proofs.Closing.{some_blank}
-use Rattle.mob_language.specs.Language.{Text, Maybe, Where, ManyOf, AreAll, is_blank, within_blanks, is_digit}
-use Rattle.mob_language.specs.Readers.{within_blanks_at}
+use Rattle.std.{specs.Char.{is_ascii_alphabetic}, proofs.Common.{◌≡◌, ℕ, ℤ, [], ◌∷◌, ◌++◌, Bool, true, Some, None, refl, sym, subst, ◌∙◌, rules}}
+use Rattle.mob_scalar.{specs.Calendar.{date, fixed, civil_of, is_civil}, specs.CalendarReaders.{fixed_at}, specs.Moment.{moment, time, stamp_of, is_in_years}}
+use Rattle.mob_scalar.{specs.MomentReaders.{moment_at, time_at, clock_at, two_digits_below_at, gap_at}, specs.Moments.{fitting_instant, moment_value, moment_value_at}}
+use Rattle.mob_scalar.{specs.Truth.{truth, truth_at, is_truth, is_word_true}, proofs.Closing.{some_blank}, proofs.MomentExact.{Closes, moment_exact, moment_on, fixed_byte, nothing_closes}}
+use Rattle.mob_language.{specs.Language.{Text, Maybe, Where, ManyOf, AreAll, is_blank, within_blanks, is_digit}, specs.Readers.{within_blanks_at}}
 use Rattle.mob_language.proofs.Exact.{Exact, Stops, means_exact, where_exact, many_exact, many_again}
 use Rattle.mob_language.proofs.Heads.{NoHead, Apart, HasByte, IsEnd, means_head, where_head, many_head, byte_head, means_byte, then_byte, where_byte, within_exact, blanks_stop}
-use Rattle.mob_numeral.specs.NumberReaders.{digits_at}
-use Rattle.mob_numeral.specs.Blanks.{some_blanks_at}
-use Rattle.mob_scalar.specs.Calendar.{date, fixed, civil_of, is_civil}
-use Rattle.mob_scalar.specs.CalendarReaders.{fixed_at}
-use Rattle.mob_scalar.specs.Moment.{moment, time, stamp_of, is_in_years}
-use Rattle.mob_scalar.specs.MomentReaders.{moment_at, time_at, clock_at, two_digits_below_at, gap_at}
-use Rattle.mob_scalar.specs.Moments.{fitting_instant, moment_value, moment_value_at}
-use Rattle.mob_scalar.specs.Truth.{truth, truth_at, is_truth, is_word_true}
-use Rattle.mob_scalar.proofs.MomentExact.{Closes, moment_exact, moment_on, fixed_byte, nothing_closes}
+use Rattle.mob_numeral.{specs.NumberReaders.{digits_at}, specs.Blanks.{some_blanks_at}}
 
 -- ---- moments
 

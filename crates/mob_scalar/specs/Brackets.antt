@@ -2,8 +2,7 @@
 --
 -- Blanks may be on both sides of each sign outside numbers, moments and quoted values.
 use Rattle.std.specs.Prelude.{ℕ, List, [], ◌∷◌, ◌++◌, codes, Bool, ◌||◌, nat_eq}
-use Rattle.mob_language.specs.Language.{Text, Language, ◌▷◌, Means, Word, OneOf, blanks, spaced, in_middle}
-use Rattle.mob_language.specs.Readers.{TextReader, then_at, means_at, word_at, one_at, blanks_at, spaced_at}
+use Rattle.mob_language.{specs.Language.{Text, Language, ◌▷◌, Means, Word, OneOf, blanks, spaced, in_middle}, specs.Readers.{TextReader, then_at, means_at, word_at, one_at, blanks_at, spaced_at}}
 
 abbrev pub comma : Language (Unit {0})
 comma = spaced (codes ",")

@@ -2,13 +2,11 @@
 --
 -- The calendar is the proleptic Gregorian one. Days are numbered: 0 is 1970-01-01, and the day
 -- before it is -1.
-use Rattle.std.specs.Prelude.{ℕ, zero, suc, ◌+◌, codes, Bool, ◌&&◌, cond, nat_le, nat_eq, unsigned_abs, ℤ, pos, neg_ℤ, ◌-ℤ◌, ◌≤ℤ◌}
-use Rattle.std.specs.Int.Signed.{le_z}
+use Rattle.std.{specs.Prelude.{ℕ, zero, suc, ◌+◌, codes, Bool, ◌&&◌, cond, nat_le, nat_eq, unsigned_abs, ℤ, pos, neg_ℤ, ◌-ℤ◌, ◌≤ℤ◌}, specs.Int.Signed.{le_z}}
 use Rattle.jiff_core.specs.Calendar.{days_from_civil, days_in_month}
 use Rattle.mob_language.specs.Language.{Language, ◌▷◌, Means, Where, behind}
 use Rattle.mob_scalar.specs.declared.civil.Civil.{Civil}
-use Rattle.mob_numeral.specs.declared.numeral.Figures.{Figures}
-use Rattle.mob_numeral.specs.Figures.{digits}
+use Rattle.mob_numeral.{specs.declared.numeral.Figures.{Figures}, specs.Figures.{digits}}
 
 abbrev pub has_count : ℕ → Figures → Bool
 has_count k f = nat_eq f.count k

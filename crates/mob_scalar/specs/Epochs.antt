@@ -1,7 +1,6 @@
 -- The form of epochs.
 use Rattle.std.specs.Prelude.{◌≡◌, ℤ}
-use Rattle.mob_scalar.specs.declared.civil.Civil.{Civil}
-use Rattle.mob_scalar.specs.Calendar.{date, day_of}
+use Rattle.mob_scalar.{specs.declared.civil.Civil.{Civil}, specs.Calendar.{date, day_of}}
 use Rattle.mob_numeral.specs.Verdict.{TextForm}
 
 -- an epoch is written as a date, and its value is the number of the day

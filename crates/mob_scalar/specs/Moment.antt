@@ -1,17 +1,10 @@
 -- The texts of moments.
-use Rattle.std.specs.Prelude.{ℕ, ◌+◌, ◌*◌, ◌^◌, ◌<◌, codes, Bool, false, ◌&&◌, ◌||◌, cond, nat_le, nat_lt, nat_eq, Option, Some, None, ℤ, pos, neg_ℤ, ◌+ℤ◌, ◌-ℤ◌, ◌*ℤ◌}
-use Rattle.std.specs.Int.Signed.{le_z}
+use Rattle.std.{specs.Prelude.{ℕ, ◌+◌, ◌*◌, ◌^◌, ◌<◌, codes, Bool, false, ◌&&◌, ◌||◌, cond, nat_le, nat_lt, nat_eq, Option, Some, None, ℤ, pos, neg_ℤ, ◌+ℤ◌, ◌-ℤ◌, ◌*ℤ◌}, specs.Int.Signed.{le_z}}
 use Rattle.mob_ratio.specs.Ratio.{Ratio, over, whole, ◌+ℚ◌}
 use Rattle.mob_language.specs.Language.{Language, ◌▷◌, ◌∣◌, Maybe, Means, Where, Word, OneOf, behind, is_number_sign}
-use Rattle.mob_numeral.specs.declared.numeral.Figures.{Figures}
-use Rattle.mob_numeral.specs.Blanks.{some_blanks}
-use Rattle.mob_scalar.specs.declared.civil.Civil.{Civil}
-use Rattle.mob_scalar.specs.declared.stamp.Part.{Part}
-use Rattle.mob_scalar.specs.declared.stamp.Clock.{Clock}
-use Rattle.mob_scalar.specs.declared.stamp.Offset.{Offset}
-use Rattle.mob_scalar.specs.declared.stamp.Stamp.{Stamp}
-use Rattle.mob_numeral.specs.Figures.{digits}
-use Rattle.mob_scalar.specs.Calendar.{fixed, date, day_of}
+use Rattle.mob_numeral.{specs.declared.numeral.Figures.{Figures}, specs.Blanks.{some_blanks}, specs.Figures.{digits}}
+use Rattle.mob_scalar.{specs.declared.civil.Civil.{Civil}, specs.declared.stamp.Part.{Part}, specs.declared.stamp.Clock.{Clock}, specs.declared.stamp.Offset.{Offset}}
+use Rattle.mob_scalar.{specs.declared.stamp.Stamp.{Stamp}, specs.Calendar.{fixed, date, day_of}}
 
 abbrev pub is_below : ℕ → ℕ → Bool
 is_below limit n = nat_lt n limit

@@ -1,31 +1,25 @@
 -- The readers of the languages of moments.
 use Rattle.std.specs.Prelude.{ℕ, codes, Option, Some}
-use Rattle.mob_language.specs.Language.{Text, is_number_sign}
-use Rattle.mob_language.specs.Readers.{TextReader, ◌>>=◌, then_at, or_at, maybe_at, means_at, where_at, word_at, one_at, behind_at}
-use Rattle.mob_numeral.specs.declared.numeral.Figures.{Figures}
-use Rattle.mob_scalar.specs.declared.stamp.Part.{Part}
-use Rattle.mob_scalar.specs.declared.stamp.Clock.{Clock}
-use Rattle.mob_scalar.specs.declared.stamp.Offset.{Offset}
-use Rattle.mob_scalar.specs.declared.stamp.Stamp.{Stamp}
-use Rattle.mob_numeral.specs.NumberReaders.{digits_at}
-use Rattle.mob_numeral.specs.Blanks.{some_blanks_at}
+use Rattle.mob_language.{specs.Language.{Text, is_number_sign}, specs.Readers.{TextReader, ◌>>=◌, then_at, or_at, maybe_at, means_at, text_where, word_at, one_at, behind_at}}
+use Rattle.mob_numeral.{specs.declared.numeral.Figures.{Figures}, specs.NumberReaders.{digits_at}, specs.Blanks.{some_blanks_at}}
+use Rattle.mob_scalar.{specs.declared.stamp.Part.{Part}, specs.declared.stamp.Clock.{Clock}, specs.declared.stamp.Offset.{Offset}, specs.declared.stamp.Stamp.{Stamp}}
 use Rattle.mob_scalar.specs.CalendarReaders.{fixed_at, date_at}
 use Rattle.mob_scalar.specs.Moment.{is_below, point_part, is_point_part, fraction_part, is_fraction_part, clock_of, offset_of, utc, is_z, is_t, time_of, stamp_of, is_in_years}
 
 unfoldable pub two_digits_below_at : ℕ → TextReader ℕ
-two_digits_below_at limit = where_at (is_below limit) (fixed_at 2)
+two_digits_below_at limit = text_where (is_below limit) (fixed_at 2)
 
 unfoldable pub colon_at : TextReader ℕ
 colon_at = behind_at (codes ":") (two_digits_below_at 60)
 
 unfoldable pub decimals_at : TextReader Part
-decimals_at = means_at point_part (where_at is_point_part (behind_at (codes ".") digits_at))
+decimals_at = means_at point_part (text_where is_point_part (behind_at (codes ".") digits_at))
 
 unfoldable pub below_at : TextReader Figures
 below_at = behind_at (codes "/") digits_at
 
 unfoldable pub quotient_at : TextReader Part
-quotient_at = means_at fraction_part (where_at is_fraction_part (behind_at (codes "(") (then_at digits_at (then_at below_at (word_at (codes ")"))))))
+quotient_at = means_at fraction_part (text_where is_fraction_part (behind_at (codes "(") (then_at digits_at (then_at below_at (word_at (codes ")"))))))
 
 unfoldable pub second_part_at : TextReader Part
 second_part_at = or_at decimals_at quotient_at
@@ -55,7 +49,7 @@ unfoldable pub time_at : TextReader (Clock × Offset)
 time_at = means_at time_of (then_at gap_at (then_at clock_at (maybe_at zone_at)))
 
 unfoldable pub moment_at : TextReader Stamp
-moment_at = where_at is_in_years (means_at stamp_of (then_at date_at (maybe_at time_at)))
+moment_at = text_where is_in_years (means_at stamp_of (then_at date_at (maybe_at time_at)))
 
 -- an offset after its sign
 abbrev pub after_sign_in : ℕ → Text → Option (Offset × Text)

@@ -4,15 +4,12 @@
 -- HH:MM:SS`, then the part of a second, then `+00`. The part is empty for a whole second. If at
 -- most six decimal digits are exact, it is a point and the fewest such digits, else the fraction in
 -- brackets. Outside the years 0001 to 9999 the text is `epoch+(n)`, with the number n of seconds.
-use Rattle.std.specs.Prelude.{◌≡◌, true, ℕ, zero, suc, ◌*◌, ◌-◌, ◌/◌, ◌%◌, ◌==◌, List, [], ◌∷◌, ◌++◌, length, codes, replicate, position, ◌^◌, if◌then◌else◌, Option, Some, None, ℤ, pos, unsigned_abs, ◌+ℤ◌, ◌*ℤ◌}
-use Rattle.std.specs.Fmt.{decimal}
-use Rattle.std.specs.Int.{int_div_euclid, int_rem_euclid}
+use Rattle.std.specs.Prelude.{◌≡◌, true, ℕ, zero, suc, ◌*◌, ◌-◌, ◌/◌, ◌%◌, ◌==◌, List, [], ◌∷◌, ◌++◌, length, codes, replicate, position, ◌^◌, if◌then◌else◌, Option, Some, None, ℤ, pos, unsigned_abs}
+use Rattle.std.{specs.Prelude.{◌+ℤ◌, ◌*ℤ◌}, specs.Fmt.{decimal}, specs.Int.{int_div_euclid, int_rem_euclid}}
 use Rattle.mob_ratio.specs.Ratio.{Ratio}
 use Rattle.mob_frac.specs.Fits.{Fits}
 use Rattle.mob_language.specs.Language.{Text}
-use Rattle.mob_scalar.specs.declared.civil.Civil.{Civil}
-use Rattle.mob_scalar.specs.Calendar.{date_of}
-use Rattle.mob_scalar.specs.Moment.{is_year_second}
+use Rattle.mob_scalar.{specs.declared.civil.Civil.{Civil}, specs.Calendar.{date_of}, specs.Moment.{is_year_second}}
 use Rattle.mob_numeral.specs.NumberText.{number_text}
 
 -- a number in at least k digits, with leading zeros

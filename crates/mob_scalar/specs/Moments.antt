@@ -3,13 +3,9 @@
 use Rattle.std.specs.Prelude.{◌≡◌, Option, ℤ}
 use Rattle.mob_ratio.specs.Ratio.{Ratio}
 use Rattle.mob_frac.specs.Fits.{Fits}
-use Rattle.mob_language.specs.Language.{Language, Means, within_blanks}
-use Rattle.mob_language.specs.Readers.{TextReader, means_at}
-use Rattle.mob_numeral.specs.Fitting.{fitting}
-use Rattle.mob_scalar.specs.declared.stamp.Stamp.{Stamp}
-use Rattle.mob_scalar.specs.Moment.{moment, instant}
-use Rattle.mob_scalar.specs.MomentReaders.{moment_at}
-use Rattle.mob_numeral.specs.Verdict.{TextForm}
+use Rattle.mob_language.{specs.Language.{Language, Means, within_blanks}, specs.Readers.{TextReader, means_at}}
+use Rattle.mob_numeral.{specs.Fitting.{fitting}, specs.Verdict.{TextForm}}
+use Rattle.mob_scalar.{specs.declared.stamp.Stamp.{Stamp}, specs.Moment.{moment, instant}, specs.MomentReaders.{moment_at}}
 
 abbrev pub moments : ℤ → TextForm Stamp Ratio
 moments epoch = record {

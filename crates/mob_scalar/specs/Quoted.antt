@@ -3,10 +3,8 @@
 -- A value is written in double quotes, with a backslash before each of its double quotes and
 -- backslashes. Or it is bare: at least one character, without blanks at its ends and without any of
 -- @ , { } [ ] ( ) and double quotes.
-use Rattle.std.specs.Prelude.{◌≡◌, ℕ, [], ◌∷◌, ◌++◌, codes, Bool, true, false, ◌||◌, ◌&&◌, not, cond, nat_eq, Option, Some, None}
-use Rattle.std.specs.Str.{is_utf8}
-use Rattle.mob_language.specs.Language.{Text, Language, ◌∣◌, Where, ManyOf, is_blank}
-use Rattle.mob_language.specs.Readers.{TextReader, ◌>>=◌, or_at, where_at, behind_at, split_while}
+use Rattle.std.{specs.Prelude.{◌≡◌, ℕ, [], ◌∷◌, ◌++◌, codes, Bool, true, false, ◌||◌, ◌&&◌, not, cond, nat_eq, Option, Some, None}, specs.Str.{is_utf8}}
+use Rattle.mob_language.{specs.Language.{Text, Language, ◌∣◌, Where, ManyOf, is_blank}, specs.Readers.{TextReader, ◌>>=◌, or_at, text_where, behind_at, split_while}}
 
 -- a double quote or a backslash
 abbrev pub is_escaped : ℕ → Bool
@@ -79,4 +77,4 @@ unfoldable pub bare_at : TextReader Text
 bare_at text = bare_of (trimmed (split_while is_plain text).0) (split_while is_plain text).1
 
 unfoldable pub text_value_at : TextReader Text
-text_value_at = where_at is_utf8 (or_at quoted_at bare_at)
+text_value_at = text_where is_utf8 (or_at quoted_at bare_at)

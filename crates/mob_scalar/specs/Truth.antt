@@ -1,9 +1,6 @@
 -- The texts of bools: t, true, f and false, in any letter case.
-use Rattle.std.specs.Prelude.{◌≡◌, Bool, codes, ◌||◌, cond}
-use Rattle.std.specs.Char.{is_ascii_alphabetic}
-use Rattle.std.specs.Str.{str_eq_ignore_ascii_case}
-use Rattle.mob_language.specs.Language.{Text, Language, Means, Where, ManyOf, within_blanks}
-use Rattle.mob_language.specs.Readers.{TextReader, means_at, where_at, many_at}
+use Rattle.std.{specs.Prelude.{◌≡◌, Bool, codes, ◌||◌, cond}, specs.Char.{is_ascii_alphabetic}, specs.Str.{str_eq_ignore_ascii_case}}
+use Rattle.mob_language.{specs.Language.{Text, Language, Means, Where, ManyOf, within_blanks}, specs.Readers.{TextReader, means_at, text_where, many_at}}
 use Rattle.mob_numeral.specs.Verdict.{TextForm}
 
 abbrev pub is_word_true : Text → Bool
@@ -20,7 +17,7 @@ abbrev pub truth : Language Bool
 truth = Means is_word_true (Where is_truth (ManyOf is_ascii_alphabetic))
 
 unfoldable pub truth_at : TextReader Bool
-truth_at = means_at is_word_true (where_at is_truth (many_at is_ascii_alphabetic))
+truth_at = means_at is_word_true (text_where is_truth (many_at is_ascii_alphabetic))
 
 -- the printed text of a bool
 abbrev pub truth_text : Bool → Text

@@ -1,13 +1,8 @@
 -- Names in a map: the place of the first entry with a name, and that a new name goes last.
+use Rattle.std.{specs.Prelude.{string_bytes, is_some}, specs.List.{position_from, list_any}, specs.Str.{bytes_eq}, specs.String.{string_eq}, specs.Map.{keys_of, lookup}}
 use Rattle.std.proofs.Common.{◌≡◌, ◌∙◌, sym, ap, refl, ℕ, ◌+◌, List, [], ◌∷◌, ◌++◌, map, Bool, true, false, cond, ◌||◌, Option, Some, None, String, Global, position}
-use Rattle.std.specs.Prelude.{string_bytes, is_some}
-use Rattle.std.specs.List.{position_from, list_any}
-use Rattle.std.specs.Str.{bytes_eq}
-use Rattle.std.specs.String.{string_eq}
-use Rattle.std.specs.Map.{keys_of, lookup}
 use Rattle.std.proofs.lemmas.Iterator.Adapters.{position_from-zero}
-use Rattle.indexmap.specs.IndexMap.{insert_entry}
-use Rattle.indexmap.specs.IndexSet.{insert_key}
+use Rattle.indexmap.{specs.IndexMap.{insert_entry}, specs.IndexSet.{insert_key}}
 use Rattle.mob_scope.specs.Names.{entry_from, has_entry}
 
 abbrev is : List ℕ → String Global → Bool

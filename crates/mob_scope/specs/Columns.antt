@@ -1,13 +1,9 @@
 -- The column that a name means, or the first thing that is wrong.
 use Rattle.std.specs.Prelude.{◌+◌, ℕ, List, [], ◌∷◌, Option, Some, None, Result, Ok}
-use Rattle.mob_ast.specs.declared.types.Word.{Word}
-use Rattle.mob_ast.specs.declared.types.SqlType.{SqlType}
-use Rattle.mob_ast.specs.declared.refusal.Kind.TheVariants as kind
-use Rattle.mob_scope.specs.declared.scope.Found.{Found}
-use Rattle.mob_scope.specs.Answers.{refuse, ◌>>=◌, found}
-use Rattle.mob_scope.specs.declared.fault.Mistake.{Mistake}
-use Rattle.mob_scope.specs.Names.{column_of, entry_from}
+use Rattle.mob_ast.{specs.declared.types.Word.{Word}, specs.declared.types.SqlType.{SqlType}}
+use Rattle.mob_scope.{specs.declared.scope.Found.{Found}, specs.Answers.{refuse, ◌>>=◌, found}, specs.declared.fault.Mistake.{Mistake}, specs.Names.{column_of, entry_from}}
 use Rattle.mob_scope.specs.Scopes.{ScopeTableParts, ScopeParts}
+use Rattle.mob_ast.specs.declared.refusal.Kind.TheVariants as kind
 
 abbrev pub with_first : Option (ℕ × SqlType) → ℕ → List Found → List Found
 with_first None n others = others

@@ -1,6 +1,5 @@
 -- Lists of entries by name, and the columns of a table.
-use Rattle.std.specs.Prelude.{◌+◌, ℕ, List, [], ◌∷◌, Bool, Option, Some, None, is_some, if◌then◌else◌}
-use Rattle.std.specs.Str.{bytes_eq}
+use Rattle.std.{specs.Prelude.{◌+◌, ℕ, List, [], ◌∷◌, Bool, Option, Some, None, is_some, if◌then◌else◌}, specs.Str.{bytes_eq}}
 use Rattle.mob_ast.specs.declared.types.SqlType.{SqlType}
 
 -- the number and the content of the first entry with this name, counted from n

@@ -1,8 +1,7 @@
 -- What an expression can name.
 use Rattle.std.specs.Prelude.{ℕ, List, map}
 use Rattle.mob_ast.specs.declared.types.SqlType.{SqlType}
-use Rattle.mob_scope.specs.declared.scope.ScopeTable.{ScopeTable}
-use Rattle.mob_scope.specs.declared.scope.Scope.{Scope}
+use Rattle.mob_scope.{specs.declared.scope.ScopeTable.{ScopeTable}, specs.declared.scope.Scope.{Scope}}
 
 -- a table of FROM: its number and its columns
 pub record ScopeTableParts : Type 0 where

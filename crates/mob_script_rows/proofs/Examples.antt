@@ -1,20 +1,14 @@
 -- Worked scripts, computed by the definition.
 use Rattle.std.specs.Prelude.{◌≡◌, ℕ, List, [], ◌∷◌, false, Option, Some, None, Result, Ok, Err, codes, refl}
-use Rattle.mob_ast.specs.declared.types.Word.{Word}
-use Rattle.mob_ast.specs.declared.types.TypeWord.{TypeWord}
-use Rattle.mob_ast.specs.declared.types.SqlType.TheVariants as sql
-use Rattle.mob_ast.specs.declared.refusal.Kind.{Kind}
-use Rattle.mob_ast.specs.declared.refusal.Kind.TheVariants as kind
-use Rattle.mob_ast.specs.declared.refusal.Refusal.{Refusal}
-use Rattle.mob_ast.specs.declared.expression.Node.TheVariants.{Number, Str, Literal, Column, Call, Sign}
-use Rattle.mob_ast.specs.Trees.{Tree, tree, Trees, none, more, one, StatementParts, create_table, select}
+use Rattle.mob_ast.{specs.declared.types.Word.{Word}, specs.declared.types.TypeWord.{TypeWord}, specs.declared.refusal.Kind.{Kind}, specs.declared.refusal.Refusal.{Refusal}}
+use Rattle.mob_ast.{specs.declared.expression.Node.TheVariants.{Number, Str, Literal, Column, Call, Sign}, specs.Trees.{Tree, tree, Trees, none, more, one, StatementParts, create_table, select}}
 use Rattle.mob_operators.specs.Table.{table}
-use Rattle.mob_operators.specs.declared.operator.Op.TheVariants as op
-use Rattle.mob_expression.specs.Words.{type_words, geometry_words}
-use Rattle.mob_typed.specs.Trees.{typed, none as no_args}
-use Rattle.mob_expression.specs.Expressions.{typed_before_operands, finished, digits_of, digits_in, typed_expression, typed_operands}
+use Rattle.mob_expression.{specs.Words.{type_words, geometry_words}, specs.Expressions.{typed_before_operands, finished, digits_of, digits_in, typed_expression, typed_operands}}
+use Rattle.mob_typed.{specs.Trees.{typed, none as no_args}, specs.Statements.{ScriptOut, query}}
 use Rattle.mob_typing.specs.Statements.{typed_statement, typed_script}
-use Rattle.mob_typed.specs.Statements.{ScriptOut, query}
+use Rattle.mob_ast.specs.declared.types.SqlType.TheVariants as sql
+use Rattle.mob_ast.specs.declared.refusal.Kind.TheVariants as kind
+use Rattle.mob_operators.specs.declared.operator.Op.TheVariants as op
 
 abbrev pub word : List ℕ → ℕ → Word
 word text place = record { text = text; place = place }

@@ -1,20 +1,15 @@
 -- Worked scripts with tables, rows, keys and `*`, computed by the definition.
 use Rattle.std.specs.Prelude.{◌≡◌, ◌+◌, ◌*◌, ◌/◌, ◌%◌, ℕ, zero, suc, List, [], ◌∷◌, ◌++◌, false, None, Some, Ok, codes, refl}
-use Rattle.mob_ast.specs.declared.types.Word.{Word}
-use Rattle.mob_ast.specs.declared.types.TypeWord.{TypeWord}
-use Rattle.mob_ast.specs.declared.types.SqlType.TheVariants as sql
-use Rattle.mob_ast.specs.declared.refusal.Kind.TheVariants as kind
-use Rattle.mob_ast.specs.declared.expression.Node.TheVariants.{Null, True, Sign}
+use Rattle.mob_ast.{specs.declared.types.Word.{Word}, specs.declared.types.TypeWord.{TypeWord}, specs.declared.expression.Node.TheVariants.{Null, True, Sign}}
 use Rattle.mob_ast.specs.Trees.{Tree, tree, none, every, one, FromParts, StatementParts, create_table, insert, select}
 use Rattle.mob_operators.specs.Table.{table}
-use Rattle.mob_operators.specs.declared.operator.Op.TheVariants as op
-use Rattle.mob_expression.specs.Words.{type_words, geometry_words}
-use Rattle.mob_typed.specs.Trees.{typed, none as no_args}
-use Rattle.mob_typed.specs.Statements.{ColumnList}
-use Rattle.mob_expression.specs.Expressions.{typed_before_operands, finished, digits_of, digits_in, typed_expression, typed_operands}
+use Rattle.mob_expression.{specs.Words.{type_words, geometry_words}, specs.Expressions.{typed_before_operands, finished, digits_of, digits_in, typed_expression, typed_operands}}
+use Rattle.mob_typed.{specs.Trees.{typed, none as no_args}, specs.Statements.{ColumnList, new_table, new_rows, query}}
 use Rattle.mob_typing.specs.Statements.{node_value, typed_statement, typed_script}
-use Rattle.mob_typed.specs.Statements.{new_table, new_rows, query}
 use Rattle.mob_script_rows.proofs.Examples.{word, type_word, leaf, number, string, literal, column, refused, refused_in}
+use Rattle.mob_ast.specs.declared.types.SqlType.TheVariants as sql
+use Rattle.mob_ast.specs.declared.refusal.Kind.TheVariants as kind
+use Rattle.mob_operators.specs.declared.operator.Op.TheVariants as op
 
 -- the column of this name and type, whose type is two bytes after the beginning of a name of one
 -- letter

@@ -1,17 +1,10 @@
 -- Two spans with a common end: their intersection, and the parts before and after.
-use Rattle.std.specs.Prelude.{◌≡◌, Bool, true, false, cond, not, ◌||◌, ◌&&◌}
-use Rattle.std.proofs.Common.{arith, ap, sym, ◌∙◌}
+use Rattle.std.{specs.Prelude.{◌≡◌, Bool, true, false, cond, not, ◌||◌, ◌&&◌}, proofs.Common.{arith, ap, sym, ◌∙◌}}
 use Rattle.mob_list.proofs.Tests.{neither_true}
-use Rattle.mob_ratio.specs.Ratio.{Ratio}
-use Rattle.mob_ratio.specs.Order.{before, up_to}
-use Rattle.mob_ratio.proofs.Order.{before-back}
-use Rattle.mob_span.specs.Span.{SpanOf, has, has_instant}
-use Rattle.mob_span.specs.Neighbours.{is_clear}
-use Rattle.mob_span.specs.Remainders.{precedes, follows, front_of, back_of}
-use Rattle.mob_span.proofs.SpanLemmas.{none_has}
+use Rattle.mob_ratio.{specs.Ratio.{Ratio}, specs.Order.{before, up_to}, proofs.Order.{before-back}}
+use Rattle.mob_span.{specs.Span.{SpanOf, has, has_instant}, specs.Neighbours.{is_clear}, specs.Remainders.{precedes, follows, front_of, back_of}, proofs.SpanLemmas.{none_has}}
 use Rattle.mob_span.proofs.Leaving.{front_has, back_has}
-use Rattle.mob_shares.proofs.Spans.{not_precedes, not_follows}
-use Rattle.mob_shares.specs.Begins.{BeginTogether, EndTogether}
+use Rattle.mob_shares.{specs.Begins.{BeginTogether, EndTogether}, proofs.Spans.{not_precedes, not_follows}}
 
 pub begin_back : (a b : SpanOf) → BeginTogether a b → BeginTogether b a
 begin_back a b h = record { lower = sym h.lower; with = sym h.with }

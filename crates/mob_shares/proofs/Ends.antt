@@ -1,23 +1,11 @@
 -- The ends of the pieces of the walk: each is an end of an item, or the start of the next shared
 -- piece.
-use Rattle.std.specs.Prelude.{◌≡◌, ◌⊎◌, Bool, true, false, cond, refl, ◌||◌, ◌&&◌, not, List, [], ◌∷◌, ◌++◌, Option, Some, None}
-use Rattle.std.specs.List.{AllByRecursion}
-use Rattle.std.proofs.Common.{ap, sym, ◌∙◌, subst, arith, true≢false, inl, inr}
-use Rattle.std.proofs.lemmas.Bool.{and_right}
-use Rattle.std.proofs.lemmas.Option.{same_Some}
-use Rattle.mob_ratio.specs.Ratio.{Ratio}
-use Rattle.mob_ratio.specs.Order.{before, up_to}
-use Rattle.mob_span.specs.Span.{SpanOf, has, has_instant}
-use Rattle.mob_span.specs.Meet.{meet_of, starts_before, ends_before}
-use Rattle.mob_span.specs.Meets.{PieceOf}
-use Rattle.mob_span.specs.Neighbours.{is_clear}
-use Rattle.mob_span.specs.Pieces.{PiecesAreClear, piece_at}
-use Rattle.mob_span.specs.Remainders.{front_of}
-use Rattle.mob_span.proofs.SpanLemmas.{meet_has}
-use Rattle.mob_span.proofs.Sets.{starts_one_way}
-use Rattle.mob_shares.specs.Cuts.{CutOf, entry_at, row_pieces, shared_cuts}
-use Rattle.mob_shares.specs.Sharing.{ShareOf, next_share}
-use Rattle.mob_shares.proofs.Spans.{front_whole}
+use Rattle.std.{specs.Prelude.{◌≡◌, ◌⊎◌, Bool, true, false, cond, refl, ◌||◌, ◌&&◌, not, List, [], ◌∷◌, ◌++◌, Option, Some, None}, specs.List.{AllByRecursion}}
+use Rattle.std.{proofs.Common.{ap, sym, ◌∙◌, subst, arith, true≢false, inl, inr}, proofs.lemmas.Bool.{and_right}, proofs.lemmas.Option.{same_Some}}
+use Rattle.mob_ratio.{specs.Ratio.{Ratio}, specs.Order.{before, up_to}}
+use Rattle.mob_span.{specs.Span.{SpanOf, has, has_instant}, specs.Meet.{meet_of, starts_before, ends_before}, specs.Meets.{PieceOf}, specs.Neighbours.{is_clear}}
+use Rattle.mob_span.{specs.Pieces.{PiecesAreClear, piece_at}, specs.Remainders.{front_of}, proofs.SpanLemmas.{meet_has}, proofs.Sets.{starts_one_way}}
+use Rattle.mob_shares.{specs.Cuts.{CutOf, entry_at, row_pieces, shared_cuts}, specs.Sharing.{ShareOf, next_share}, proofs.Spans.{front_whole}}
 
 -- s starts before r but is not all before it: they share an instant, the first one at the start of
 -- r

@@ -1,20 +1,9 @@
 -- The item of a list in a piece is that of the list's first cut.
-use Rattle.std.specs.Prelude.{◌≡◌, Bool, true, false, cond, refl, ◌&&◌, List, [], ◌∷◌, ◌++◌, Option, Some, None}
-use Rattle.std.specs.List.{AllByRecursion}
-use Rattle.std.proofs.Common.{ap, sym, ◌∙◌, subst}
+use Rattle.std.{specs.Prelude.{◌≡◌, Bool, true, false, cond, refl, ◌&&◌, List, [], ◌∷◌, ◌++◌, Option, Some, None}, specs.List.{AllByRecursion}, proofs.Common.{ap, sym, ◌∙◌, subst}}
 use Rattle.mob_ratio.specs.Ratio.{Ratio}
-use Rattle.mob_span.specs.Span.{SpanOf, has, has_instant}
-use Rattle.mob_span.specs.Meet.{meet_of}
-use Rattle.mob_span.specs.Meets.{PieceOf}
-use Rattle.mob_span.specs.Neighbours.{is_clear, is_inside}
-use Rattle.mob_span.specs.Pieces.{PiecesAreClear, piece_at}
-use Rattle.mob_span.specs.Remainders.{precedes, front_of, back_of}
-use Rattle.mob_span.proofs.Insides.{inside_self, meet_left, meet_right}
-use Rattle.mob_span.proofs.Leaving.{front_has}
-use Rattle.mob_shares.specs.Cuts.{CutOf, left_after}
-use Rattle.mob_shares.specs.Sharing.{ShareOf, next_share, both_of}
-use Rattle.mob_shares.proofs.Spans.{inside_by}
-use Rattle.mob_shares.proofs.Sides.{IsOf, side_of}
+use Rattle.mob_span.{specs.Span.{SpanOf, has, has_instant}, specs.Meet.{meet_of}, specs.Meets.{PieceOf}, specs.Neighbours.{is_clear, is_inside}, specs.Pieces.{PiecesAreClear, piece_at}}
+use Rattle.mob_span.{specs.Remainders.{precedes, front_of, back_of}, proofs.Insides.{inside_self, meet_left, meet_right}, proofs.Leaving.{front_has}}
+use Rattle.mob_shares.{specs.Cuts.{CutOf, left_after}, specs.Sharing.{ShareOf, next_share, both_of}, proofs.Spans.{inside_by}, proofs.Sides.{IsOf, side_of}}
 
 -- x is the item of the first cut, which contains the span
 pub record IsHead {X : Type 0} (v : List (CutOf X)) (p : SpanOf) (x : X) : Type 0 where

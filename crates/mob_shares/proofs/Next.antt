@@ -1,17 +1,8 @@
 -- The result of a call of the walk.
-use Rattle.std.specs.Prelude.{◌≡◌, Bool, true, false, cond, List, [], ◌∷◌, Option, Some, None, ◌<◌, refl}
-use Rattle.std.specs.Iterator.{MakesProgress}
-use Rattle.std.proofs.Common.{ap, sym, ◌∙◌, subst}
-use Rattle.mob_span.specs.Span.{SpanOf, has_instant}
-use Rattle.mob_span.specs.Meet.{meet_of}
-use Rattle.mob_span.specs.Pieces.{PiecesAreClear}
-use Rattle.mob_span.specs.Remainders.{front_of}
-use Rattle.mob_shares.specs.Cuts.{CutOf, head_of}
-use Rattle.mob_shares.specs.Sharing.{ShareOf, next_share, most_shares}
-use Rattle.mob_shares.proofs.Steps.{next_step, next_fewer}
-use Rattle.mob_shares.specs.declared.shares.Share.{Share}
-use Rattle.mob_shares.specs.declared.shares.Shares.{Shares}
-use Rattle.mob_shares.specs.Shares.{rest_of, share_of, CanShare, IsShared, shares_left}
+use Rattle.std.{specs.Prelude.{◌≡◌, Bool, true, false, cond, List, [], ◌∷◌, Option, Some, None, ◌<◌, refl}, specs.Iterator.{MakesProgress}, proofs.Common.{ap, sym, ◌∙◌, subst}}
+use Rattle.mob_span.{specs.Span.{SpanOf, has_instant}, specs.Meet.{meet_of}, specs.Pieces.{PiecesAreClear}, specs.Remainders.{front_of}}
+use Rattle.mob_shares.{specs.Cuts.{CutOf, head_of}, specs.Sharing.{ShareOf, next_share, most_shares}, specs.declared.shares.Share.{Share}, specs.declared.shares.Shares.{Shares}}
+use Rattle.mob_shares.{specs.Shares.{rest_of, share_of, CanShare, IsShared, shares_left}, proofs.Steps.{next_step, next_fewer}}
 
 module _ {X : Type 0} where
   -- a list by its first entry

@@ -1,16 +1,9 @@
 -- The pieces that two lists of cuts share, and those left when the first cut of one is shortened.
-use Rattle.std.specs.Prelude.{◌≡◌, Bool, true, false, cond, refl, ◌&&◌, List, [], ◌∷◌, ◌++◌, map}
-use Rattle.std.specs.List.{filter}
-use Rattle.std.proofs.Common.{ap, sym, ◌∙◌}
+use Rattle.std.{specs.Prelude.{◌≡◌, Bool, true, false, cond, refl, ◌&&◌, List, [], ◌∷◌, ◌++◌, map}, specs.List.{filter}, proofs.Common.{ap, sym, ◌∙◌}}
 use Rattle.mob_ratio.specs.Ratio.{Ratio}
-use Rattle.mob_span.specs.Span.{SpanOf, has, has_instant}
-use Rattle.mob_span.specs.Meet.{meet_of}
-use Rattle.mob_span.specs.Meets.{PieceOf, shared_pieces}
-use Rattle.mob_span.specs.Remainders.{back_of}
-use Rattle.mob_span.proofs.SpanLemmas.{no_instant, meet_none}
+use Rattle.mob_span.{specs.Span.{SpanOf, has, has_instant}, specs.Meet.{meet_of}, specs.Meets.{PieceOf, shared_pieces}, specs.Remainders.{back_of}, proofs.SpanLemmas.{no_instant, meet_none}}
 use Rattle.mob_span.proofs.Shared.{AreAllClear, row}
-use Rattle.mob_shares.specs.Cuts.{CutOf, wholes, kept, left_after, row_pieces, shared_cuts}
-use Rattle.mob_shares.proofs.Spans.{some_same, one_span, same_behind, same_behind', meets_same, meets_same', none_behind}
+use Rattle.mob_shares.{specs.Cuts.{CutOf, wholes, kept, left_after, row_pieces, shared_cuts}, proofs.Spans.{some_same, one_span, same_behind, same_behind', meets_same, meets_same', none_behind}}
 
 no_meet : (s r : SpanOf) → has_instant s ≡ false → has_instant (meet_of s r) ≡ false
 no_meet s r h = (meet_none s r).1 (λ t. ap (λ b. b && has r t) (no_instant s t h))

@@ -1,19 +1,10 @@
 -- One of two lists of cuts, after a piece.
-use Rattle.std.specs.Prelude.{◌≡◌, Bool, true, false, cond, refl, ◌&&◌, not, List, [], ◌∷◌, Some, None}
-use Rattle.std.specs.List.{AllByRecursion}
-use Rattle.std.proofs.Common.{ap, sym, ◌∙◌, true≢false}
+use Rattle.std.{specs.Prelude.{◌≡◌, Bool, true, false, cond, refl, ◌&&◌, not, List, [], ◌∷◌, Some, None}, specs.List.{AllByRecursion}, proofs.Common.{ap, sym, ◌∙◌, true≢false}}
 use Rattle.mob_ratio.specs.Ratio.{Ratio}
-use Rattle.mob_span.specs.Span.{SpanOf, has, has_instant}
-use Rattle.mob_span.specs.Chained.{OfHead}
-use Rattle.mob_span.specs.Neighbours.{is_clear, is_inside}
-use Rattle.mob_span.specs.Pieces.{PiecesAreClear, piece_at}
-use Rattle.mob_span.specs.Remainders.{precedes, follows, back_of}
-use Rattle.mob_span.proofs.SpanLemmas.{no_instant}
-use Rattle.mob_span.proofs.Insides.{clear_has, inside_clear}
-use Rattle.mob_span.proofs.Shared.{AreAllClear, all_after, later}
+use Rattle.mob_span.{specs.Span.{SpanOf, has, has_instant}, specs.Chained.{OfHead}, specs.Neighbours.{is_clear, is_inside}, specs.Pieces.{PiecesAreClear, piece_at}}
+use Rattle.mob_span.{specs.Remainders.{precedes, follows, back_of}, proofs.SpanLemmas.{no_instant}, proofs.Insides.{clear_has, inside_clear}, proofs.Shared.{AreAllClear, all_after, later}}
 use Rattle.mob_span.proofs.Leaving.{back_has, neither_has, clear_back}
-use Rattle.mob_shares.specs.Cuts.{CutOf, wholes, kept, left_after, entry_at}
-use Rattle.mob_shares.proofs.Spans.{clear_behind, inside_by, inside_of}
+use Rattle.mob_shares.{specs.Cuts.{CutOf, wholes, kept, left_after, entry_at}, proofs.Spans.{clear_behind, inside_by, inside_of}}
 
 module _ {X : Type 0} where
   abbrev pub cut_span : CutOf X → SpanOf

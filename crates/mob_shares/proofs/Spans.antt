@@ -1,18 +1,9 @@
 -- Facts on spans: a set of instants is one span, and the part after a span.
-use Rattle.std.specs.Prelude.{◌≡◌, Bool, true, false, cond, refl, ◌||◌, ◌&&◌, not, [], ◌∷◌}
-use Rattle.std.proofs.Common.{arith, ap, sym, subst, ◌∙◌, true≢false}
+use Rattle.std.{specs.Prelude.{◌≡◌, Bool, true, false, cond, refl, ◌||◌, ◌&&◌, not, [], ◌∷◌}, proofs.Common.{arith, ap, sym, subst, ◌∙◌, true≢false}}
 use Rattle.mob_slice.proofs.Bisection.{clear_past}
-use Rattle.mob_ratio.specs.Ratio.{Ratio}
-use Rattle.mob_ratio.specs.Order.{before, up_to}
-use Rattle.mob_ratio.proofs.Order.{before-back, before-trans, before-neither, before-self}
-use Rattle.mob_span.specs.Span.{SpanOf, has, has_instant}
-use Rattle.mob_span.specs.Meet.{meet_of, starts_before}
-use Rattle.mob_span.specs.Neighbours.{is_clear, is_inside}
-use Rattle.mob_span.specs.Remainders.{precedes, follows, front_of, back_of}
-use Rattle.mob_span.proofs.SpanLemmas.{some_instant, no_instant, none_has, meet_has, meet_none, has_exact}
-use Rattle.mob_span.proofs.Insides.{clear_has}
-use Rattle.mob_span.proofs.Ends.{inside_exact}
-use Rattle.mob_span.proofs.OneSet.{one_set}
+use Rattle.mob_ratio.{specs.Ratio.{Ratio}, specs.Order.{before, up_to}, proofs.Order.{before-back, before-trans, before-neither, before-self}}
+use Rattle.mob_span.{specs.Span.{SpanOf, has, has_instant}, specs.Meet.{meet_of, starts_before}, specs.Neighbours.{is_clear, is_inside}, specs.Remainders.{precedes, follows, front_of, back_of}}
+use Rattle.mob_span.{proofs.SpanLemmas.{some_instant, no_instant, none_has, meet_has, meet_none, has_exact}, proofs.Insides.{clear_has}, proofs.Ends.{inside_exact}, proofs.OneSet.{one_set}}
 use Rattle.mob_span.proofs.Leaving.{front_has, back_has, neither_has}
 
 some_by : (m n : SpanOf) → ((t : Ratio) → has m t ≡ has n t) → (b c : Bool) → has_instant m ≡ b → has_instant n ≡ c → has_instant m ≡ has_instant n

@@ -1,23 +1,13 @@
 -- One step of the walk over all instants of two lists.
 use Rattle.std.specs.Prelude.{◌≡◌, ◌⊎◌, Bool, true, false, cond, refl, ◌||◌, ◌&&◌, not, List, [], ◌∷◌, ◌++◌, Option, Some, None, ◌+◌, ◌<◌, ◌≤◌, length}
-use Rattle.std.proofs.Common.{ap, sym, ◌∙◌, subst, arith, true≢false, inl, inr}
-use Rattle.std.proofs.lemmas.Bool.{and_parts}
-use Rattle.mob_ratio.specs.Ratio.{Ratio}
-use Rattle.mob_ratio.specs.Order.{before, up_to}
-use Rattle.mob_span.specs.Span.{SpanOf, has, has_instant}
-use Rattle.mob_span.specs.Meet.{meet_of, ends_before}
-use Rattle.mob_span.specs.Neighbours.{is_clear}
-use Rattle.mob_span.specs.Pieces.{PiecesAreClear}
-use Rattle.mob_span.specs.Remainders.{precedes, follows, front_of, back_of}
-use Rattle.mob_span.proofs.SpanLemmas.{none_has, meet_has}
-use Rattle.mob_span.proofs.Insides.{clear_trans, clear_inside, inside_clear, meet_left, meet_right}
-use Rattle.mob_span.proofs.Shared.{AreAllClear, all_after, later}
-use Rattle.mob_span.proofs.Leaving.{front_has, back_has}
-use Rattle.mob_shares.specs.Cuts.{CutOf, left_after, entry_at, shared_cuts}
-use Rattle.mob_shares.specs.Sharing.{ShareOf, next_share, behind, both_of, fronts, most_shares}
+use Rattle.std.{proofs.Common.{ap, sym, ◌∙◌, subst, arith, true≢false, inl, inr}, proofs.lemmas.Bool.{and_parts}}
+use Rattle.mob_ratio.{specs.Ratio.{Ratio}, specs.Order.{before, up_to}}
+use Rattle.mob_span.{specs.Span.{SpanOf, has, has_instant}, specs.Meet.{meet_of, ends_before}, specs.Neighbours.{is_clear}, specs.Pieces.{PiecesAreClear}}
+use Rattle.mob_span.{specs.Remainders.{precedes, follows, front_of, back_of}, proofs.SpanLemmas.{none_has, meet_has}, proofs.Insides.{clear_trans, clear_inside, inside_clear, meet_left, meet_right}}
+use Rattle.mob_span.{proofs.Shared.{AreAllClear, all_after, later}, proofs.Leaving.{front_has, back_has}}
+use Rattle.mob_shares.{specs.Cuts.{CutOf, left_after, entry_at, shared_cuts}, specs.Sharing.{ShareOf, next_share, behind_piece, both_of, fronts, most_shares}}
 use Rattle.mob_shares.proofs.Spans.{not_precedes, not_follows, front_clear, begins_left, begins_right, share_some, back_start, none_self, none_clear, inside_by}
-use Rattle.mob_shares.proofs.Rows.{shared_left, shared_right, shared_both}
-use Rattle.mob_shares.proofs.Sides.{cut_span, side_gone, side_here, none_here, side_clear, side_behind, side_after, side_length}
+use Rattle.mob_shares.{proofs.Rows.{shared_left, shared_right, shared_both}, proofs.Sides.{cut_span, side_gone, side_here, none_here, side_clear, side_behind, side_after, side_length}}
 
 -- the part of the first before the other list's first is before all of the other list
 front_all : (s : SpanOf) {Z : Type 0} (d : CutOf Z) (ds : List (CutOf Z)) → PiecesAreClear cut_span (d ∷ ds) → AreAllClear cut_span (front_of s d.span) (d ∷ ds)
@@ -81,8 +71,8 @@ module _ {X Y : Type 0} where
         after = λ q y z. (clear_inside q c.span p y.0 (meet_left c.span d.span), side_after q c cs p y, side_after q d ds p z);
       }
 
-  same_step : (v : List (CutOf X)) (w : List (CutOf Y)) (p q : ShareOf X Y) → Some q ≡ Some p → IsStep v w q (behind q.span q.left v) (behind q.span q.right w) → IsStep v w p (behind p.span p.left v) (behind p.span p.right w)
-  same_step v w p q e h = subst (λ z. IsStep v w z (behind z.span z.left v) (behind z.span z.right w)) (some_one q p e) h
+  same_step : (v : List (CutOf X)) (w : List (CutOf Y)) (p q : ShareOf X Y) → Some q ≡ Some p → IsStep v w q (behind_piece q.span q.left v) (behind_piece q.span q.right w) → IsStep v w p (behind_piece p.span p.left v) (behind_piece p.span p.right w)
+  same_step v w p q e h = subst (λ z. IsStep v w z (behind_piece z.span z.left v) (behind_piece z.span z.right w)) (some_one q p e) h
     where
       some_one : (x y : ShareOf X Y) → Some x ≡ Some y → x ≡ y
       some_one x y e = cc
@@ -91,7 +81,7 @@ module _ {X Y : Type 0} where
   no_share p e = cc
 
   -- The next piece is removed from the front.
-  pub next_step : (v : List (CutOf X)) (w : List (CutOf Y)) → PiecesAreClear cut_span v → PiecesAreClear cut_span w → (p : ShareOf X Y) → next_share v w ≡ Some p → IsStep v w p (behind p.span p.left v) (behind p.span p.right w)
+  pub next_step : (v : List (CutOf X)) (w : List (CutOf Y)) → PiecesAreClear cut_span v → PiecesAreClear cut_span w → (p : ShareOf X Y) → next_share v w ≡ Some p → IsStep v w p (behind_piece p.span p.left v) (behind_piece p.span p.right w)
   next_step [] [] h k p e = no_share p e
   next_step (c ∷ cs) [] h k p e = same_step (c ∷ cs) [] p (record { span = c.span; left = Some c.of; right = None }) e (left_step c cs [] c.span h k h.0 (λ t z. z) tt (not_precedes c.span))
   next_step [] (d ∷ ds) h k p e = same_step [] (d ∷ ds) p (record { span = d.span; left = None; right = Some d.of }) e (right_step [] d ds d.span h k k.0 (λ t z. z) tt (not_precedes d.span))
@@ -105,7 +95,7 @@ module _ {X Y : Type 0} where
 
       by : (a b : Bool) → has_instant (front_of c.span d.span) ≡ a → has_instant (front_of d.span c.span) ≡ b
           → cond a (Some (record { span = front_of c.span d.span; left = Some c.of; right = None })) (cond b (Some (record { span = front_of d.span c.span; left = None; right = Some d.of })) (Some (record { span = meet_of c.span d.span; left = Some c.of; right = Some d.of }))) ≡ Some p
-          → IsStep (c ∷ cs) (d ∷ ds) p (behind p.span p.left (c ∷ cs)) (behind p.span p.right (d ∷ ds))
+          → IsStep (c ∷ cs) (d ∷ ds) p (behind_piece p.span p.left (c ∷ cs)) (behind_piece p.span p.right (d ∷ ds))
       by true b i j z = same_step (c ∷ cs) (d ∷ ds) p (record { span = left; left = Some c.of; right = None }) z (left_step c cs (d ∷ ds) left h k i (λ t y. (and_parts (has c.span t) (precedes t d.span) (sym (front_has c.span d.span t) ∙ y)).0) (front_all c.span d ds k) (λ t y. not_precedes c.span t y))
       by false true i j z = same_step (c ∷ cs) (d ∷ ds) p (record { span = right; left = None; right = Some d.of }) z (right_step (c ∷ cs) d ds right h k j (λ t y. (and_parts (has d.span t) (precedes t c.span) (sym (front_has d.span c.span t) ∙ y)).0) (front_all d.span c cs h) (λ t y. not_precedes d.span t y))
       by false false i j z = same_step (c ∷ cs) (d ∷ ds) p (record { span = meet_of c.span d.span; left = Some c.of; right = Some d.of }) z (both_step c cs d ds h k i j)
@@ -224,14 +214,14 @@ module _ {X Y : Type 0} where
       by (inl e) = subst (λ z. most_shares z (left_after (meet_of c.span d.span) (d ∷ ds)) < most_shares (c ∷ cs) (d ∷ ds)) (sym (side_length c cs (meet_of c.span d.span) e)) (fewer_by (c ∷ cs) cs (d ∷ ds) (left_after (meet_of c.span d.span) (d ∷ ds)) (let m = most_length d ds (meet_of c.span d.span) in omega (arith, m)))
       by (inr e) = subst (λ z. most_shares (left_after (meet_of c.span d.span) (c ∷ cs)) z < most_shares (c ∷ cs) (d ∷ ds)) (sym (side_length d ds (meet_of c.span d.span) e)) (fewer_by (c ∷ cs) (left_after (meet_of c.span d.span) (c ∷ cs)) (d ∷ ds) ds (let m = most_length c cs (meet_of c.span d.span) in omega (arith, m)))
 
-  same_fewer : (v : List (CutOf X)) (w : List (CutOf Y)) (p q : ShareOf X Y) → Some q ≡ Some p → most_shares (behind q.span q.left v) (behind q.span q.right w) < most_shares v w → most_shares (behind p.span p.left v) (behind p.span p.right w) < most_shares v w
-  same_fewer v w p q e h = subst (λ z. most_shares (behind z.span z.left v) (behind z.span z.right w) < most_shares v w) (some_one q p e) h
+  same_fewer : (v : List (CutOf X)) (w : List (CutOf Y)) (p q : ShareOf X Y) → Some q ≡ Some p → most_shares (behind_piece q.span q.left v) (behind_piece q.span q.right w) < most_shares v w → most_shares (behind_piece p.span p.left v) (behind_piece p.span p.right w) < most_shares v w
+  same_fewer v w p q e h = subst (λ z. most_shares (behind_piece z.span z.left v) (behind_piece z.span z.right w) < most_shares v w) (some_one q p e) h
     where
       some_one : (x y : ShareOf X Y) → Some x ≡ Some y → x ≡ y
       some_one x y e = cc
 
   -- Fewer pieces are left.
-  pub next_fewer : (v : List (CutOf X)) (w : List (CutOf Y)) (p : ShareOf X Y) → next_share v w ≡ Some p → most_shares (behind p.span p.left v) (behind p.span p.right w) < most_shares v w
+  pub next_fewer : (v : List (CutOf X)) (w : List (CutOf Y)) (p : ShareOf X Y) → next_share v w ≡ Some p → most_shares (behind_piece p.span p.left v) (behind_piece p.span p.right w) < most_shares v w
   next_fewer [] [] p e = no_share p e
   next_fewer (c ∷ cs) [] p e = same_fewer (c ∷ cs) [] p (record { span = c.span; left = Some c.of; right = None }) e (left_fewer c cs [] c.span (none_self c.span))
   next_fewer [] (d ∷ ds) p e = same_fewer [] (d ∷ ds) p (record { span = d.span; left = None; right = Some d.of }) e (right_fewer [] d ds d.span (none_self d.span))
@@ -239,7 +229,7 @@ module _ {X Y : Type 0} where
     where
       by : (a b : Bool) → has_instant (front_of c.span d.span) ≡ a → has_instant (front_of d.span c.span) ≡ b
           → cond {A = Option (ShareOf X Y)} a (Some (record { span = front_of c.span d.span; left = Some c.of; right = None })) (cond {A = Option (ShareOf X Y)} b (Some (record { span = front_of d.span c.span; left = None; right = Some d.of })) (Some (record { span = meet_of c.span d.span; left = Some c.of; right = Some d.of }))) ≡ Some p
-          → most_shares (behind p.span p.left (c ∷ cs)) (behind p.span p.right (d ∷ ds)) < most_shares (c ∷ cs) (d ∷ ds)
+          → most_shares (behind_piece p.span p.left (c ∷ cs)) (behind_piece p.span p.right (d ∷ ds)) < most_shares (c ∷ cs) (d ∷ ds)
       by true b i j z = same_fewer (c ∷ cs) (d ∷ ds) p (record { span = front_of c.span d.span; left = Some c.of; right = None }) z (left_front c cs d ds i)
       by false true i j z = same_fewer (c ∷ cs) (d ∷ ds) p (record { span = front_of d.span c.span; left = None; right = Some d.of }) z (right_front c cs d ds j)
       by false false i j z = same_fewer (c ∷ cs) (d ∷ ds) p (record { span = meet_of c.span d.span; left = Some c.of; right = Some d.of }) z (both_fewer c cs d ds)

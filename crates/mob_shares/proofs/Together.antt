@@ -1,44 +1,19 @@
 -- The results of calls on the pieces of the walk, taken together.
-use Rattle.std.specs.Prelude.{◌≡◌, ◌⊎◌, Bool, true, false, cond, refl, List, [], ◌∷◌, ◌++◌, Option, Some, None, option_map, MatchOption, Result, Ok, Err}
-use Rattle.std.specs.List.{AllByRecursion}
-use Rattle.std.specs.Iterator.{Yields, Drains}
-use Rattle.std.proofs.Common.{ap, sym, ◌∙◌, subst, inl, inr, ⊎_elim}
-use Rattle.mob_list.proofs.Each.{each_both}
+use Rattle.std.{specs.Prelude.{◌≡◌, ◌⊎◌, Bool, true, false, cond, refl, List, [], ◌∷◌, ◌++◌, Option, Some, None, option_map, MatchOption, Result, Ok, Err}, specs.List.{AllByRecursion}}
+use Rattle.std.{specs.Iterator.{Yields, Drains}, proofs.Common.{ap, sym, ◌∙◌, subst, inl, inr, ⊎_elim}}
+use Rattle.mob_list.{specs.declared.fault.Fault.{Fault}, specs.declared.fault.Fault.TheVariants.{Because}, proofs.Each.{each_both}}
 use Rattle.mob_ratio.specs.Ratio.{Ratio}
 use Rattle.mob_frac.specs.Formula.{AllFit}
-use Rattle.mob_span.specs.Span.{has, has_instant}
-use Rattle.mob_span.specs.Meets.{PieceOf, shared_pieces}
-use Rattle.mob_span.specs.Pieces.{PiecesAreClear, piece_at}
-use Rattle.mob_slice.specs.Course.{IsCourse}
-use Rattle.mob_slice.specs.Cut.{slice_value, slice_parts}
-use Rattle.mob_slice.specs.Parts.{IsPairFit}
-use Rattle.mob_slice.specs.Sides.{at_ends}
-use Rattle.mob_slice.specs.Slices.{value_at}
-use Rattle.mob_slice.specs.declared.slice.Slice.{Slice}
-use Rattle.mob_slice.specs.declared.part.One.{One}
-use Rattle.mob_slice.specs.declared.part.Pair.{Pair}
-use Rattle.mob_slice.specs.declared.formula.Formula.{Formula}
-use Rattle.mob_slice.specs.declared.formula.Formula.TheVariants.{F1}
-use Rattle.mob_list.specs.declared.fault.Fault.{Fault}
-use Rattle.mob_list.specs.declared.fault.Fault.TheVariants.{Because}
-use Rattle.mob_slice.proofs.Cuts.{all_both, all_first, all_second}
-use Rattle.mob_slice.proofs.LookUps.{value_by}
-use Rattle.mob_lifted.specs.Piecewise.{AreGivenInOrder, IsPiecewise, IsFirstFailure}
-use Rattle.mob_lifted.proofs.Options.{none_some, same_some}
-use Rattle.mob_sync.specs.Common.{pair_of}
-use Rattle.mob_shares.specs.Cuts.{CutOf, wholes, entry_at, shared_cuts}
-use Rattle.mob_shares.specs.Sharing.{next_share, behind, both_of}
-use Rattle.mob_shares.proofs.Sides.{cut_span, entry_whole}
-use Rattle.mob_shares.proofs.Rows.{shared_whole}
-use Rattle.mob_shares.proofs.Steps.{IsStep}
-use Rattle.mob_shares.proofs.Ends.{left_ends, right_ends, none_left, none_right}
-use Rattle.mob_shares.proofs.Heads.{next_heads, both_not, AtCuts, at_behind}
-use Rattle.mob_shares.specs.declared.shares.Share.{Share}
-use Rattle.mob_shares.specs.declared.shares.Share.TheVariants.{Left, Right, Both}
-use Rattle.mob_shares.specs.declared.shares.Shares.{Shares}
+use Rattle.mob_span.{specs.Span.{has, has_instant}, specs.Meets.{PieceOf, shared_pieces}, specs.Pieces.{PiecesAreClear, piece_at}}
+use Rattle.mob_slice.{specs.Course.{IsCourse}, specs.Cut.{slice_value, slice_parts}, specs.Parts.{IsPairFit}, specs.Sides.{at_ends}, specs.Slices.{value_at}, specs.declared.slice.Slice.{Slice}}
+use Rattle.mob_slice.{specs.declared.part.One.{One}, specs.declared.part.Pair.{Pair}, specs.declared.formula.Formula.{Formula}, specs.declared.formula.Formula.TheVariants.{F1}}
+use Rattle.mob_slice.{specs.Piecewise.{AreGivenInOrder, IsPiecewise, IsFirstFailure}, proofs.Cuts.{all_both, all_first, all_second}, proofs.LookUps.{value_by}, proofs.Options.{none_some, same_some}}
+use Rattle.mob_lift.specs.Common.{pair_of}
+use Rattle.mob_shares.{specs.Cuts.{CutOf, wholes, entry_at, shared_cuts}, specs.Sharing.{next_share, behind_piece, both_of}, specs.declared.shares.Share.{Share}}
+use Rattle.mob_shares.{specs.declared.shares.Share.TheVariants.{Left, Right, Both}, specs.declared.shares.Shares.{Shares}}
 use Rattle.mob_shares.specs.Shares.{rest_of, share_of, share_span, CanShare, IsShared, GivesShare, HoldsShare}
-use Rattle.mob_shares.specs.Taken.{one_of, IsShareGiven, piece_parts, IsAnswered, IsRefused, AreTaken, IsFirstRefused}
-use Rattle.mob_shares.proofs.Walked.{Walk, step_of}
+use Rattle.mob_shares.{specs.Taken.{one_of, IsShareGiven, piece_parts, IsAnswered, IsRefused, AreTaken, IsFirstRefused}, proofs.Sides.{cut_span, entry_whole}, proofs.Rows.{shared_whole}}
+use Rattle.mob_shares.{proofs.Steps.{IsStep}, proofs.Ends.{left_ends, right_ends, none_left, none_right}, proofs.Heads.{next_heads, both_not, AtCuts, at_behind}, proofs.Walked.{Walk, step_of}}
 
 pub pair_fit : {C B : Type 0} (start end : C → B) (p : Pair C C) → HoldsShare start end (share_of (Both p)) → IsPairFit start end start end p
 pair_fit start end p h = record { in_left = h.0.1; in_right = h.1.1; left = h.0.0; right = h.1.0 }
@@ -128,12 +103,12 @@ module _ {C B V : Type 0} (value : C → Ratio → Ratio → Ratio → B) (start
     pair_right p h = all_second (slice_parts parts p.right.now p.span.lower) (slice_parts parts p.right.now p.span.upper) (all_second (at_ends (slice_parts parts p.left.now) p.span) (at_ends (slice_parts parts p.right.now) p.span) h)
 
     -- the results keep the cuts fitting
-    cuts_left : (v w : List (CutOf (Slice C))) (p : Share C) (x : V) → next_share v w ≡ Some (share_of p) → has_instant (share_span p) ≡ true → gives p x → AtCuts At v → AtCuts At (behind (share_span p) (share_of p).left v)
+    cuts_left : (v w : List (CutOf (Slice C))) (p : Share C) (x : V) → next_share v w ≡ Some (share_of p) → has_instant (share_span p) ≡ true → gives p x → AtCuts At v → AtCuts At (behind_piece (share_span p) (share_of p).left v)
     cuts_left v w (Left o) x e i g a = at_behind At v o.span o.slice.now (next_heads v w (share_of (Left o)) e).0 (ends_of o x (gave (Left o) x g).1) a
     cuts_left v w (Right o) x e i g a = a
     cuts_left v w (Both p) x e i g a = at_behind At v p.span p.left.now (next_heads v w (share_of (Both p)) e).0 (pair_left p (answered_both p x g i).0) a
 
-    cuts_right : (v w : List (CutOf (Slice C))) (p : Share C) (x : V) → next_share v w ≡ Some (share_of p) → has_instant (share_span p) ≡ true → gives p x → AtCuts At w → AtCuts At (behind (share_span p) (share_of p).right w)
+    cuts_right : (v w : List (CutOf (Slice C))) (p : Share C) (x : V) → next_share v w ≡ Some (share_of p) → has_instant (share_span p) ≡ true → gives p x → AtCuts At w → AtCuts At (behind_piece (share_span p) (share_of p).right w)
     cuts_right v w (Left o) x e i g a = a
     cuts_right v w (Right o) x e i g a = at_behind At w o.span o.slice.now (next_heads v w (share_of (Right o)) e).1 (ends_of o x (gave (Right o) x g).1) a
     cuts_right v w (Both p) x e i g a = at_behind At w p.span p.right.now (next_heads v w (share_of (Both p)) e).1 (pair_right p (answered_both p x g i).0) a

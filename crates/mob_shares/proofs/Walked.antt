@@ -1,24 +1,10 @@
 -- The pieces of the walk, taken together.
-use Rattle.std.specs.Prelude.{◌≡◌, true, List, [], ◌∷◌, Option, Some, None}
-use Rattle.std.specs.List.{AllByRecursion}
-use Rattle.std.specs.Iterator.{Yields, HoldsAlong}
-use Rattle.std.proofs.Common.{sym, subst}
-use Rattle.mob_span.specs.Span.{SpanOf, has_instant}
-use Rattle.mob_span.specs.Chained.{OfHead}
-use Rattle.mob_span.specs.Neighbours.{is_clear, is_inside}
-use Rattle.mob_span.specs.Pieces.{PiecesAreClear}
-use Rattle.mob_span.proofs.Shared.{AreAllClear}
-use Rattle.mob_slice.specs.Slices.{IsSound}
-use Rattle.mob_slice.specs.declared.slice.Slice.{Slice}
-use Rattle.mob_shares.specs.Cuts.{CutOf}
-use Rattle.mob_shares.specs.Sharing.{behind}
-use Rattle.mob_shares.proofs.Sides.{cut_span, IsOf}
-use Rattle.mob_shares.proofs.Spans.{inside_by, inside_of}
-use Rattle.mob_shares.proofs.Steps.{IsStep, next_step}
-use Rattle.mob_shares.proofs.Heads.{OnHead, next_heads, of_behind}
-use Rattle.mob_shares.specs.declared.shares.Share.{Share}
-use Rattle.mob_shares.specs.declared.shares.Shares.{Shares}
-use Rattle.mob_shares.specs.Shares.{rest_of, share_of, share_span, CanShare, IsShared, GivesShare, HoldsThere, HoldsShare}
+use Rattle.std.{specs.Prelude.{◌≡◌, true, List, [], ◌∷◌, Option, Some, None}, specs.List.{AllByRecursion}, specs.Iterator.{Yields, HoldsAlong}, proofs.Common.{sym, subst}}
+use Rattle.mob_span.{specs.Span.{SpanOf, has_instant}, specs.Chained.{OfHead}, specs.Neighbours.{is_clear, is_inside}, specs.Pieces.{PiecesAreClear}, proofs.Shared.{AreAllClear}}
+use Rattle.mob_slice.{specs.Slices.{IsSound}, specs.declared.slice.Slice.{Slice}}
+use Rattle.mob_shares.{specs.Cuts.{CutOf}, specs.Sharing.{behind_piece}, specs.declared.shares.Share.{Share}, specs.declared.shares.Shares.{Shares}}
+use Rattle.mob_shares.{specs.Shares.{rest_of, share_of, share_span, CanShare, IsShared, GivesShare, HoldsThere, HoldsShare}, proofs.Sides.{cut_span, IsOf}, proofs.Spans.{inside_by, inside_of}}
+use Rattle.mob_shares.{proofs.Steps.{IsStep, next_step}, proofs.Heads.{OnHead, next_heads, of_behind}}
 
 module _ {C : Type 0} where
   abbrev pub Walk : Shares C → List (Share C) → Shares C → Type 0
@@ -27,7 +13,7 @@ module _ {C : Type 0} where
   pub step_of : (s j : Shares C) (p : Share C) → CanShare s → IsShared s p j → IsStep (rest_of s.lefts) (rest_of s.rights) (share_of p) (rest_of j.lefts) (rest_of j.rights)
   step_of s j p can h =
       subst (λ z. IsStep (rest_of s.lefts) (rest_of s.rights) (share_of p) z (rest_of j.rights)) (sym h.left)
-      (subst (λ z. IsStep (rest_of s.lefts) (rest_of s.rights) (share_of p) (behind (share_span p) (share_of p).left (rest_of s.lefts)) z) (sym h.right)
+      (subst (λ z. IsStep (rest_of s.lefts) (rest_of s.rights) (share_of p) (behind_piece (share_span p) (share_of p).left (rest_of s.lefts)) z) (sym h.right)
       (next_step (rest_of s.lefts) (rest_of s.rights) can.0 can.1 (share_of p) h.next))
 
   -- the pieces are in order
@@ -49,7 +35,7 @@ module _ {C : Type 0} where
     abbrev pub AreOf : List (CutOf (Slice C)) → Type 0
     AreOf v = AllByRecursion (IsOf (λ s. s.span) (IsSound start end)) v
 
-    pub behind_of : (v : List (CutOf (Slice C))) (p : SpanOf) (o : Option (Slice C)) → OnHead v p o → PiecesAreClear cut_span v → AreOf v → AreOf (behind p o v)
+    pub behind_of : (v : List (CutOf (Slice C))) (p : SpanOf) (o : Option (Slice C)) → OnHead v p o → PiecesAreClear cut_span v → AreOf v → AreOf (behind_piece p o v)
     behind_of v p None h k a = a
     behind_of v p (Some x) h k a = of_behind (λ s. s.span) (IsSound start end) v p x h k a
 

@@ -1,10 +1,7 @@
 -- The rest of a list of items with spans of time, from the position of a walk on.
 use Rattle.std.specs.Prelude.{cond, List, [], ◌∷◌, ◌++◌, map, Option, Some, None}
 use Rattle.mob_ratio.specs.Ratio.{Ratio}
-use Rattle.mob_span.specs.Span.{SpanOf, has, has_instant}
-use Rattle.mob_span.specs.Meet.{meet_of}
-use Rattle.mob_span.specs.Meets.{PieceOf}
-use Rattle.mob_span.specs.Remainders.{back_of}
+use Rattle.mob_span.{specs.Span.{SpanOf, has, has_instant}, specs.Meet.{meet_of}, specs.Meets.{PieceOf}, specs.Remainders.{back_of}}
 
 -- an item with the instants of it still to come
 pub record CutOf (X : Type 0) : Type 0 where

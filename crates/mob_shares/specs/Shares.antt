@@ -1,18 +1,9 @@
 -- The walk over all instants at which one of two temporal values is defined, as contracts see it.
-use Rattle.std.specs.Prelude.{◌≡◌, true, List, [], ◌∷◌, Option, Some, None, MatchOption}
-use Rattle.std.specs.Iterator.{Count, at_most}
-use Rattle.mob_span.specs.Span.{SpanOf}
-use Rattle.mob_span.specs.Neighbours.{is_inside}
-use Rattle.mob_span.specs.Pieces.{PiecesAreClear}
-use Rattle.mob_slice.specs.Slices.{IsSound}
-use Rattle.mob_slice.specs.declared.slice.Slice.{Slice}
-use Rattle.mob_slice.specs.declared.part.One.{One}
-use Rattle.mob_shares.specs.Cuts.{CutOf, wholes}
-use Rattle.mob_shares.specs.Sharing.{ShareOf, next_share, behind, most_shares}
-use Rattle.mob_shares.specs.declared.shares.Rest.{Rest}
-use Rattle.mob_shares.specs.declared.shares.Share.{Share}
-use Rattle.mob_shares.specs.declared.shares.Share.TheVariants.{Left, Right, Both}
-use Rattle.mob_shares.specs.declared.shares.Shares.{Shares}
+use Rattle.std.{specs.Prelude.{◌≡◌, true, List, [], ◌∷◌, Option, Some, None, MatchOption}, specs.Iterator.{Count, at_most}}
+use Rattle.mob_span.{specs.Span.{SpanOf}, specs.Neighbours.{is_inside}, specs.Pieces.{PiecesAreClear}}
+use Rattle.mob_slice.{specs.Slices.{IsSound}, specs.declared.slice.Slice.{Slice}, specs.declared.part.One.{One}}
+use Rattle.mob_shares.{specs.Cuts.{CutOf, wholes}, specs.Sharing.{ShareOf, next_share, behind_piece, most_shares}, specs.declared.shares.Rest.{Rest}, specs.declared.shares.Share.{Share}}
+use Rattle.mob_shares.{specs.declared.shares.Share.TheVariants.{Left, Right, Both}, specs.declared.shares.Shares.{Shares}}
 
 -- a slice with the rest of its span
 abbrev pub cut_of : {C : Type 0} → One C → CutOf (Slice C)
@@ -42,8 +33,8 @@ CanShare s = PiecesAreClear (λ c. c.span) (rest_of s.lefts) × PiecesAreClear (
 -- the next piece is returned, and the rest after it is left
 pub record IsShared {C : Type 0} (s : Shares C) (p : Share C) (t : Shares C) : Type 0 where
   pub next : next_share (rest_of s.lefts) (rest_of s.rights) ≡ Some (share_of p)
-  pub left : rest_of t.lefts ≡ behind (share_span p) (share_of p).left (rest_of s.lefts)
-  pub right : rest_of t.rights ≡ behind (share_span p) (share_of p).right (rest_of s.rights)
+  pub left : rest_of t.lefts ≡ behind_piece (share_span p) (share_of p).left (rest_of s.lefts)
+  pub right : rest_of t.rights ≡ behind_piece (share_span p) (share_of p).right (rest_of s.rights)
 
 abbrev pub GivesShare : {C : Type 0} → Shares C → Option (Share C) → Shares C → Type 0
 GivesShare s r t = MatchOption r ((rest_of s.lefts ≡ []) × (rest_of s.rights ≡ [])) (λ p. IsShared s p t)

@@ -1,9 +1,6 @@
 -- The pieces of time at which one of two lists has an item.
 use Rattle.std.specs.Prelude.{cond, ℕ, ◌+◌, List, [], ◌∷◌, length, Option, Some, None}
-use Rattle.mob_span.specs.Span.{SpanOf, has_instant}
-use Rattle.mob_span.specs.Meet.{meet_of}
-use Rattle.mob_span.specs.Meets.{PieceOf}
-use Rattle.mob_span.specs.Remainders.{front_of}
+use Rattle.mob_span.{specs.Span.{SpanOf, has_instant}, specs.Meet.{meet_of}, specs.Meets.{PieceOf}, specs.Remainders.{front_of}}
 use Rattle.mob_shares.specs.Cuts.{CutOf, left_after}
 
 -- A piece of time with the items that two lists have there: one of them, or both.
@@ -22,9 +19,9 @@ next_share (c ∷ cs) (d ∷ ds) =
     (Some (record { span = meet_of c.span d.span; left = Some c.of; right = Some d.of })))
 
 -- the rest of a list after a piece in which it has an item, or none
-abbrev pub behind : {X : Type 0} → SpanOf → Option X → List (CutOf X) → List (CutOf X)
-behind p None cs = cs
-behind p (Some x) cs = left_after p cs
+abbrev pub behind_piece : {X : Type 0} → SpanOf → Option X → List (CutOf X) → List (CutOf X)
+behind_piece p None cs = cs
+behind_piece p (Some x) cs = left_after p cs
 
 -- the piece, if both have an item in it
 abbrev pub both_by : {X Y : Type 0} → SpanOf → Option X → Option Y → List (PieceOf X Y)

@@ -1,29 +1,14 @@
 -- Two temporal values merged.
-use Rattle.std.specs.Prelude.{◌≡◌, ◌≢◌, ◌⊎◌, true, List, [], ◌∷◌, ◌++◌, Option, Some, None, MatchOption, Result, Ok, Err}
-use Rattle.std.specs.List.{AllByRecursion}
+use Rattle.std.{specs.Prelude.{◌≡◌, ◌≢◌, ◌⊎◌, true, List, [], ◌∷◌, ◌++◌, Option, Some, None, MatchOption, Result, Ok, Err}, specs.List.{AllByRecursion}}
 use Rattle.mob_ratio.specs.Ratio.{Ratio}
 use Rattle.mob_frac.specs.Formula.{AllFit}
-use Rattle.mob_span.specs.Span.{SpanOf, has}
-use Rattle.mob_span.specs.Meets.{PieceOf, shared_pieces}
-use Rattle.mob_span.specs.Pieces.{piece_at}
-use Rattle.mob_slice.specs.Cut.{slice_value, slice_parts}
-use Rattle.mob_slice.specs.Parts.{IsPairFit}
-use Rattle.mob_slice.specs.Pieces.{AreInside}
-use Rattle.mob_slice.specs.Sides.{at_ends}
-use Rattle.mob_slice.specs.Slices.{value_at, IsOrdered}
-use Rattle.mob_slice.specs.declared.slice.Slice.{Slice}
-use Rattle.mob_slice.specs.declared.part.One.{One}
-use Rattle.mob_slice.specs.declared.part.Pair.{Pair}
-use Rattle.mob_slice.specs.declared.formula.Formula.{Formula}
-use Rattle.mob_slice.specs.declared.formula.Formula.TheVariants.{F1}
-use Rattle.mob_list.specs.declared.fault.Fault.{Fault}
-use Rattle.mob_list.specs.declared.fault.Fault.TheVariants.{Because}
-use Rattle.mob_slice.specs.Entries.{Entry}
-use Rattle.mob_lift.specs.Given.{IsGiven}
-use Rattle.mob_lifted.specs.Piecewise.{IsFirstFailure}
-use Rattle.mob_sync.specs.Common.{pair_of}
-use Rattle.mob_shares.specs.declared.shares.Share.{Share}
-use Rattle.mob_shares.specs.declared.shares.Share.TheVariants.{Left, Right, Both}
+use Rattle.mob_span.{specs.Span.{SpanOf, has}, specs.Meets.{PieceOf, shared_pieces}, specs.Pieces.{piece_at}}
+use Rattle.mob_slice.{specs.Cut.{slice_value, slice_parts}, specs.Parts.{IsPairFit}, specs.Pieces.{AreInside}, specs.Sides.{at_ends}, specs.Slices.{value_at, IsRisingInTime}}
+use Rattle.mob_slice.{specs.declared.slice.Slice.{Slice}, specs.declared.part.One.{One}, specs.declared.part.Pair.{Pair}, specs.declared.formula.Formula.{Formula}}
+use Rattle.mob_slice.{specs.declared.formula.Formula.TheVariants.{F1}, specs.Entries.{Entry}, specs.Piecewise.{IsFirstFailure}}
+use Rattle.mob_list.{specs.declared.fault.Fault.{Fault}, specs.declared.fault.Fault.TheVariants.{Because}}
+use Rattle.mob_lift.{specs.Given.{IsGiven}, specs.Common.{pair_of}}
+use Rattle.mob_shares.{specs.declared.shares.Share.{Share}, specs.declared.shares.Share.TheVariants.{Left, Right, Both}}
 
 -- the first of two options, or else the second
 abbrev pub one_of : {B : Type 0} → Option B → Option B → Option B
@@ -47,7 +32,7 @@ piece_parts parts q = at_ends (slice_parts parts q.left) q.span ++ at_ends (slic
 
 -- the slices are ordered, lie in the span and have a value at each instant of it
 pub record AreFull {C B : Type 0} (value : C → Ratio → Ratio → Ratio → B) (start end : C → B) (r : SpanOf) (slices : List (Slice C)) : Type 0 where
-  pub ordered : IsOrdered start end slices
+  pub ordered : IsRisingInTime start end slices
   pub inside : AreInside r slices
   pub full : (t : Ratio) → has r t ≡ true → value_at value slices t ≢ None
 

@@ -7,7 +7,7 @@ ghost use Rattle.mob_span.specs.Span.{has_instant};
 ghost use Rattle.mob_span.specs.Pieces.{PiecesAreClear};
 ghost use Rattle.mob_shares.specs.Cuts.{wholes, head_of, left_after};
 ghost use Rattle.mob_shares.specs.Begins.{BeginTogether, EndTogether};
-ghost use Rattle.mob_shares.specs.Sharing.{next_share, behind};
+ghost use Rattle.mob_shares.specs.Sharing.{next_share, behind_piece};
 ghost use Rattle.mob_shares.specs.Shares.{cut_of, rest_of, share_span, share_of, HoldsShare, CanShare, GivesShare, shares_left};
 
 use mob_slice::{Course, One, Pair, Part, Slice};
@@ -236,8 +236,8 @@ impl<'a, C> Shares<'a, C> {
 
     // Removes a piece from each of the two values that has a slice in it.
     fn pass(&mut self, share: &Share<'a, C>)
-        ensures left { rest_of self.new.lefts ≡ behind (share_span share.now) (share_of share.now).left (rest_of self.old.lefts) }
-        ensures right { rest_of self.new.rights ≡ behind (share_span share.now) (share_of share.now).right (rest_of self.old.rights) }
+        ensures left { rest_of self.new.lefts ≡ behind_piece (share_span share.now) (share_of share.now).left (rest_of self.old.lefts) }
+        ensures right { rest_of self.new.rights ≡ behind_piece (share_span share.now) (share_of share.now).right (rest_of self.old.rights) }
     {
         match share {
             Share::Left(one) => self.lefts = self.lefts.after(&one.span),

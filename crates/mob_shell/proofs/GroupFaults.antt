@@ -1,6 +1,5 @@
 -- The first fault of a grouped query is on one of the tuples, in one of its columns.
-use Rattle.std.specs.Prelude.{Bool, List, [], ◌∷◌, ◌++◌, Option, Some, None, Result}
-use Rattle.std.proofs.Common.{◌≡◌, sym, ap, subst, inl, inr, refl, append_assoc}
+use Rattle.std.{specs.Prelude.{Bool, List, [], ◌∷◌, ◌++◌, Option, Some, None, Result}, proofs.Common.{◌≡◌, sym, ap, subst, inl, inr, refl, append_assoc}}
 use Rattle.mob_tagg.specs.Rows.{IsItem, IsTuple, earlier, IsRowFault}
 use Rattle.mob_tuples.specs.Tuples.{StandsIn}
 

@@ -1,31 +1,20 @@
 -- Workers and indexes change no answer.
 use Rattle.std.proofs.Common.{◌≡◌, ◌∙◌, ap, sym, subst, inl, inr, take, ℕ, ℤ, List, Option, Some, None, Ok, Err}
-use Rattle.mob_words.specs.declared.options.Settings.{Settings}
-use Rattle.mob_typed.specs.Selects.{TypedSelectParts}
-use Rattle.mob_typed.specs.Statements.{ScriptOut}
+use Rattle.mob_arguments.specs.declared.options.Settings.{Settings}
+use Rattle.mob_typed.{specs.Selects.{TypedSelectParts}, specs.Statements.{ScriptOut}}
 use Rattle.mob_value.specs.declared.store.Store.{Store}
-use Rattle.mob_catalog.specs.Catalogue.{Catalogue, live_of, live_rows, with_changed, with_deleted, without_rows}
-use Rattle.mob_catalog.specs.declared.catalog.TableHead.{TableHead}
+use Rattle.mob_catalog.{specs.Catalogue.{Catalogue, live_of, live_rows, with_changed, with_deleted, without_rows}, specs.declared.catalog.TableHead.{TableHead}}
 use Rattle.mob_meaning.specs.Scene.{scene}
-use Rattle.mob_join.specs.Deleted.{first_rows}
-use Rattle.mob_join.specs.KeptTuples.{AreThoseThatMeet}
-use Rattle.mob_join.specs.Query.{IsKept, IsMet, IsMetAt, condition_at, conditions}
-use Rattle.mob_join.proofs.KeptTuples.{those_once}
+use Rattle.mob_join.{specs.Deleted.{first_rows}, specs.KeptTuples.{AreThoseThatMeet}, specs.Query.{IsKept, IsMet, IsMetAt, condition_at, conditions}, proofs.KeptTuples.{those_once}}
 use Rattle.mob_tail.specs.Answers.{IsAnswerOnKept}
-use Rattle.mob_load.specs.Loads.{Halt, LoadsScript, missing, refused, table_refused}
-use Rattle.mob_load.specs.declared.program.Program.{Program}
+use Rattle.mob_load.{specs.Loads.{Halt, LoadsScript, missing, refused, table_refused}, specs.declared.program.Program.{Program}}
 use Rattle.mob_eval.specs.QueryFaults.{TupleFault}
-use Rattle.mob_ending.specs.declared.ending.Ending.{Ending}
-use Rattle.mob_ending.specs.declared.ending.Ending.TheVariants.{Done, Usage, ReadFault, WriteFault, NoMemory, TableRefused, ScriptRefused, Overflow}
-use Rattle.mob_shell.specs.Answers.{QueryAnswers}
-use Rattle.mob_shell.specs.Deletes.{table_of}
-use Rattle.mob_shell.specs.Ending.{IsDue}
-use Rattle.mob_shell.specs.Inputs.{FilesBy, Input, ScriptBy}
-use Rattle.mob_shell.specs.Program.{IsHalted, IsProgram, ProgramWrites, StopsWith}
-use Rattle.mob_shell.specs.Runs.{RunsStatement, Stops, begin}
+use Rattle.mob_ending.{specs.declared.ending.Ending.{Ending}, specs.declared.ending.Ending.TheVariants.{Done, Usage, ReadFault, WriteFault, NoMemory, TableRefused, ScriptRefused, Overflow}}
+use Rattle.mob_shell.{specs.Answers.{QueryAnswers}, specs.Deletes.{deleted_table}, specs.Ending.{IsDue}, specs.Inputs.{FilesBy, Input, ScriptBy}}
+use Rattle.mob_shell.{specs.Program.{IsHalted, IsProgram, ProgramWrites, StopsWith}, specs.Runs.{RunsStatement, Stops, begin}}
 use Rattle.mob_shell.specs.SameAnswers.{DifferInWorkers, IndexesAnswerTheSame, IndexesDeleteTheSame, IndexesKeepTheSame, WorkersEndTheSame, WorkersReadTheSame, WorkersWriteTheSame}
-use Rattle.mob_statements.specs.Statements.{Ran}
 use Rattle.mob_shell.specs.StepOutcomes.{OneAnswer}
+use Rattle.mob_statements.specs.Statements.{Ran}
 
 -- ---- workers
 
@@ -99,9 +88,9 @@ keep_the_same select one other day kept others differ h k =
 pub delete_the_same : IndexesKeepTheSame → IndexesDeleteTheSame
 delete_the_same keeps select one other day left others differ h k =
     let kept : h.0 ≡ k.0 = keeps select one other day h.0 k.0 differ h.1 k.1 in
-    let heads : (with_deleted (table_of select) (first_rows h.0) one).heads ≡ (with_deleted (table_of select) (first_rows k.0) other).heads =
-    ap (λ (heads : List TableHead). with_changed (table_of select) (without_rows (first_rows h.0)) heads) differ.heads
-    ∙ ap (λ (rows : List (List ℕ)). with_changed (table_of select) (without_rows (first_rows rows)) other.heads) kept in
+    let heads : (with_deleted (deleted_table select) (first_rows h.0) one).heads ≡ (with_deleted (deleted_table select) (first_rows k.0) other).heads =
+    ap (λ (heads : List TableHead). with_changed (deleted_table select) (without_rows (first_rows h.0)) heads) differ.heads
+    ∙ ap (λ (rows : List (List ℕ)). with_changed (deleted_table select) (without_rows (first_rows rows)) other.heads) kept in
     record {
       store = ap (λ (c : Catalogue). c.store) h.2 ∙ differ.store ∙ ap (λ (c : Catalogue). c.store) (sym k.2);
       heads = ap (λ (c : Catalogue). c.heads) h.2 ∙ heads ∙ ap (λ (c : Catalogue). c.heads) (sym k.2);

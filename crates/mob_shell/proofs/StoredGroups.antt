@@ -1,29 +1,17 @@
 -- The field of a column of GROUP BY determines its value.
-use Rattle.std.proofs.Common.{◌≡◌, inl, inr, subst, ℕ, ℤ, List, [], Some, arith, refl}
-use Rattle.std.specs.List.{AllByRecursion}
+use Rattle.std.{specs.List.{AllByRecursion}, proofs.Common.{◌≡◌, inl, inr, subst, ℕ, ℤ, List, [], Some, arith, refl}}
 use Rattle.mob_list.proofs.Each.{each_on}
 use Rattle.mob_ast.specs.declared.types.SqlType.{SqlType}
 use Rattle.mob_operators.specs.declared.operator.Op.{Op}
-use Rattle.mob_operators.specs.declared.operator.Op.TheVariants as op
-use Rattle.mob_typed.specs.Trees.{TypedTree, typed, none, more}
-use Rattle.mob_typed.specs.Selects.{TypedSelectParts}
-use Rattle.mob_typed.specs.Statements.{query}
+use Rattle.mob_typed.{specs.Trees.{TypedTree, typed, none, more}, specs.Selects.{TypedSelectParts}, specs.Statements.{query}}
 use Rattle.mob_typing.specs.WellTyped.{IsGroup, from_type}
-use Rattle.mob_value.specs.declared.value.Value.{Value}
-use Rattle.mob_value.specs.declared.value.Value.TheVariants.{Null}
-use Rattle.mob_catalog.specs.Catalogue.{Catalogue}
-use Rattle.mob_catalog.specs.OwnTypes.{IsReadAs}
-use Rattle.mob_catalog.specs.TypedTables.{columns_of_tables}
-use Rattle.mob_meaning.specs.Scene.{Scene, scene, leaf_value}
-use Rattle.mob_meaning.specs.Stored.{ColumnsAreRead, MissingRowsAreNull}
-use Rattle.mob_meaning.specs.Operators.{OperatorGives}
-use Rattle.mob_meaning.specs.Values.{TreeHasValue}
+use Rattle.mob_value.{specs.declared.value.Value.{Value}, specs.declared.value.Value.TheVariants.{Null}}
+use Rattle.mob_catalog.{specs.Catalogue.{Catalogue}, specs.OwnTypes.{IsReadAs}, specs.TypedTables.{columns_of_tables}}
+use Rattle.mob_meaning.{specs.Scene.{Scene, scene, leaf_value}, specs.Stored.{ColumnsAreRead, MissingRowsAreNull}, specs.Operators.{OperatorGives}, specs.Values.{TreeHasValue}}
 use Rattle.mob_join.specs.TypedFor.{HasStoredTypes, IsTypedFor}
 use Rattle.mob_tail.specs.GroupLaws.{GroupsAreOfValues, IsKeyOn}
-use Rattle.mob_shell.specs.ReadAsStored.{IsLiveTuple}
-use Rattle.mob_shell.specs.StoredGroups.{QueriesGroupByValues, TypedQueriesGroupByValues}
-use Rattle.mob_shell.specs.StoredTypes.{QueriesAreTyped}
-use Rattle.mob_shell.proofs.ReadAsStored.{value_of_place}
+use Rattle.mob_shell.{specs.ReadAsStored.{IsLiveTuple}, specs.StoredGroups.{QueriesGroupByValues, TypedQueriesGroupByValues}, specs.StoredTypes.{QueriesAreTyped}, proofs.ReadAsStored.{value_of_place}}
+use Rattle.mob_operators.specs.declared.operator.Op.TheVariants as op
 
 null_as : (ty : SqlType) → IsReadAs ty Null
 null_as ty = record { own = record { form = refl; whole = tt }; fits = tt }

@@ -1,29 +1,17 @@
 -- The fault of a statement is a part of a formula of its query that does not fit.
-use Rattle.std.proofs.Common.{◌≡◌, inl, inr, refl, sym, subst, Bool, ℕ, ℤ, List, [], ◌∷◌, Option, Some, None, Result, Err}
-use Rattle.std.specs.Prelude.{◌⊎◌, true, false}
-use Rattle.mob_operators.specs.declared.aggregate.AggKind.{AggKind}
-use Rattle.mob_operators.specs.declared.aggregate.AggKind.TheVariants.{CountAll}
-use Rattle.mob_typed.specs.Trees.{TypedTree}
-use Rattle.mob_typed.specs.Selects.{TypedSelectParts}
-use Rattle.mob_typed.specs.Statements.{StatementOut, deletion, query}
+use Rattle.std.{specs.Prelude.{◌⊎◌, true, false}, proofs.Common.{◌≡◌, inl, inr, refl, sym, subst, Bool, ℕ, ℤ, List, [], ◌∷◌, Option, Some, None, Result, Err}}
+use Rattle.mob_operators.{specs.declared.aggregate.AggKind.{AggKind}, specs.declared.aggregate.AggKind.TheVariants.{CountAll}}
+use Rattle.mob_typed.{specs.Trees.{TypedTree}, specs.Selects.{TypedSelectParts}, specs.Statements.{StatementOut, deletion, query}}
 use Rattle.mob_catalog.specs.Catalogue.{Catalogue}
-use Rattle.mob_meaning.specs.Scene.{Scene, scene}
-use Rattle.mob_meaning.specs.Evaluation.{PlacedFormula}
-use Rattle.mob_meaning.specs.Passes.{FaultsPass, TreePasses}
+use Rattle.mob_meaning.{specs.Scene.{Scene, scene}, specs.Evaluation.{PlacedFormula}, specs.Passes.{FaultsPass, TreePasses}}
 use Rattle.mob_eval.specs.QueryFaults.{TupleFault}
 use Rattle.mob_tuples.specs.Tuples.{StandsIn}
 use Rattle.mob_join.specs.Query.{FailsBy, IsKept, condition_at}
 use Rattle.mob_tail.specs.Answers.{IsAnswerBy, IsField, IsKey, IsRowOf, IsTupleRow}
-use Rattle.mob_tail.specs.GroupedAnswers.{Column, IsAddingTo, IsArgument, IsArgumentOf, IsArgumentOn, IsGroupedFault, columns_of}
-use Rattle.mob_tail.specs.Groups.{same_group}
-use Rattle.mob_tail.specs.IsMadeOfEach.{IsMadeOfEach}
-use Rattle.mob_words.specs.declared.options.Settings.{Settings}
-use Rattle.mob_shell.specs.Answers.{QueryAnswers}
-use Rattle.mob_shell.specs.Fits.{ArgumentOfPasses, ArgumentPasses, ColumnPasses, ConditionPasses, PartPasses, PassesAt, RowPasses, StatementPasses, TuplePasses}
-use Rattle.mob_shell.specs.Inputs.{Input}
-use Rattle.mob_shell.specs.Program.{StopsWith}
-use Rattle.mob_shell.specs.Runs.{RunState, Stops}
-use Rattle.mob_shell.proofs.GroupFaults.{FailsAt, stands_behind, tuple_fails}
+use Rattle.mob_tail.{specs.GroupedAnswers.{AnswerColumn, IsAddingTo, IsArgument, IsArgumentOf, IsArgumentOn, IsGroupedFault, columns_of}, specs.Groups.{same_group}, specs.IsMadeOfEach.{IsMadeOfEach}}
+use Rattle.mob_arguments.specs.declared.options.Settings.{Settings}
+use Rattle.mob_shell.{specs.Answers.{QueryAnswers}, specs.Fits.{ArgumentOfPasses, ArgumentPasses, ColumnPasses, ConditionPasses, PartPasses, PassesAt, RowPasses, StatementPasses, TuplePasses}}
+use Rattle.mob_shell.{specs.Inputs.{Input}, specs.Program.{StopsWith}, specs.Runs.{RunState, Stops}, proofs.GroupFaults.{FailsAt, stands_behind, tuple_fails}}
 
 -- the first fault over a list comes from one of its entries
 failing_entry : {X Y F : Type 0} (R : X → Result Y F → Type 0) (xs : List X) (f : F) → IsMadeOfEach R xs (Err f) → (x : X) × StandsIn x xs × R x (Err f)
@@ -40,7 +28,7 @@ module _ (pass : FaultsPass) where
   unfit_argument_of CountAll s e f h = absurd (cc h)
   unfit_argument_of _ s e f h = pass s e f h
 
-  unfit_argument : (s : Scene) (column : Column) (f : PlacedFormula) → IsArgument s column (Err f) → ArgumentPasses s column f
+  unfit_argument : (s : Scene) (column : AnswerColumn) (f : PlacedFormula) → IsArgument s column (Err f) → ArgumentPasses s column f
   unfit_argument s (e, None) f h = absurd (cc h)
   unfit_argument s (e, Some agg) f h = unfit_argument_of agg.kind s e f h
 
@@ -62,7 +50,7 @@ module _ (pass : FaultsPass) where
         (subst (λ (t : List ℕ). StandsIn t kept) same of.1, unfit_part f (subst (λ (t : List ℕ). IsRowOf select (scene catalogue.store select.from t day) (Err f.1)) same of.2.1))
 
     -- a column of a grouped query
-    unfit_column : (kept : List (List ℕ)) (f : TupleFault) → FailsAt (IsArgumentOn select catalogue.store day) IsAddingTo (same_group select catalogue.store day) (columns_of select) kept f → (column : Column) × StandsIn column (columns_of select) × ColumnPasses select catalogue day kept f column
+    unfit_column : (kept : List (List ℕ)) (f : TupleFault) → FailsAt (IsArgumentOn select catalogue.store day) IsAddingTo (same_group select catalogue.store day) (columns_of select) kept f → (column : AnswerColumn) × StandsIn column (columns_of select) × ColumnPasses select catalogue day kept f column
     unfit_column kept f at = (
       at.item,
       at.stands,

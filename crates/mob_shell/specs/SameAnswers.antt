@@ -1,15 +1,11 @@
 -- The number of workers and the indexes change no answer.
 use Rattle.std.specs.Prelude.{◌≡◌, ℕ, ℤ, List, Ok}
-use Rattle.mob_words.specs.declared.options.Settings.{Settings}
+use Rattle.mob_arguments.specs.declared.options.Settings.{Settings}
 use Rattle.mob_typed.specs.Selects.{TypedSelectParts}
 use Rattle.mob_catalog.specs.Catalogue.{Catalogue}
 use Rattle.mob_join.specs.Query.{IsKept}
 use Rattle.mob_ending.specs.declared.ending.Ending.{Ending}
-use Rattle.mob_shell.specs.Answers.{QueryAnswers}
-use Rattle.mob_shell.specs.Deletes.{IsDeleted}
-use Rattle.mob_shell.specs.Ending.{IsDue}
-use Rattle.mob_shell.specs.Inputs.{Input, IsInputOf, Seen}
-use Rattle.mob_shell.specs.Program.{ProgramWrites}
+use Rattle.mob_shell.{specs.Answers.{QueryAnswers}, specs.Deletes.{IsDeleted}, specs.Ending.{IsDue}, specs.Inputs.{Input, IsInputOf, Seen}, specs.Program.{ProgramWrites}}
 
 -- settings that differ only in the number of workers: they have the same epoch and the same demo
 pub record DifferInWorkers (one other : Settings) : Type 0 where

@@ -1,16 +1,11 @@
 -- A query is grouped by the values of its columns of GROUP BY.
-use Rattle.std.specs.Prelude.{◌≡◌, ◌↔◌, ℕ, ℤ, List, Some, true, slice_get}
-use Rattle.std.specs.List.{AllByRecursion}
-use Rattle.mob_typed.specs.Selects.{TypedSelectParts}
-use Rattle.mob_typed.specs.Statements.{query}
+use Rattle.std.{specs.Prelude.{◌≡◌, ◌↔◌, ℕ, ℤ, List, Some, true, slice_get}, specs.List.{AllByRecursion}}
+use Rattle.mob_typed.{specs.Selects.{TypedSelectParts}, specs.Statements.{query}}
 use Rattle.mob_catalog.specs.Catalogue.{Catalogue}
 use Rattle.mob_join.specs.TypedFor.{IsTypedFor}
-use Rattle.mob_tail.specs.Groups.{same_group}
-use Rattle.mob_tail.specs.GroupLaws.{HasSameValue}
-use Rattle.mob_words.specs.declared.options.Settings.{Settings}
-use Rattle.mob_shell.specs.Inputs.{Input}
-use Rattle.mob_shell.specs.Program.{WritesFirst}
-use Rattle.mob_shell.specs.ReadAsStored.{IsLiveTuple}
+use Rattle.mob_tail.{specs.Groups.{same_group}, specs.GroupLaws.{HasSameValue}}
+use Rattle.mob_arguments.specs.declared.options.Settings.{Settings}
+use Rattle.mob_shell.{specs.Inputs.{Input}, specs.Program.{WritesFirst}, specs.ReadAsStored.{IsLiveTuple}}
 
 -- two tuples are in one group exactly if each column of GROUP BY has the same value on both, where
 -- NULL equals NULL

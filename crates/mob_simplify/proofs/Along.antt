@@ -1,25 +1,13 @@
 -- The walk along the slices, step by step.
-use Rattle.std.specs.Prelude.{◌≡◌, Bool, true, false, cond, ◌&&◌, not, List, [], ◌∷◌, ◌++◌, Option, Some, None, refl}
-use Rattle.std.specs.List.{AllByRecursion}
+use Rattle.std.{specs.Prelude.{◌≡◌, Bool, true, false, cond, ◌&&◌, not, List, [], ◌∷◌, ◌++◌, Option, Some, None, refl}, specs.List.{AllByRecursion}}
 use Rattle.std.proofs.Common.{arith, ap, sym, ◌∙◌, subst, append_assoc}
-use Rattle.mob_ratio.specs.Ratio.{Ratio}
-use Rattle.mob_ratio.specs.Order.{before, up_to, same}
-use Rattle.mob_ratio.proofs.Order.{before-self, before-back, before-trans, before-neither, same_exact}
+use Rattle.mob_ratio.{specs.Ratio.{Ratio}, specs.Order.{before, up_to, same}, proofs.Order.{before-self, before-back, before-trans, before-neither, same_exact}}
 use Rattle.mob_span.specs.Span.{has_instant}
-use Rattle.mob_list.proofs.Each.{each_on, each_both}
-use Rattle.mob_list.specs.Faults.{OnCause}
-use Rattle.mob_slice.specs.Entries.{Entry, IsFirst}
-use Rattle.mob_slice.specs.declared.formula.Formula.{Formula}
-use Rattle.mob_list.specs.declared.fault.Fault.{Fault}
-use Rattle.mob_list.specs.declared.fault.Fault.TheVariants.{Because, NoMemory}
-use Rattle.mob_slice.specs.declared.line.PlaneLine.{PlaneLine}
-use Rattle.mob_slice.specs.declared.slice.Slice.{Slice}
-use Rattle.mob_lifted.proofs.Firsts.{first_joined, first_front}
-use Rattle.mob_simplify.specs.Breaks.{start_of, end_of}
-use Rattle.mob_simplify.specs.Tests.{tests_of}
-use Rattle.mob_simplify.specs.Walk.{continues_run, stays, leg_over, legs_along, tests_along, all_legs, all_tests}
-use Rattle.mob_simplify.specs.declared.breaks.Break.{Break}
-use Rattle.mob_simplify.proofs.InTurn.{IsWithin}
+use Rattle.mob_list.{specs.Faults.{OnCause}, specs.declared.fault.Fault.{Fault}, specs.declared.fault.Fault.TheVariants.{Because, NoMemory}, proofs.Each.{each_on, each_both}}
+use Rattle.mob_slice.{specs.Entries.{Entry, IsFirst}, specs.declared.formula.Formula.{Formula}, specs.declared.line.PlaneLine.{PlaneLine}, specs.declared.slice.Slice.{Slice}}
+use Rattle.mob_slice.proofs.JoinedFirsts.{first_joined, first_front}
+use Rattle.mob_simplify.{specs.Breaks.{start_of, end_of}, specs.Tests.{tests_within}, specs.Walk.{continues_run, stays, leg_over, legs_along, tests_along, all_legs, all_tests}}
+use Rattle.mob_simplify.{specs.declared.breaks.Break.{Break}, proofs.InTurn.{IsWithin}}
 
 -- what it takes to continue a run
 pub record IsGoing (s r : Slice PlaneLine) : Type 0 where
@@ -78,7 +66,7 @@ module _ (d : Ratio) (all : List (Slice PlaneLine)) (s : Slice PlaneLine) (betwe
     within_end g = each_on (IsReached s.span.lower r.span.lower) (IsWithin s.span.lower r.span.upper) (λ b w. (w.0, upto_before b.instant r.span.lower r.span.upper w.1 (going l r g).next_long)) wide (within_next g)
 
     abbrev front : List Entry
-    front = cond (continues_run l r) (tests_of d (start_of s) wide (end_of r)) []
+    front = cond (continues_run l r) (tests_within d (start_of s) wide (end_of r)) []
 
     abbrev behind : Bool → List Entry
     behind b = cond b (tests_along d s wide r later) (tests_along d r [] r later)

@@ -1,28 +1,14 @@
 -- The result of the walk over a normal value, and its properties.
-use Rattle.std.specs.Prelude.{◌≡◌, true, List, Option, Some, None, Result, refl}
-use Rattle.std.specs.List.{flat_map}
-use Rattle.std.proofs.Common.{ap, sym, ◌∙◌, subst}
-use Rattle.mob_ratio.specs.Ratio.{Ratio, ◌*ℚ◌}
-use Rattle.mob_ratio.specs.Order.{up_to}
-use Rattle.mob_ratio.specs.Sign.{nil}
+use Rattle.std.{specs.Prelude.{◌≡◌, true, List, Option, Some, None, Result, refl}, specs.List.{flat_map}, proofs.Common.{ap, sym, ◌∙◌, subst}}
+use Rattle.mob_ratio.{specs.Ratio.{Ratio, ◌*ℚ◌}, specs.Order.{up_to}, specs.Sign.{nil}}
 use Rattle.mob_plane.specs.declared.point.Point.{Point}
-use Rattle.mob_normal.proofs.Unique.{unique}
-use Rattle.mob_slice.proofs.Orders.{ordered}
-use Rattle.mob_slice.specs.Entries.{IsJudged}
-use Rattle.mob_slice.specs.Lines.{plane_value_of, plane_continued}
-use Rattle.mob_slice.specs.PlaneLaws.{plane_laws}
-use Rattle.mob_slice.specs.Slices.{value_at, IsNormal}
+use Rattle.mob_lift.proofs.Unique.{unique}
+use Rattle.mob_slice.{specs.Entries.{IsJudged}, specs.Lines.{plane_value_of, plane_continued}, specs.PlaneLaws.{plane_laws}, specs.Slices.{value_at, IsNormal}}
+use Rattle.mob_slice.{specs.declared.line.PlaneLine.{PlaneLine}, specs.declared.slice.Slice.{Slice}, specs.declared.formula.Formula.{Formula}, proofs.Orders.{ordered}}
 use Rattle.mob_list.specs.declared.fault.Fault.{Fault}
-use Rattle.mob_slice.specs.declared.line.PlaneLine.{PlaneLine}
-use Rattle.mob_slice.specs.declared.slice.Slice.{Slice}
 use Rattle.mob_near.specs.Distances.{distance_squared}
-use Rattle.mob_simplify.specs.Thinned.{IsThin, AreNear, OnRuns, tests_of_run}
-use Rattle.mob_simplify.specs.Walk.{all_legs, all_tests}
-use Rattle.mob_simplify.proofs.Convexity.{one_place}
-use Rattle.mob_simplify.proofs.Found.{found}
-use Rattle.mob_simplify.proofs.NearAlong.{all_near}
+use Rattle.mob_simplify.{specs.Thinned.{IsThin, AreNear, OnRuns, tests_of_run}, specs.Walk.{all_legs, all_tests}, proofs.Convexity.{one_place}, proofs.Found.{found}, proofs.NearAlong.{all_near}}
 use Rattle.mob_simplify.proofs.Ordered.{AreOrderedLines, all_ordered}
-use Rattle.mob_slice.specs.declared.formula.Formula.{Formula}
 
 abbrev pub IsNormalLines : List (Slice PlaneLine) → Type 0
 IsNormalLines v = IsNormal (λ c. c.from) (λ c. c.to) plane_continued v

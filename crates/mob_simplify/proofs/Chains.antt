@@ -1,26 +1,12 @@
 -- The slices from one kept break to the next, and the straight course that replaces them.
-use Rattle.std.specs.Prelude.{◌≡◌, Bool, true, false, cond, ◌||◌, List, [], ◌∷◌, map, Option, Some, None, refl}
-use Rattle.std.proofs.Common.{arith, sym, subst}
-use Rattle.std.proofs.lemmas.Bool.{and_parts}
-use Rattle.mob_ratio.specs.Ratio.{Ratio, ◌*ℚ◌}
-use Rattle.mob_ratio.specs.Order.{before, up_to}
-use Rattle.mob_ratio.proofs.Order.{before-trans}
+use Rattle.std.{specs.Prelude.{◌≡◌, Bool, true, false, cond, ◌||◌, List, [], ◌∷◌, map, Option, Some, None, refl}, proofs.Common.{arith, sym, subst}, proofs.lemmas.Bool.{and_parts}}
+use Rattle.mob_ratio.{specs.Ratio.{Ratio, ◌*ℚ◌}, specs.Order.{before, up_to}, proofs.Order.{before-trans}}
 use Rattle.mob_plane.specs.declared.point.Point.{Point}
-use Rattle.mob_span.specs.Span.{SpanOf, has, has_instant}
-use Rattle.mob_span.specs.Neighbours.{Meets}
-use Rattle.mob_span.proofs.SpanLemmas.{has_upto_upper, has_upto_lower, joined_has}
-use Rattle.mob_slice.specs.Lines.{plane_value_of}
-use Rattle.mob_slice.specs.PlaneLaws.{plane_laws}
-use Rattle.mob_slice.specs.Slices.{value_at}
-use Rattle.mob_slice.specs.declared.line.PlaneLine.{PlaneLine}
-use Rattle.mob_slice.specs.declared.slice.Slice.{Slice}
+use Rattle.mob_span.{specs.Span.{SpanOf, has, has_instant}, specs.Neighbours.{Meets}, proofs.SpanLemmas.{has_upto_upper, has_upto_lower, joined_has}}
+use Rattle.mob_slice.{specs.Lines.{plane_value_of}, specs.PlaneLaws.{plane_laws}, specs.Slices.{value_at}, specs.declared.line.PlaneLine.{PlaneLine}, specs.declared.slice.Slice.{Slice}}
 use Rattle.mob_near.specs.Distances.{distance_squared}
-use Rattle.mob_simplify.specs.Breaks.{start_of, end_of, straight, off_course, passes}
-use Rattle.mob_simplify.specs.Runs.{last_slice, IsChain}
-use Rattle.mob_simplify.specs.Thinned.{AreNear}
-use Rattle.mob_simplify.specs.Walk.{leg_over}
-use Rattle.mob_simplify.specs.declared.breaks.Break.{Break}
-use Rattle.mob_simplify.proofs.Convexity.{within_part, near_self}
+use Rattle.mob_simplify.{specs.Breaks.{start_of, end_of, straight, off_course, passes_within}, specs.Runs.{last_slice, IsChain}, specs.Thinned.{AreNear}, specs.Walk.{leg_over}}
+use Rattle.mob_simplify.{specs.declared.breaks.Break.{Break}, proofs.Convexity.{within_part, near_self}}
 
 -- the instants of a chain of slices
 abbrev pub span_of : Slice PlaneLine → List (Slice PlaneLine) → SpanOf
@@ -72,14 +58,14 @@ module _ (D : Ratio) (k : PlaneLine) (P N : Ratio) (wide : before P N ≡ true) 
       (chain_near r more g.next_long c.1 hs.0 hs.1 i t))
 
 -- if a break passes, the course is near at each start
-starts_near : (d : Ratio) (p n : Break) (more : List (Slice PlaneLine)) (wide : before p.instant n.instant ≡ true) → passes d p (map start_of more) n ≡ true → AreNearAt (d *ℚ d) (straight p n) p.instant n.instant wide more
+starts_near : (d : Ratio) (p n : Break) (more : List (Slice PlaneLine)) (wide : before p.instant n.instant ≡ true) → passes_within d p (map start_of more) n ≡ true → AreNearAt (d *ℚ d) (straight p n) p.instant n.instant wide more
 starts_near d p n [] wide h = tt
-starts_near d p n (r ∷ more) wide h = let k = and_parts (up_to (off_course p n (start_of r)) (d *ℚ d)) (passes d p (map start_of more) n) h in (k.0, starts_near d p n more wide k.1)
+starts_near d p n (r ∷ more) wide h = let k = and_parts (up_to (off_course p n (start_of r)) (d *ℚ d)) (passes_within d p (map start_of more) n) h in (k.0, starts_near d p n more wide k.1)
 
 -- the slices from a kept break on, which all continue the run and pass so far
 pub record IsStretch (d : Ratio) (s : Slice PlaneLine) (more : List (Slice PlaneLine)) : Type 0 where
   pub chain : IsChain s more
-  pub passed : passes d (start_of s) (map start_of more) (end_of (last_slice s more)) ≡ true
+  pub passed : passes_within d (start_of s) (map start_of more) (end_of (last_slice s more)) ≡ true
 
 single_near : (d : Ratio) (x : Point) (b : Bool) → AreNear (d *ℚ d) (cond b (Some x) None) (cond b (Some x) None)
 single_near d x true = near_self d x

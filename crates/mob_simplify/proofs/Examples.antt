@@ -1,17 +1,9 @@
 -- Worked examples of the definitions. Each holds by computing.
 use Rattle.std.proofs.Common.{◌≡◌, true, false, pos, negsuc, refl, List, [], ◌∷◌, ◌++◌, ℕ}
-use Rattle.mob_ratio.specs.Gcd.{gcd, gcd_steps}
-use Rattle.mob_ratio.specs.Lowest.{in_lowest_terms}
-use Rattle.mob_ratio.specs.Ratio.{Ratio, over, whole, turned, inverse, ◌+ℚ◌, ◌*ℚ◌, neg_ℚ}
-use Rattle.mob_ratio.specs.Order.{before, same}
+use Rattle.mob_ratio.{specs.Gcd.{gcd, gcd_steps}, specs.Lowest.{in_lowest_terms}, specs.Ratio.{Ratio, over, whole, turned, inverse, ◌+ℚ◌, ◌*ℚ◌, neg_ℚ}, specs.Order.{before, same}}
 use Rattle.mob_ratio.specs.Line.{line_at, line_value}
-use Rattle.mob_slice.specs.declared.line.PlaneLine.{PlaneLine}
-use Rattle.mob_slice.specs.declared.slice.Slice.{Slice}
-use Rattle.mob_slice.specs.declared.formula.Formula.TheVariants.{F1, F2, F6}
-use Rattle.mob_simplify.specs.Breaks.{off_course}
-use Rattle.mob_simplify.specs.Tests.{entries_of_test}
-use Rattle.mob_simplify.specs.declared.breaks.Break.{Break}
-use Rattle.mob_simplify.specs.Walk.{continues_run, all_legs, all_tests}
+use Rattle.mob_slice.{specs.declared.line.PlaneLine.{PlaneLine}, specs.declared.slice.Slice.{Slice}, specs.declared.formula.Formula.TheVariants.{F1, F2, F6}}
+use Rattle.mob_simplify.{specs.Breaks.{off_course}, specs.Tests.{entries_of_test}, specs.declared.breaks.Break.{Break}, specs.Walk.{continues_run, all_legs, all_tests}}
 
 abbrev n : ℕ → Ratio
 n k = whole (pos k)

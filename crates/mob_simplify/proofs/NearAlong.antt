@@ -1,23 +1,13 @@
 -- The result of the walk is within d of the slices, at each instant.
-use Rattle.std.specs.Prelude.{◌≡◌, Bool, true, false, cond, not, List, [], ◌∷◌, ◌++◌, map, Option, Some, None, refl}
-use Rattle.std.proofs.Common.{arith, ap, sym, ◌∙◌, subst, append_assoc}
+use Rattle.std.{specs.Prelude.{◌≡◌, Bool, true, false, cond, not, List, [], ◌∷◌, ◌++◌, map, Option, Some, None, refl}, proofs.Common.{arith, ap, sym, ◌∙◌, subst, append_assoc}}
 use Rattle.std.proofs.lemmas.Bool.{and_parts}
-use Rattle.mob_ratio.specs.Ratio.{Ratio, ◌*ℚ◌}
-use Rattle.mob_ratio.specs.Order.{same}
-use Rattle.mob_ratio.proofs.Order.{same_exact}
-use Rattle.mob_plane.specs.Points.{same_point, same_point_exact}
-use Rattle.mob_plane.specs.declared.point.Point.{Point}
+use Rattle.mob_ratio.{specs.Ratio.{Ratio, ◌*ℚ◌}, specs.Order.{same}, proofs.Order.{same_exact}}
+use Rattle.mob_plane.{specs.Points.{same_point, same_point_exact}, specs.declared.point.Point.{Point}}
 use Rattle.mob_span.proofs.FirstOf.{or_else}
-use Rattle.mob_normal.proofs.Runs.{value_at-append}
-use Rattle.mob_slice.specs.Lines.{plane_value_of}
-use Rattle.mob_slice.specs.Slices.{value_at}
-use Rattle.mob_slice.specs.declared.line.PlaneLine.{PlaneLine}
-use Rattle.mob_slice.specs.declared.slice.Slice.{Slice}
-use Rattle.mob_simplify.specs.Breaks.{start_of, end_of, passes}
-use Rattle.mob_simplify.specs.Runs.{GoesOn, last_slice, IsChain}
-use Rattle.mob_simplify.specs.Thinned.{AreNear}
-use Rattle.mob_simplify.specs.Walk.{continues_run, stays, leg_over, legs_along, all_legs}
-use Rattle.mob_simplify.proofs.Chains.{IsStretch, stretch_near}
+use Rattle.mob_lift.proofs.Runs.{value_at-append}
+use Rattle.mob_slice.{specs.Lines.{plane_value_of}, specs.Slices.{value_at}, specs.declared.line.PlaneLine.{PlaneLine}, specs.declared.slice.Slice.{Slice}}
+use Rattle.mob_simplify.{specs.Breaks.{start_of, end_of, passes_within}, specs.Runs.{GoesOn, last_slice, IsChain}, specs.Thinned.{AreNear}}
+use Rattle.mob_simplify.{specs.Walk.{continues_run, stays, leg_over, legs_along, all_legs}, proofs.Chains.{IsStretch, stretch_near}}
 
 -- ---- the meaning of the test
 pub goes_on_is : (s r : Slice PlaneLine) → continues_run s r ≡ true → GoesOn s r
@@ -61,7 +51,7 @@ chain_more s (q ∷ more) r c g = (c.0, chain_more q more r c.1 g)
 
 pub stretch_more : (d : Ratio) (s : Slice PlaneLine) (more : List (Slice PlaneLine)) (r : Slice PlaneLine) → IsStretch d s more → stays d s (map start_of more ++ start_of r ∷ []) (last_slice s more) r ≡ true → IsStretch d s (more ++ r ∷ [])
 stretch_more d s more r h e =
-    let k = and_parts (continues_run (last_slice s more) r) (passes d (start_of s) (map start_of more ++ start_of r ∷ []) (end_of r)) e in
+    let k = and_parts (continues_run (last_slice s more) r) (passes_within d (start_of s) (map start_of more ++ start_of r ∷ []) (end_of r)) e in
     record {
       chain = chain_more s more r h.chain (goes_on_is (last_slice s more) r k.0);
       passed = rw (starts_more more r, last_more s more r) k.1;

@@ -1,22 +1,11 @@
 -- A list of slices has one list of runs with their kept breaks.
-use Rattle.std.specs.Prelude.{◌≡◌, false, List, [], ◌∷◌, ◌++◌, refl}
-use Rattle.std.specs.List.{flat_map}
-use Rattle.std.proofs.Common.{ap, sym, ◌∙◌, subst, append_assoc, true≢false}
-use Rattle.mob_ratio.specs.Ratio.{Ratio, ◌*ℚ◌}
-use Rattle.mob_ratio.specs.Sign.{nil}
-use Rattle.mob_normal.proofs.Unique.{unique}
-use Rattle.mob_slice.specs.PlaneLaws.{plane_laws}
-use Rattle.mob_slice.specs.Slices.{OfHead}
-use Rattle.mob_slice.specs.declared.line.PlaneLine.{PlaneLine}
-use Rattle.mob_slice.specs.declared.slice.Slice.{Slice}
-use Rattle.mob_simplify.specs.Breaks.{passes}
-use Rattle.mob_simplify.specs.Runs.{GoesOn, last_slice, IsChain, KeptBreak, AllPass, IsNextKept, AreKeptBreaks, RunOf, first_kept, AreRuns}
-use Rattle.mob_simplify.specs.Thinned.{IsThin, AreNear, legs_of}
-use Rattle.mob_simplify.specs.Walk.{all_legs}
-use Rattle.mob_simplify.specs.declared.breaks.Break.{Break}
-use Rattle.mob_simplify.proofs.Answering.{IsNormalLines, At, is_near, is_same}
-use Rattle.mob_simplify.proofs.Convexity.{no_square}
-use Rattle.mob_simplify.proofs.Found.{found}
+use Rattle.std.{specs.Prelude.{◌≡◌, false, List, [], ◌∷◌, ◌++◌, refl}, specs.List.{flat_map}, proofs.Common.{ap, sym, ◌∙◌, subst, append_assoc, true≢false}}
+use Rattle.mob_ratio.{specs.Ratio.{Ratio, ◌*ℚ◌}, specs.Sign.{nil}}
+use Rattle.mob_lift.proofs.Unique.{unique}
+use Rattle.mob_slice.{specs.PlaneLaws.{plane_laws}, specs.Slices.{OfHead}, specs.declared.line.PlaneLine.{PlaneLine}, specs.declared.slice.Slice.{Slice}}
+use Rattle.mob_simplify.{specs.Breaks.{passes_within}, specs.Runs.{GoesOn, last_slice, IsChain, KeptBreak, AllPass, IsNextKept, AreKeptBreaks, RunOf, first_kept, AreRuns}}
+use Rattle.mob_simplify.{specs.Thinned.{IsThin, AreNear, legs_of}, specs.Walk.{all_legs}, specs.declared.breaks.Break.{Break}, proofs.Answering.{IsNormalLines, At, is_near, is_same}}
+use Rattle.mob_simplify.{proofs.Convexity.{no_square}, proofs.Found.{found}}
 
 first_same : {A : Type 0} {x y : A} {xs ys : List A} → x ∷ xs ≡ y ∷ ys → x ≡ y
 first_same e = cc
@@ -40,39 +29,39 @@ more_same s (x ∷ xs) (y ∷ ys) rest rest' e c k h i =
 -- ---- the kept breaks
 module _ (d : Ratio) (p : Break) where
   -- if x is the last that passes, no later one does
-  not_further : (bs : List Break) (x y : Break) (u ys v : List Break) → u ≡ ys ++ y ∷ v → AllPass d p (bs ++ x ∷ []) (ys ++ y ∷ []) → OfHead (λ m n. passes d p (bs ++ m ∷ []) n ≡ false) x u → ⊥
-  not_further bs x y u [] v e h k = true≢false (sym h.0 ∙ subst (λ z. OfHead (λ m n. passes d p (bs ++ m ∷ []) n ≡ false) x z) e k)
-  not_further bs x y u (q ∷ ys) v e h k = true≢false (sym h.0 ∙ subst (λ z. OfHead (λ m n. passes d p (bs ++ m ∷ []) n ≡ false) x z) e k)
+  not_further : (bs : List Break) (x y : Break) (u ys v : List Break) → u ≡ ys ++ y ∷ v → AllPass d p (bs ++ x ∷ []) (ys ++ y ∷ []) → OfHead (λ m n. passes_within d p (bs ++ m ∷ []) n ≡ false) x u → ⊥
+  not_further bs x y u [] v e h k = true≢false (sym h.0 ∙ subst (λ z. OfHead (λ m n. passes_within d p (bs ++ m ∷ []) n ≡ false) x z) e k)
+  not_further bs x y u (q ∷ ys) v e h k = true≢false (sym h.0 ∙ subst (λ z. OfHead (λ m n. passes_within d p (bs ++ m ∷ []) n ≡ false) x z) e k)
 
-  moved : (bs cs : List Break) (x : Break) (u : List Break) → bs ≡ cs → OfHead (λ m n. passes d p bs n ≡ false) x u → OfHead (λ m n. passes d p cs n ≡ false) x u
-  moved bs cs x u e h = subst (λ z. OfHead (λ m n. passes d p z n ≡ false) x u) e h
+  moved : (bs cs : List Break) (x : Break) (u : List Break) → bs ≡ cs → OfHead (λ m n. passes_within d p bs n ≡ false) x u → OfHead (λ m n. passes_within d p cs n ≡ false) x u
+  moved bs cs x u e h = subst (λ z. OfHead (λ m n. passes_within d p z n ≡ false) x u) e h
 
-  plain : (bs : List Break) (x : Break) (u : List Break) → OfHead (λ m n. passes d p (bs ++ x ∷ []) n ≡ false) x u → OfHead (λ m n. passes d p (bs ++ m ∷ []) n ≡ false) x u
+  plain : (bs : List Break) (x : Break) (u : List Break) → OfHead (λ m n. passes_within d p (bs ++ x ∷ []) n ≡ false) x u → OfHead (λ m n. passes_within d p (bs ++ m ∷ []) n ≡ false) x u
   plain bs x [] h = tt
   plain bs x (n ∷ u) h = h
 
-  known : (bs xs : List Break) (x : Break) (u : List Break) → OfHead (λ m n. passes d p (bs ++ (xs ++ m ∷ [])) n ≡ false) x u → OfHead (λ m n. passes d p (bs ++ (xs ++ x ∷ [])) n ≡ false) x u
+  known : (bs xs : List Break) (x : Break) (u : List Break) → OfHead (λ m n. passes_within d p (bs ++ (xs ++ m ∷ [])) n ≡ false) x u → OfHead (λ m n. passes_within d p (bs ++ (xs ++ x ∷ [])) n ≡ false) x u
   known bs xs x [] h = tt
   known bs xs x (n ∷ u) h = h
 
-  open_at : (bs xs : List Break) (x : Break) (u : List Break) → OfHead (λ m n. passes d p (bs ++ (xs ++ x ∷ [])) n ≡ false) x u → OfHead (λ m n. passes d p (bs ++ (xs ++ m ∷ [])) n ≡ false) x u
+  open_at : (bs xs : List Break) (x : Break) (u : List Break) → OfHead (λ m n. passes_within d p (bs ++ (xs ++ x ∷ [])) n ≡ false) x u → OfHead (λ m n. passes_within d p (bs ++ (xs ++ m ∷ [])) n ≡ false) x u
   open_at bs xs x [] h = tt
   open_at bs xs x (n ∷ u) h = h
 
-  deeper : (bs xs : List Break) (b x : Break) (u : List Break) → OfHead (λ m n. passes d p (bs ++ ((b ∷ xs) ++ m ∷ [])) n ≡ false) x u → OfHead (λ m n. passes d p ((bs ++ b ∷ []) ++ (xs ++ m ∷ [])) n ≡ false) x u
+  deeper : (bs xs : List Break) (b x : Break) (u : List Break) → OfHead (λ m n. passes_within d p (bs ++ ((b ∷ xs) ++ m ∷ [])) n ≡ false) x u → OfHead (λ m n. passes_within d p ((bs ++ b ∷ []) ++ (xs ++ m ∷ [])) n ≡ false) x u
   deeper bs xs b x u h =
       let e : bs ++ ((b ∷ xs) ++ x ∷ []) ≡ (bs ++ b ∷ []) ++ (xs ++ x ∷ []) = sym (append_assoc bs (b ∷ []) (xs ++ x ∷ [])) in
       open_at (bs ++ b ∷ []) xs x u (moved (bs ++ ((b ∷ xs) ++ x ∷ [])) ((bs ++ b ∷ []) ++ (xs ++ x ∷ [])) x u e (known bs (b ∷ xs) x u h))
 
   next_same : (bs xs ys : List Break) (x y : Break) (u v : List Break) → xs ++ x ∷ u ≡ ys ++ y ∷ v → AllPass d p bs (xs ++ x ∷ []) → AllPass d p bs (ys ++ y ∷ [])
-      → OfHead (λ m n. passes d p (bs ++ (xs ++ m ∷ [])) n ≡ false) x u → OfHead (λ m n. passes d p (bs ++ (ys ++ m ∷ [])) n ≡ false) y v → (x ≡ y) × (u ≡ v)
+      → OfHead (λ m n. passes_within d p (bs ++ (xs ++ m ∷ [])) n ≡ false) x u → OfHead (λ m n. passes_within d p (bs ++ (ys ++ m ∷ [])) n ≡ false) y v → (x ≡ y) × (u ≡ v)
   next_same bs [] [] x y u v e h k i j = (first_same e, rest_same e)
   next_same bs [] (b ∷ ys) x y u v e h k i j = absurd (not_further bs x y u ys v (rest_same e) (subst (λ z. AllPass d p (bs ++ z ∷ []) (ys ++ y ∷ [])) (sym (first_same e)) k.1) (plain bs x u (known bs [] x u i)))
   next_same bs (b ∷ xs) [] x y u v e h k i j = absurd (not_further bs y x v xs u (sym (rest_same e)) (subst (λ z. AllPass d p (bs ++ z ∷ []) (xs ++ x ∷ [])) (first_same e) h.1) (plain bs y v (known bs [] y v j)))
   next_same bs (b ∷ xs) (c ∷ ys) x y u v e h k i j =
       let f = sym (first_same e) in
       next_same (bs ++ b ∷ []) xs ys x y u v (rest_same e) h.1 (subst (λ z. AllPass d p (bs ++ z ∷ []) (ys ++ y ∷ [])) f k.1) (deeper bs xs b x u i)
-      (deeper bs ys b y v (subst (λ z. OfHead (λ m n. passes d p (bs ++ ((z ∷ ys) ++ m ∷ [])) n ≡ false) y v) f j))
+      (deeper bs ys b y v (subst (λ z. OfHead (λ m n. passes_within d p (bs ++ ((z ∷ ys) ++ m ∷ [])) n ≡ false) y v) f j))
 
 one_next : (d : Ratio) (p k m : KeptBreak) → IsNextKept d p k → IsNextKept d p m → k ≡ m
 one_next d p k m h i =

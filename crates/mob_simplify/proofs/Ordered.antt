@@ -1,22 +1,15 @@
 -- The result of the walk is ordered if its slices are.
-use Rattle.std.specs.Prelude.{◌≡◌, ◌≢◌, Bool, true, false, cond, List, [], ◌∷◌, ◌++◌, refl}
-use Rattle.std.proofs.Common.{arith, sym, ◌∙◌, subst, true≢false}
-use Rattle.std.proofs.lemmas.Bool.{and_parts}
-use Rattle.mob_ratio.specs.Ratio.{Ratio}
-use Rattle.mob_ratio.specs.Order.{before, up_to}
-use Rattle.mob_slice.specs.Slices.{OfHead, IsSound, IsClearOf, IsOrdered}
-use Rattle.mob_slice.specs.declared.line.PlaneLine.{PlaneLine}
-use Rattle.mob_slice.specs.declared.slice.Slice.{Slice}
-use Rattle.mob_simplify.specs.Breaks.{start_of, end_of, passes}
-use Rattle.mob_simplify.specs.Walk.{continues_run, stays, leg_over, legs_along, all_legs}
-use Rattle.mob_simplify.specs.declared.breaks.Break.{Break}
+use Rattle.std.{specs.Prelude.{◌≡◌, ◌≢◌, Bool, true, false, cond, List, [], ◌∷◌, ◌++◌, refl}, proofs.Common.{arith, sym, ◌∙◌, subst, true≢false}, proofs.lemmas.Bool.{and_parts}}
+use Rattle.mob_ratio.{specs.Ratio.{Ratio}, specs.Order.{before, up_to}}
+use Rattle.mob_slice.{specs.Slices.{OfHead, IsSound, IsClearOf, IsRisingInTime}, specs.declared.line.PlaneLine.{PlaneLine}, specs.declared.slice.Slice.{Slice}}
+use Rattle.mob_simplify.{specs.Breaks.{start_of, end_of, passes_within}, specs.Walk.{continues_run, stays, leg_over, legs_along, all_legs}, specs.declared.breaks.Break.{Break}}
 use Rattle.mob_simplify.proofs.Along.{going, self_upto, long_upto, upto_trans, upto_before}
 
 abbrev pub IsSoundLine : Slice PlaneLine → Type 0
 IsSoundLine s = IsSound (λ c. c.from) (λ c. c.to) s
 
 abbrev pub AreOrderedLines : List (Slice PlaneLine) → Type 0
-AreOrderedLines slices = IsOrdered (λ c. c.from) (λ c. c.to) slices
+AreOrderedLines slices = IsRisingInTime (λ c. c.from) (λ c. c.to) slices
 
 sound_by : (s l : Slice PlaneLine) → before s.span.lower l.span.upper ≡ true → IsSoundLine (leg_over s l)
 sound_by s l h = record { some = grind (arith, h); level = λ k. absurd (true≢false (sym h ∙ k)) }
@@ -36,7 +29,7 @@ module _ (d : Ratio) where
       → AreOrderedLines (legs_along d r [] r rest)
       → (b : Bool) → stays d s (between ++ start_of r ∷ []) l r ≡ b → AreOrderedLines (cond b (legs_along d s (between ++ start_of r ∷ []) r rest) (leg_over s l ∷ legs_along d r [] r rest))
   step_ordered s between l r rest up sound clear o on new true e =
-      let g = going l r (and_parts (continues_run l r) (passes d (start_of s) (between ++ start_of r ∷ []) (end_of r)) e).0 in
+      let g = going l r (and_parts (continues_run l r) (passes_within d (start_of s) (between ++ start_of r ∷ []) (end_of r)) e).0 in
       let low : up_to s.span.lower r.span.lower ≡ true = upto_trans s.span.lower l.span.lower r.span.lower up (subst (λ z. up_to l.span.lower z ≡ true) g.at_one (long_upto l.span.lower l.span.upper g.first_long)) in
       on low (sound_by s r (upto_before s.span.lower r.span.lower r.span.upper low g.next_long))
   step_ordered s between l r rest up sound clear o on new false e = (sound, clear_head (leg_over s l) r [] r rest clear, new)

@@ -1,22 +1,12 @@
 -- The place of a straight course at an instant between its ends, from the parts of the ends, the
 -- instant and each coordinate.
-use Rattle.std.specs.Prelude.{◌≡◌, Bool, true, false, cond, ◌&&◌, ◌++◌, [], ◌∷◌, Result, Ok, Err, refl}
-use Rattle.std.proofs.Common.{arith, ap, sym, ◌∙◌, subst}
-use Rattle.std.proofs.lemmas.Bool.{and_parts}
-use Rattle.mob_ratio.specs.Ratio.{Ratio, ◌+ℚ◌, ◌-ℚ◌, ◌*ℚ◌, ◌/ℚ◌}
-use Rattle.mob_ratio.specs.Line.{line_at}
-use Rattle.mob_ratio.specs.Order.{before, same}
-use Rattle.mob_ratio.proofs.LineAt.{line_at-level, line_at-quotient}
+use Rattle.std.{specs.Prelude.{◌≡◌, Bool, true, false, cond, ◌&&◌, ◌++◌, [], ◌∷◌, Result, Ok, Err, refl}, proofs.Common.{arith, ap, sym, ◌∙◌, subst}, proofs.lemmas.Bool.{and_parts}}
+use Rattle.mob_ratio.{specs.Ratio.{Ratio, ◌+ℚ◌, ◌-ℚ◌, ◌*ℚ◌, ◌/ℚ◌}, specs.Line.{line_at}, specs.Order.{before, same}, proofs.LineAt.{line_at-level, line_at-quotient}}
 use Rattle.mob_ratio.proofs.Order.{before-trans, same_exact}
-use Rattle.mob_frac.specs.Fits.{Fits, IsExact}
-use Rattle.mob_frac.specs.Formula.{AllFit, IsFormula, inner_parts, line_parts}
-use Rattle.mob_frac.proofs.Fitting.{all_both, all_first, all_second}
-use Rattle.mob_plane.specs.Points.{same_point, point_by_coordinates}
-use Rattle.mob_plane.specs.declared.point.Point.{Point}
+use Rattle.mob_frac.{specs.Fits.{Fits, IsExact}, specs.Formula.{AllFit, IsFormula, inner_parts, line_parts}, proofs.Fitting.{all_both, all_first, all_second}}
+use Rattle.mob_plane.{specs.Points.{same_point, point_by_coordinates}, specs.declared.point.Point.{Point}}
 use Rattle.mob_slice.specs.Lines.{plane_parts_of}
-use Rattle.mob_simplify.specs.Breaks.{straight, straight_at}
-use Rattle.mob_simplify.specs.Reaches.{moved_at, moved_parts, part_gone, parts_gone}
-use Rattle.mob_simplify.specs.declared.breaks.Break.{Break}
+use Rattle.mob_simplify.{specs.Breaks.{straight, straight_at}, specs.Reaches.{moved_at, moved_parts, part_gone, parts_gone}, specs.declared.breaks.Break.{Break}}
 
 after_start : (l t : Ratio) → before l t ≡ true → same t l ≡ false
 unfolding same

@@ -1,31 +1,15 @@
 -- The simplified moving point has only breaks of the point, and prints no more instants.
 use Rattle.std.specs.Prelude.{◌≡◌, ◌≢◌, ◌≤◌, ◌+◌, ◌⊎◌, Bool, true, false, cond, ◌&&◌, not, List, [], ◌∷◌, ◌++◌, refl}
-use Rattle.std.proofs.Common.{arith, ap, sym, ◌∙◌, subst, inl, inr, true≢false, append_assoc, append-nil}
-use Rattle.std.proofs.lemmas.Bool.{and_parts}
-use Rattle.mob_ratio.specs.Ratio.{Ratio}
-use Rattle.mob_ratio.specs.Order.{before, same}
-use Rattle.mob_ratio.proofs.Order.{same_exact}
+use Rattle.std.{proofs.Common.{arith, ap, sym, ◌∙◌, subst, inl, inr, true≢false, append_assoc, append-nil}, proofs.lemmas.Bool.{and_parts}}
+use Rattle.mob_ratio.{specs.Ratio.{Ratio}, specs.Order.{before, same}, proofs.Order.{same_exact}}
 use Rattle.mob_plane.specs.Points.{same_point, same_point_exact}
-use Rattle.mob_span.specs.Neighbours.{Meets, joined, without_upper, with_lower}
-use Rattle.mob_span.specs.Span.{SpanOf}
-use Rattle.mob_normal.specs.Joined.{IsJoin}
-use Rattle.mob_normal.proofs.Joins.{join_one, join_two, join_kept}
-use Rattle.mob_normal.proofs.Runs.{step_normal, step_ordered, step_keeps}
-use Rattle.mob_normal.proofs.Unique.{unique}
-use Rattle.mob_slice.specs.Lines.{plane_value_of, plane_continued}
-use Rattle.mob_slice.specs.PlaneLaws.{plane_laws}
-use Rattle.mob_slice.specs.Slices.{OfHead, AreNormal, IsClearOf}
-use Rattle.mob_slice.specs.declared.line.PlaneLine.{PlaneLine}
+use Rattle.mob_span.{specs.Neighbours.{Meets, joined, without_upper, with_lower}, specs.Span.{SpanOf}}
+use Rattle.mob_lift.{specs.Joined.{IsJoin}, proofs.Joins.{join_one, join_two, join_kept}, proofs.Runs.{step_normal, step_ordered, step_keeps}, proofs.Unique.{unique}}
+use Rattle.mob_slice.{specs.Lines.{plane_value_of, plane_continued}, specs.PlaneLaws.{plane_laws}, specs.Slices.{OfHead, AreNormal, IsClearOf}, specs.declared.line.PlaneLine.{PlaneLine}}
 use Rattle.mob_slice.specs.declared.slice.Slice.{Slice}
-use Rattle.mob_simplify.specs.Breaks.{start_of, end_of, passes}
-use Rattle.mob_simplify.specs.BreaksOf.{HaveBreaks, IsBreakOf, followed, instants_by, printed_instants}
-use Rattle.mob_simplify.specs.Thinned.{IsThin}
-use Rattle.mob_simplify.specs.Walk.{continues_run, stays, leg_over, legs_along, all_legs}
-use Rattle.mob_simplify.specs.declared.breaks.Break.{Break}
-use Rattle.mob_simplify.proofs.Along.{going}
-use Rattle.mob_simplify.proofs.Answering.{IsNormalLines, At, legs_ordered}
-use Rattle.mob_simplify.proofs.OneRuns.{same_values}
-use Rattle.mob_simplify.proofs.Ordered.{AreOrderedLines, IsSoundLine, some_along}
+use Rattle.mob_simplify.{specs.Breaks.{start_of, end_of, passes_within}, specs.BreaksOf.{HaveBreaks, IsBreakOf, followed, instants_by, printed_instants}, specs.Thinned.{IsThin}}
+use Rattle.mob_simplify.{specs.Walk.{continues_run, stays, leg_over, legs_along, all_legs}, specs.declared.breaks.Break.{Break}, proofs.Along.{going}}
+use Rattle.mob_simplify.{proofs.Answering.{IsNormalLines, At, legs_ordered}, proofs.OneRuns.{same_values}, proofs.Ordered.{AreOrderedLines, IsSoundLine, some_along}}
 
 abbrev AreNormalLines : List (Slice PlaneLine) → Type 0
 AreNormalLines v = AreNormal (λ c. c.from) (λ c. c.to) plane_continued v
@@ -225,7 +209,7 @@ module _ (d : Ratio) where
       → printed_instants (legs_along d r [] r rest) ≤ printed_instants (r ∷ rest)
       → (b : Bool) → stays d s (between ++ start_of r ∷ []) l r ≡ b → printed_instants (cond b (legs_along d s (between ++ start_of r ∷ []) r rest) (leg_over s l ∷ legs_along d r [] r rest)) ≤ printed_instants (l ∷ r ∷ rest)
   count_by s between l r rest late on new true e =
-      let k = on (λ h. (going l r (and_parts (continues_run l r) (passes d (start_of s) (between ++ start_of r ∷ []) (end_of r)) e).0).next_long) in
+      let k = on (λ h. (going l r (and_parts (continues_run l r) (passes_within d (start_of s) (between ++ start_of r ∷ []) (end_of r)) e).0).next_long) in
       omega (arith, k)
   count_by s between l r rest late on new false e =
       let legs = legs_along d r [] r rest in

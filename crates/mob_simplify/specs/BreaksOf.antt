@@ -1,12 +1,9 @@
 -- The breaks of a moving point, and how many instants it prints.
-use Rattle.std.specs.Prelude.{◌≡◌, ◌⊎◌, ◌+◌, ℕ, Bool, false, cond, ◌&&◌, not, List, [], ◌∷◌}
-use Rattle.std.specs.List.{AllByRecursion}
+use Rattle.std.{specs.Prelude.{◌≡◌, ◌⊎◌, ◌+◌, ℕ, Bool, false, cond, ◌&&◌, not, List, [], ◌∷◌}, specs.List.{AllByRecursion}}
 use Rattle.mob_ratio.specs.Order.{before, same}
 use Rattle.mob_plane.specs.Points.{same_point}
-use Rattle.mob_slice.specs.declared.line.PlaneLine.{PlaneLine}
-use Rattle.mob_slice.specs.declared.slice.Slice.{Slice}
-use Rattle.mob_simplify.specs.Breaks.{start_of, end_of}
-use Rattle.mob_simplify.specs.declared.breaks.Break.{Break}
+use Rattle.mob_slice.{specs.declared.line.PlaneLine.{PlaneLine}, specs.declared.slice.Slice.{Slice}}
+use Rattle.mob_simplify.{specs.Breaks.{start_of, end_of}, specs.declared.breaks.Break.{Break}}
 
 -- b is the start or the end of one of the slices
 abbrev pub IsBreakOf : List (Slice PlaneLine) → Break → Type 0

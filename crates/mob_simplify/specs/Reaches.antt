@@ -1,19 +1,16 @@
 -- The formulas of a straight course, split into the parts from its ends, from the instant, and from
 -- each coordinate.
 use Rattle.std.specs.Prelude.{cond, List, [], ◌∷◌}
-use Rattle.mob_ratio.specs.Ratio.{Ratio, ◌+ℚ◌, ◌-ℚ◌, ◌*ℚ◌, ◌/ℚ◌}
-use Rattle.mob_ratio.specs.Order.{same}
+use Rattle.mob_ratio.{specs.Ratio.{Ratio, ◌+ℚ◌, ◌-ℚ◌, ◌*ℚ◌, ◌/ℚ◌}, specs.Order.{same}}
 use Rattle.mob_frac.specs.Fits.{IsExact}
-use Rattle.mob_simplify.specs.declared.breaks.Break.{Break}
-use Rattle.mob_simplify.specs.declared.passing.Limit.{Limit}
-use Rattle.mob_simplify.specs.declared.passing.Reach.{Reach}
+use Rattle.mob_simplify.{specs.declared.breaks.Break.{Break}, specs.declared.passing.Limit.{Limit}, specs.declared.passing.CourseExtent.{CourseExtent}}
 
 -- the square of a limit is that of its distance
 abbrev pub IsSquared : Limit → Type 0
 IsSquared limit = IsExact (limit.distance *ℚ limit.distance) limit.square
 
 -- the time from p to n, and the extents in x and y
-pub record IsBreakReach (p n : Break) (reach : Reach) : Type 0 where
+pub record IsBreakReach (p n : Break) (reach : CourseExtent) : Type 0 where
   pub time : IsExact (n.instant -ℚ p.instant) reach.time
   pub east : IsExact (n.place.x -ℚ p.place.x) reach.east
   pub north : IsExact (n.place.y -ℚ p.place.y) reach.north

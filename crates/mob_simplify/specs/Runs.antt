@@ -1,13 +1,9 @@
 -- The runs of a moving point, and their kept breaks.
 use Rattle.std.specs.Prelude.{◌≡◌, true, false, List, [], ◌∷◌, ◌++◌, map}
-use Rattle.mob_ratio.specs.Ratio.{Ratio}
-use Rattle.mob_ratio.specs.Order.{before}
-use Rattle.mob_span.specs.Neighbours.{Meets}
-use Rattle.mob_span.specs.Chained.{OfHead}
-use Rattle.mob_slice.specs.declared.line.PlaneLine.{PlaneLine}
-use Rattle.mob_slice.specs.declared.slice.Slice.{Slice}
-use Rattle.mob_simplify.specs.Breaks.{start_of, end_of, passes}
-use Rattle.mob_simplify.specs.declared.breaks.Break.{Break}
+use Rattle.mob_ratio.{specs.Ratio.{Ratio}, specs.Order.{before}}
+use Rattle.mob_span.{specs.Neighbours.{Meets}, specs.Chained.{OfHead}}
+use Rattle.mob_slice.{specs.declared.line.PlaneLine.{PlaneLine}, specs.declared.slice.Slice.{Slice}}
+use Rattle.mob_simplify.{specs.Breaks.{start_of, end_of, passes_within}, specs.declared.breaks.Break.{Break}}
 
 -- The slice r continues the run of s: both are longer than an instant, and r includes the instant
 -- where they meet, and starts with the limit of s.
@@ -41,14 +37,14 @@ pub record KeptBreak : Type 0 where
 -- each break of a list passes after p; `between` are those between p and the list
 abbrev pub AllPass : Ratio → Break → List Break → List Break → Type 0
 AllPass d p between [] = Unit {0}
-AllPass d p between (n ∷ ns) = (passes d p between n ≡ true) × AllPass d p (between ++ n ∷ []) ns
+AllPass d p between (n ∷ ns) = (passes_within d p between n ≡ true) × AllPass d p (between ++ n ∷ []) ns
 
 -- The next kept break after p is m: the last one such that all breaks after p up to it pass.
 pub record IsNextKept (d : Ratio) (p m : KeptBreak) : Type 0 where
   pub skipped : List Break
   pub split : p.later ≡ skipped ++ m.at ∷ m.later
   pub pass : AllPass d p.at [] (skipped ++ m.at ∷ [])
-  pub last : OfHead (λ m n. passes d p.at (skipped ++ m ∷ []) n ≡ false) m.at m.later
+  pub last : OfHead (λ m n. passes_within d p.at (skipped ++ m ∷ []) n ≡ false) m.at m.later
 
 -- the kept breaks after p, up to the last break of the run
 abbrev pub AreKeptBreaks : Ratio → KeptBreak → List KeptBreak → Type 0

@@ -1,19 +1,11 @@
 -- The simplified moving point.
-use Rattle.std.specs.Prelude.{◌≡◌, Bool, true, false, List, [], ◌∷◌, Option, Some, None}
-use Rattle.std.specs.List.{flat_map}
-use Rattle.mob_ratio.specs.Ratio.{Ratio}
-use Rattle.mob_ratio.specs.Order.{up_to}
+use Rattle.std.{specs.Prelude.{◌≡◌, Bool, true, false, List, [], ◌∷◌, Option, Some, None}, specs.List.{flat_map}}
+use Rattle.mob_ratio.{specs.Ratio.{Ratio}, specs.Order.{up_to}}
 use Rattle.mob_plane.specs.declared.point.Point.{Point}
-use Rattle.mob_slice.specs.Entries.{Entry}
-use Rattle.mob_slice.specs.Lines.{plane_value_of, plane_continued}
-use Rattle.mob_slice.specs.Slices.{value_at, IsNormal}
-use Rattle.mob_slice.specs.declared.line.PlaneLine.{PlaneLine}
+use Rattle.mob_slice.{specs.Entries.{Entry}, specs.Lines.{plane_value_of, plane_continued}, specs.Slices.{value_at, IsNormal}, specs.declared.line.PlaneLine.{PlaneLine}}
 use Rattle.mob_slice.specs.declared.slice.Slice.{Slice}
 use Rattle.mob_near.specs.Distances.{distance_squared}
-use Rattle.mob_simplify.specs.Breaks.{straight}
-use Rattle.mob_simplify.specs.Runs.{KeptBreak, RunOf, first_kept, last_slice, AreRuns}
-use Rattle.mob_simplify.specs.Tests.{tests_after}
-use Rattle.mob_simplify.specs.declared.breaks.Break.{Break}
+use Rattle.mob_simplify.{specs.Breaks.{straight}, specs.Runs.{KeptBreak, RunOf, first_kept, last_slice, AreRuns}, specs.Tests.{tests_after}, specs.declared.breaks.Break.{Break}}
 
 -- the straight course between two breaks, on the instants between them; for each end, whether it is
 -- included

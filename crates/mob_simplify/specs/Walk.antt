@@ -1,16 +1,10 @@
 -- The walk along the slices that finds the kept breaks, as the code does it. `Runs` has the meaning
 -- of its result.
 use Rattle.std.specs.Prelude.{Bool, cond, ◌&&◌, not, List, [], ◌∷◌, ◌++◌}
-use Rattle.mob_ratio.specs.Ratio.{Ratio}
-use Rattle.mob_ratio.specs.Order.{before, same}
+use Rattle.mob_ratio.{specs.Ratio.{Ratio}, specs.Order.{before, same}}
 use Rattle.mob_plane.specs.Points.{same_point}
-use Rattle.mob_slice.specs.Entries.{Entry}
-use Rattle.mob_slice.specs.declared.line.PlaneLine.{PlaneLine}
-use Rattle.mob_slice.specs.declared.slice.Slice.{Slice}
-use Rattle.mob_simplify.specs.Breaks.{start_of, end_of, passes}
-use Rattle.mob_simplify.specs.Tests.{tests_of}
-use Rattle.mob_simplify.specs.Thinned.{leg}
-use Rattle.mob_simplify.specs.declared.breaks.Break.{Break}
+use Rattle.mob_slice.{specs.Entries.{Entry}, specs.declared.line.PlaneLine.{PlaneLine}, specs.declared.slice.Slice.{Slice}}
+use Rattle.mob_simplify.{specs.Breaks.{start_of, end_of, passes_within}, specs.Tests.{tests_within}, specs.Thinned.{leg}, specs.declared.breaks.Break.{Break}}
 
 -- whether r continues the run of s
 unfoldable pub continues_run : Slice PlaneLine → Slice PlaneLine → Bool
@@ -19,7 +13,7 @@ continues_run s r = before s.span.lower s.span.upper && before r.span.lower r.sp
 -- whether r continues the run of l, and its end passes after the start of s, where `between` are
 -- the breaks between
 abbrev pub stays : Ratio → Slice PlaneLine → List Break → Slice PlaneLine → Slice PlaneLine → Bool
-stays d s between l r = continues_run l r && passes d (start_of s) between (end_of r)
+stays d s between l r = continues_run l r && passes_within d (start_of s) between (end_of r)
 
 -- the straight course from the start of s to the end of l
 abbrev pub leg_over : Slice PlaneLine → Slice PlaneLine → Slice PlaneLine
@@ -35,7 +29,7 @@ legs_along d s between l (r ∷ rest) = cond (stays d s (between ++ start_of r �
 abbrev pub tests_along : Ratio → Slice PlaneLine → List Break → Slice PlaneLine → List (Slice PlaneLine) → List Entry
 tests_along d s between l [] = []
 tests_along d s between l (r ∷ rest) =
-    cond (continues_run l r) (tests_of d (start_of s) (between ++ start_of r ∷ []) (end_of r)) []
+    cond (continues_run l r) (tests_within d (start_of s) (between ++ start_of r ∷ []) (end_of r)) []
     ++ cond (stays d s (between ++ start_of r ∷ []) l r) (tests_along d s (between ++ start_of r ∷ []) r rest) (tests_along d r [] r rest)
 
 -- on all slices

@@ -11,9 +11,9 @@ ghost use Rattle.mob_slice.specs.Entries.{IsDecided};
 ghost use Rattle.mob_slice.specs.Lines.{plane_parts_of};
 ghost use Rattle.mob_slice.specs.declared.formula.Formula.TheVariants.{F1, F2, F6};
 ghost use Rattle.mob_near.specs.Distances.{length_squared};
-ghost use Rattle.mob_simplify.specs.Breaks.{straight, straight_at, off_course, passes};
+ghost use Rattle.mob_simplify.specs.Breaks.{straight, straight_at, off_course, passes_within};
 ghost use Rattle.mob_simplify.specs.Reaches.{IsBreakReach, IsSquared, moved_at, moved_parts, part_gone, parts_gone};
-ghost use Rattle.mob_simplify.specs.Tests.{entries_of_test, tests_of};
+ghost use Rattle.mob_simplify.specs.Tests.{entries_of_test, tests_within};
 
 use crate::breaks::Break;
 use mob_frac::{Frac, Overflow};
@@ -43,7 +43,7 @@ pub fn with_square(d: &Frac) -> Limit
 /// The duration of a straight course, and its extent in x and y. One that overflows is reported by
 /// the first test that needs it.
 #[derive(Clone, Copy, Drop)]
-pub struct Reach {
+pub struct CourseExtent {
     /// The duration.
     pub time: Result<Frac, Overflow>,
     /// The extent in x.
@@ -53,10 +53,10 @@ pub struct Reach {
 }
 
 // The reach of the straight course from `p` to `n`.
-fn reach_of(p: &Break, n: &Break) -> Reach
+fn reach_of(p: &Break, n: &Break) -> CourseExtent
     ensures reach { IsBreakReach p.now n.now result }
 {
-    Reach {
+    CourseExtent {
         time: n.instant.sub(&p.instant),
         east: n.place.x.sub(&p.place.x),
         north: n.place.y.sub(&p.place.y),
@@ -103,7 +103,7 @@ fn moved(
 }
 
 // Both coordinates after a fraction of the duration.
-fn moved_place(p: &Break, n: &Break, reach: &Reach, part: &Frac) -> Result<Point, Overflow>
+fn moved_place(p: &Break, n: &Break, reach: &CourseExtent, part: &Frac) -> Result<Point, Overflow>
     requires reach { IsBreakReach p.now n.now reach.now }
     ensures value { IsFormula (moved_parts p.now.place.x n.now.place.x part.now ++ moved_parts p.now.place.y n.now.place.y part.now) (record { x = moved_at p.now.place.x n.now.place.x part.now; y = moved_at p.now.place.y n.now.place.y part.now }) result }
 {
@@ -113,7 +113,7 @@ fn moved_place(p: &Break, n: &Break, reach: &Reach, part: &Frac) -> Result<Point
 }
 
 // The place of the straight course from `p` to `n` at the instant of `b`.
-fn straight_at(p: &Break, n: &Break, reach: &Reach, b: &Break) -> Result<Point, Formula>
+fn straight_at(p: &Break, n: &Break, reach: &CourseExtent, b: &Break) -> Result<Point, Formula>
     requires reach { IsBreakReach p.now n.now reach.now }
     requires after { before p.now.instant b.now.instant ≡ true }
     requires until { before b.now.instant n.now.instant ≡ true }
@@ -162,7 +162,7 @@ fn length_within(v: &Point, limit: &Limit) -> Result<bool, Overflow>
 }
 
 // Whether the straight course from `p` to `n` is within the limit of the break `b`.
-fn is_near(p: &Break, n: &Break, reach: &Reach, b: &Break, limit: &Limit) -> Result<bool, Formula>
+fn is_near(p: &Break, n: &Break, reach: &CourseExtent, b: &Break, limit: &Limit) -> Result<bool, Formula>
     requires reach { IsBreakReach p.now n.now reach.now }
     requires square { IsSquared limit.now }
     requires after { before p.now.instant b.now.instant ≡ true }
@@ -184,8 +184,8 @@ fn is_near(p: &Break, n: &Break, reach: &Reach, b: &Break, limit: &Limit) -> Res
 pub fn passes(p: &Break, between: &[Break], n: &Break, limit: &Limit) -> Result<bool, Formula>
     requires square { IsSquared limit.now }
     requires between { AllByRecursion (λ b. (before p.now.instant b.instant ≡ true) × (before b.instant n.now.instant ≡ true)) between.now }
-    ensures value { IfOk result (λ pass. pass ≡ passes limit.now.distance p.now between.now n.now) }
-    ensures first { IsDecided (tests_of limit.now.distance p.now between.now n.now) result }
+    ensures value { IfOk result (λ pass. pass ≡ passes_within limit.now.distance p.now between.now n.now) }
+    ensures first { IsDecided (tests_within limit.now.distance p.now between.now n.now) result }
 {
     let reach = reach_of(p, n);
     for b in between {

@@ -12,8 +12,8 @@ ghost use Rattle.mob_simplify.specs.Thinned.{IsThin, AreNear, OnRuns, tests_of_r
 use crate::passing::with_square;
 use crate::walking::walked;
 use mob_frac::Frac;
+use mob_lift::normal::normal;
 use mob_list::fault::Fault;
-use mob_normal::normal;
 use mob_slice::{Formula, Moving, PlaneLine};
 use std::alloc::Global;
 

@@ -7,7 +7,7 @@ ghost use Rattle.mob_span.specs.Span.{has_instant};
 ghost use Rattle.mob_slice.specs.Entries.{IsDecided, IsJudged};
 ghost use Rattle.mob_simplify.specs.Breaks.{start_of, end_of};
 ghost use Rattle.mob_simplify.specs.Reaches.{IsSquared};
-ghost use Rattle.mob_simplify.specs.Tests.{tests_of};
+ghost use Rattle.mob_simplify.specs.Tests.{tests_within};
 ghost use Rattle.mob_simplify.specs.Walk.{continues_run, stays, leg_over, all_legs, all_tests};
 
 use crate::breaks::{Break, end_of, start_of};
@@ -42,7 +42,7 @@ fn stays(
     requires square { IsSquared limit.now }
     requires between { continues_run last.now next.now ≡ true → AllByRecursion (λ b. (before first.now.span.lower b.instant ≡ true) × (before b.instant next.now.span.upper ≡ true)) between.now }
     ensures value { IfOk result (λ stay. stay ≡ stays limit.now.distance first.now between.now last.now next.now) }
-    ensures first { IsDecided (cond (continues_run last.now next.now) (tests_of limit.now.distance (start_of first.now) between.now (end_of next.now)) []) result }
+    ensures first { IsDecided (cond (continues_run last.now next.now) (tests_within limit.now.distance (start_of first.now) between.now (end_of next.now)) []) result }
 {
     if !continues_run(last, next) {
         return Ok(false);
@@ -64,7 +64,7 @@ fn next_stays(
     ensures some { has_instant next.now.span ≡ true }
     ensures put { OnOk result (between.new.items ≡ between.old.items ++ start_of next.now ∷ []) }
     ensures value { IfOk result (λ stay. stay ≡ stays limit.now.distance first.now (between.old.items ++ start_of next.now ∷ []) last.now next.now) }
-    ensures first { IsJudged (cond (continues_run last.now next.now) (tests_of limit.now.distance (start_of first.now) (between.old.items ++ start_of next.now ∷ []) (end_of next.now)) []) result }
+    ensures first { IsJudged (cond (continues_run last.now next.now) (tests_within limit.now.distance (start_of first.now) (between.old.items ++ start_of next.now ∷ []) (end_of next.now)) []) result }
 {
     if between.push(start_of(next)).is_err() {
         return Err(Fault::NoMemory);

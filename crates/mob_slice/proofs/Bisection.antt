@@ -1,19 +1,10 @@
 -- Binary search for the slice at an instant: the slices that end before it come first, and none
 -- after the next one has it.
-use Rattle.std.specs.Prelude.{◌≡◌, Bool, true, false, cond, List, [], ◌∷◌, Some, None, ℕ, zero, suc, ◌<◌, length, slice_index_or, refl}
-use Rattle.std.specs.List.{AllWithin}
-use Rattle.std.specs.List.Sorted.{IsPartitionedBy, IsPartitionPoint}
-use Rattle.std.proofs.Common.{arith, ap, sym, ◌∙◌, subst, true≢false}
-use Rattle.mob_ratio.specs.Ratio.{Ratio}
-use Rattle.mob_ratio.proofs.Order.{before-self, before-back, before-trans, before-neither}
-use Rattle.mob_span.specs.Span.{SpanOf, has, has_instant}
-use Rattle.mob_span.specs.Neighbours.{is_clear}
-use Rattle.mob_span.proofs.Shared.{AreAllClear, all_after}
-use Rattle.mob_span.specs.Remainders.{follows}
-use Rattle.mob_slice.specs.Instants.{slice_at}
-use Rattle.mob_slice.specs.Slices.{IsOrdered}
-use Rattle.mob_slice.specs.declared.slice.Slice.{Slice}
-use Rattle.mob_slice.proofs.Orders.{ordered-clear}
+use Rattle.std.{specs.Prelude.{◌≡◌, Bool, true, false, cond, List, [], ◌∷◌, Some, None, ℕ, zero, suc, ◌<◌, length, slice_index_or, refl}, specs.List.{AllWithin}}
+use Rattle.std.{specs.List.Sorted.{IsPartitionedBy, IsPartitionPoint}, proofs.Common.{arith, ap, sym, ◌∙◌, subst, true≢false}}
+use Rattle.mob_ratio.{specs.Ratio.{Ratio}, proofs.Order.{before-self, before-back, before-trans, before-neither}}
+use Rattle.mob_span.{specs.Span.{SpanOf, has, has_instant}, specs.Neighbours.{is_clear}, specs.Remainders.{follows}, proofs.Shared.{AreAllClear, all_after}}
+use Rattle.mob_slice.{specs.Instants.{slice_at}, specs.Slices.{IsRisingInTime}, specs.declared.slice.Slice.{Slice}, proofs.Orders.{ordered-clear}}
 
 -- a span that ends before t does not include it
 past_has : (s : SpanOf) (t : Ratio) → follows t s ≡ true → has s t ≡ false
@@ -38,7 +29,7 @@ module _ {C B : Type 0} (start end : C → B) (t : Ratio) where
   none_behind q (r ∷ v) a h = none_by q r v (has r.span t) a.0 h refl (none_behind q v a.1 h)
 
   -- the first slice that does not end before t is the one at t, if any is
-  pub at_point : (v : List (Slice C)) (k : ℕ) (d : Slice C) → IsOrdered start end v → AllWithin (λ (s : Slice C). follows t s.span ≡ true) v 0 k → follows t (slice_index_or v k d).span ≡ false → k < length v → slice_at v t ≡ cond (has (slice_index_or v k d).span t) (Some (slice_index_or v k d)) None
+  pub at_point : (v : List (Slice C)) (k : ℕ) (d : Slice C) → IsRisingInTime start end v → AllWithin (λ (s : Slice C). follows t s.span ≡ true) v 0 k → follows t (slice_index_or v k d).span ≡ false → k < length v → slice_at v t ≡ cond (has (slice_index_or v k d).span t) (Some (slice_index_or v k d)) None
   at_point [] k d o h n l = absurd (omega arith)
   at_point (s ∷ v) zero d o h n l = ap (λ z. cond (has s.span t) (Some s) z) (none_behind s.span v (all_after (λ (z : Slice C). z.span) s v (ordered-clear start end (s ∷ v) o)) n)
   at_point (s ∷ v) (suc k) d o h n l = rw (past_has s.span t (h 0 d (omega arith) (omega arith))) (at_point v k d o.2 (λ i e a b. h (suc i) e (omega arith) (omega arith)) n (omega arith))
@@ -48,13 +39,13 @@ module _ {C B : Type 0} (start end : C → B) (t : Ratio) where
   all_past [] h = refl
   all_past (s ∷ v) h = rw (past_has s.span t (h 0 s (omega arith) (omega arith))) (all_past v (λ i e a b. h (suc i) e (omega arith) (omega arith)))
 
-  past_first : (q : SpanOf) (v : List (Slice C)) → AreAllClear (λ (z : Slice C). z.span) q v → IsOrdered start end v → (j : ℕ) (d : Slice C) → j < length v → follows t (slice_index_or v j d).span ≡ true → follows t q ≡ true
+  past_first : (q : SpanOf) (v : List (Slice C)) → AreAllClear (λ (z : Slice C). z.span) q v → IsRisingInTime start end v → (j : ℕ) (d : Slice C) → j < length v → follows t (slice_index_or v j d).span ≡ true → follows t q ≡ true
   past_first q [] a o j d l p = absurd (omega arith)
   past_first q (r ∷ v) a o zero d l p = past_past q r.span t a.0 o.0.some p
   past_first q (r ∷ v) a o (suc j) d l p = past_first q v a.1 o.2 j d (omega arith) p
 
   -- the slices that end before t come first
-  pub parted : (v : List (Slice C)) → IsOrdered start end v → IsPartitionedBy (λ (s : Slice C). follows t s.span) v
+  pub parted : (v : List (Slice C)) → IsRisingInTime start end v → IsPartitionedBy (λ (s : Slice C). follows t s.span) v
   parted [] o i j d a b p = absurd (omega arith)
   parted (s ∷ v) o zero zero d a b p = p
   parted (s ∷ v) o zero (suc j) d a b p = past_first s.span v (all_after (λ (z : Slice C). z.span) s v (ordered-clear start end (s ∷ v) o)) o.2 j d (omega arith) p
@@ -66,7 +57,7 @@ module _ {C B : Type 0} (start end : C → B) (t : Ratio) where
   pub at_end : (v w : List (Slice C)) (k : ℕ) → w ≡ v → k ≡ length w → IsPartitionPoint (λ (s : Slice C). follows t s.span ≡ true) (λ (s : Slice C). follows t s.span ≡ false) w k → slice_at v t ≡ None
   at_end v w k e f h = ap (λ z. slice_at z t) (sym e) ∙ all_past w (subst (λ n. AllWithin (λ (s : Slice C). follows t s.span ≡ true) w 0 n) f h.0)
 
-  pub at_next : (v w : List (Slice C)) (k : ℕ) (s : Slice C) (b : Bool) → w ≡ v → IsOrdered start end w → k < length w → IsPartitionPoint (λ (s : Slice C). follows t s.span ≡ true) (λ (s : Slice C). follows t s.span ≡ false) w k → slice_index_or w k s ≡ s → has s.span t ≡ b → slice_at v t ≡ cond b (Some s) None
+  pub at_next : (v w : List (Slice C)) (k : ℕ) (s : Slice C) (b : Bool) → w ≡ v → IsRisingInTime start end w → k < length w → IsPartitionPoint (λ (s : Slice C). follows t s.span ≡ true) (λ (s : Slice C). follows t s.span ≡ false) w k → slice_index_or w k s ≡ s → has s.span t ≡ b → slice_at v t ≡ cond b (Some s) None
   at_next v w k s b e o l h i f =
       ap (λ z. slice_at z t) (sym e)
       ∙ at_point w k s o h.0 (h.1 k s (omega arith) l) l

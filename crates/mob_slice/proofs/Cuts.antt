@@ -1,21 +1,11 @@
 -- Cutting a slice.
-use Rattle.std.specs.Prelude.{◌≡◌, Bool, true, false, List, [], ◌++◌, refl, MatchResult, Result, Ok, Err}
-use Rattle.std.proofs.Common.{arith, ap, sym, ◌∙◌, subst}
-use Rattle.mob_ratio.specs.Ratio.{Ratio}
-use Rattle.mob_ratio.specs.Order.{before, up_to, same}
-use Rattle.mob_ratio.proofs.Order.{before-back, before-trans, before-neither, same_exact, up_to-trans, strictly-later}
+use Rattle.std.{specs.Prelude.{◌≡◌, Bool, true, false, List, [], ◌++◌, refl, MatchResult, Result, Ok, Err}, proofs.Common.{arith, ap, sym, ◌∙◌, subst}}
+use Rattle.mob_ratio.{specs.Ratio.{Ratio}, specs.Order.{before, up_to, same}, proofs.Order.{before-back, before-trans, before-neither, same_exact, up_to-trans, strictly-later}}
 use Rattle.mob_frac.specs.Formula.{AllFit}
-use Rattle.mob_span.specs.Span.{SpanOf, has, has_instant}
-use Rattle.mob_slice.specs.Course.{IsCourse}
-use Rattle.mob_slice.specs.Look.{IsLooked, IsLookFault}
-use Rattle.mob_slice.specs.declared.slice.Slice.{Slice}
-use Rattle.mob_list.specs.declared.fault.Fault.{Fault}
-use Rattle.mob_list.specs.declared.fault.Fault.TheVariants.{Because, NoMemory}
-use Rattle.mob_span.proofs.SpanLemmas.{some_upto}
-use Rattle.mob_span.specs.Neighbours.{is_inside}
-use Rattle.mob_slice.specs.Sides.{HasValues, at_ends}
-use Rattle.mob_slice.specs.Cut.{slice_value}
+use Rattle.mob_span.{specs.Span.{SpanOf, has, has_instant}, specs.Neighbours.{is_inside}, proofs.SpanLemmas.{some_upto}}
+use Rattle.mob_slice.{specs.Course.{IsCourse}, specs.Look.{IsLooked, IsLookFault}, specs.declared.slice.Slice.{Slice}, specs.Sides.{HasValues, at_ends}, specs.Cut.{slice_value}}
 use Rattle.mob_slice.specs.declared.formula.Formula.{Formula}
+use Rattle.mob_list.{specs.declared.fault.Fault.{Fault}, specs.declared.fault.Fault.TheVariants.{Because, NoMemory}}
 pub use Rattle.mob_frac.proofs.Fitting.{all_both, all_first, all_second}
 
 pub inside_has : (s : SpanOf) (t : Ratio) → up_to s.lower t ≡ true → up_to t s.upper ≡ true → same t s.lower ≡ false → same t s.upper ≡ false → has s t ≡ true

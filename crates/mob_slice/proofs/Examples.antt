@@ -1,21 +1,10 @@
 -- Worked examples of lines. Each holds by computing.
 use Rattle.std.proofs.Common.{◌≡◌, true, false, pos, negsuc, refl, List, [], ◌∷◌, Some, None}
-use Rattle.mob_ratio.specs.Gcd.{gcd, gcd_steps}
-use Rattle.mob_ratio.specs.Lowest.{in_lowest_terms}
-use Rattle.mob_ratio.specs.Ratio.{Ratio, over, whole, turned, inverse, ◌+ℚ◌, ◌*ℚ◌, neg_ℚ}
-use Rattle.mob_ratio.specs.Order.{before, same}
-use Rattle.mob_ratio.specs.Line.{line_value, line_at, line_continues}
-use Rattle.mob_ratio.specs.Sign.{sign_of}
-use Rattle.mob_slice.specs.Comparison.{relates_gaps}
-use Rattle.mob_slice.specs.Instants.{slice_at, parts_at}
-use Rattle.mob_slice.specs.LineComparison.{number_relates, number_gaps, point_relates, point_gaps}
-use Rattle.mob_slice.specs.Lines.{line_value_of, line_continued, line_parts_of, plane_value_of, plane_parts_of}
-use Rattle.mob_slice.specs.Slices.{value_at}
-use Rattle.mob_slice.specs.declared.comparison.Gaps.TheVariants.{One, Two}
-use Rattle.mob_slice.specs.declared.comparison.Rel.TheVariants.{Ne, Lt}
-use Rattle.mob_slice.specs.declared.line.Line.{Line}
-use Rattle.mob_slice.specs.declared.line.PlaneLine.{PlaneLine}
-use Rattle.mob_slice.specs.declared.slice.Slice.{Slice}
+use Rattle.mob_ratio.{specs.Gcd.{gcd, gcd_steps}, specs.Lowest.{in_lowest_terms}, specs.Ratio.{Ratio, over, whole, turned, inverse, ◌+ℚ◌, ◌*ℚ◌, neg_ℚ}, specs.Order.{before, same}}
+use Rattle.mob_ratio.{specs.Line.{line_value, line_at, line_continues}, specs.Sign.{sign_of}}
+use Rattle.mob_slice.{specs.Comparison.{relates_gaps}, specs.Instants.{slice_at, parts_at}, specs.LineComparison.{number_relates, number_gaps, point_relates, point_gaps}}
+use Rattle.mob_slice.{specs.Lines.{line_value_of, line_continued, line_parts_of, plane_value_of, plane_parts_of}, specs.Slices.{value_at}, specs.declared.comparison.Gaps.TheVariants.{One, Two}}
+use Rattle.mob_slice.{specs.declared.comparison.Rel.TheVariants.{Ne, Lt}, specs.declared.line.Line.{Line}, specs.declared.line.PlaneLine.{PlaneLine}, specs.declared.slice.Slice.{Slice}}
 
 -- a number from a to b
 abbrev line : Ratio → Ratio → Line

@@ -9,3 +9,7 @@ pub mod Orders
 pub mod Straight
 pub mod Wholes
 pub mod Yielded
+pub mod Making
+pub mod OnOnePiece
+pub mod Options
+pub mod JoinedFirsts

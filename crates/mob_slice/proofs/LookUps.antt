@@ -1,15 +1,8 @@
 -- Look-ups in a list of slices at one instant.
-use Rattle.std.specs.Prelude.{◌≡◌, Bool, true, false, cond, List, [], ◌∷◌, Option, Some, None, option_map, refl}
-use Rattle.std.proofs.Common.{ap, ◌∙◌, subst, true≢false}
-use Rattle.std.proofs.lemmas.Option.{same_Some}
+use Rattle.std.{specs.Prelude.{◌≡◌, Bool, true, false, cond, List, [], ◌∷◌, Option, Some, None, option_map, refl}, proofs.Common.{ap, ◌∙◌, subst, true≢false}, proofs.lemmas.Option.{same_Some}}
 use Rattle.mob_ratio.specs.Ratio.{Ratio}
-use Rattle.mob_span.specs.Span.{has}
-use Rattle.mob_span.specs.Pieces.{piece_at}
-use Rattle.mob_span.proofs.SpanLemmas.{some_instant}
-use Rattle.mob_slice.specs.Cut.{slice_value, slice_parts}
-use Rattle.mob_slice.specs.Instants.{slice_at, parts_there, parts_at}
-use Rattle.mob_slice.specs.Slices.{value_at, IsNormal}
-use Rattle.mob_slice.specs.declared.slice.Slice.{Slice}
+use Rattle.mob_span.{specs.Span.{has}, specs.Pieces.{piece_at}, proofs.SpanLemmas.{some_instant}}
+use Rattle.mob_slice.{specs.Cut.{slice_value, slice_parts}, specs.Instants.{slice_at, parts_there, parts_at}, specs.Slices.{value_at, IsNormal}, specs.declared.slice.Slice.{Slice}}
 
 -- the value at t is that of the slice at t
 pub value_by : {C B : Type 0} (value : C → Ratio → Ratio → Ratio → B) (v : List (Slice C)) (t : Ratio) → value_at value v t ≡ option_map (λ s. slice_value value s t) (piece_at (λ s. s.span) v t)

@@ -1,18 +1,9 @@
 -- Where the parts of a formula fit, so do the numbers that it gives.
-use Rattle.std.specs.Prelude.{◌≡◌, Bool, true, false, cond, not, ◌&&◌, ◌||◌, List, [], ◌∷◌, ◌++◌, None}
-use Rattle.std.proofs.Common.{refl, sym, subst, inl, inr}
-use Rattle.mob_ratio.specs.Ratio.{Ratio}
-use Rattle.mob_ratio.specs.Order.{before, same}
-use Rattle.mob_ratio.specs.Line.{line_at}
-use Rattle.mob_ratio.proofs.LineAt.{line_at-quotient}
-use Rattle.mob_frac.specs.Fits.{Fits}
-use Rattle.mob_frac.specs.Formula.{AllFit, line_parts, inner_parts}
-use Rattle.mob_slice.specs.Entries.{IsFirst}
-use Rattle.mob_slice.specs.Lines.{line_parts_of, plane_parts_of}
-use Rattle.mob_slice.specs.Modes.{entry_given}
-use Rattle.mob_slice.specs.Numbers.{line_numbers, line_numbers_of, plane_numbers_of}
-use Rattle.mob_slice.specs.declared.line.Line.{Line}
-use Rattle.mob_slice.specs.declared.line.PlaneLine.{PlaneLine}
+use Rattle.std.{specs.Prelude.{◌≡◌, Bool, true, false, cond, not, ◌&&◌, ◌||◌, List, [], ◌∷◌, ◌++◌, None}, proofs.Common.{refl, sym, subst, inl, inr}}
+use Rattle.mob_ratio.{specs.Ratio.{Ratio}, specs.Order.{before, same}, specs.Line.{line_at}, proofs.LineAt.{line_at-quotient}}
+use Rattle.mob_frac.{specs.Fits.{Fits}, specs.Formula.{AllFit, line_parts, inner_parts}}
+use Rattle.mob_slice.{specs.Entries.{IsFirst}, specs.Lines.{line_parts_of, plane_parts_of}, specs.Modes.{entry_given}, specs.Numbers.{line_numbers, line_numbers_of, plane_numbers_of}}
+use Rattle.mob_slice.{specs.declared.line.Line.{Line}, specs.declared.line.PlaneLine.{PlaneLine}}
 
 -- the parts of two lists fit where those of both do, and the other way
 pub fit_both : (xs ys : List Ratio) → AllFit xs → AllFit ys → AllFit (xs ++ ys)

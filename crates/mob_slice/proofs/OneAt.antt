@@ -1,17 +1,9 @@
 -- The slice of an ordered list at one instant.
-use Rattle.std.specs.Prelude.{◌≡◌, ◌⊎◌, Bool, true, false, cond, List, [], ◌∷◌, Some, Contains, refl}
-use Rattle.std.proofs.Common.{ap, sym, ◌∙◌, subst, inl, inr, true≢false}
-use Rattle.std.proofs.lemmas.Option.{same_Some}
+use Rattle.std.{specs.Prelude.{◌≡◌, ◌⊎◌, Bool, true, false, cond, List, [], ◌∷◌, Some, Contains, refl}, proofs.Common.{ap, sym, ◌∙◌, subst, inl, inr, true≢false}, proofs.lemmas.Option.{same_Some}}
 use Rattle.mob_ratio.specs.Ratio.{Ratio}
 use Rattle.mob_list.proofs.Entries.{first_in, later_in, none_in, which_in}
-use Rattle.mob_span.specs.Span.{SpanOf, has}
-use Rattle.mob_span.proofs.Insides.{clear_has}
-use Rattle.mob_span.proofs.Shared.{AreAllClear, all_after}
-use Rattle.mob_slice.specs.Instants.{slice_at, OneSliceAt}
-use Rattle.mob_slice.specs.Slices.{IsOrdered}
-use Rattle.mob_slice.specs.declared.slice.Slice.{Slice}
-use Rattle.mob_slice.proofs.LookUps.{inside_found}
-use Rattle.mob_slice.proofs.Orders.{ordered-clear}
+use Rattle.mob_span.{specs.Span.{SpanOf, has}, proofs.Insides.{clear_has}, proofs.Shared.{AreAllClear, all_after}}
+use Rattle.mob_slice.{specs.Instants.{slice_at, OneSliceAt}, specs.Slices.{IsRisingInTime}, specs.declared.slice.Slice.{Slice}, proofs.LookUps.{inside_found}, proofs.Orders.{ordered-clear}}
 
 module _ {C B : Type 0} (start end : C → B) (t : Ratio) where
   -- no later slice has t if one does
@@ -28,7 +20,7 @@ module _ {C B : Type 0} (start end : C → B) (t : Ratio) where
   held_by r v s false h a f (inl e) k = absurd (true≢false (sym k ∙ ap (λ (z : Slice C). has z.span t) (sym e) ∙ h))
   held_by r v s false h a f (inr c) k = f c
 
-  held : (v : List (Slice C)) → IsOrdered start end v → (s : Slice C) → Contains v s → has s.span t ≡ true → slice_at v t ≡ Some s
+  held : (v : List (Slice C)) → IsRisingInTime start end v → (s : Slice C) → Contains v s → has s.span t ≡ true → slice_at v t ≡ Some s
   held [] o s c k = absurd (none_in s c)
   held (r ∷ v) o s c k = held_by r v s (has r.span t) refl (all_after (λ (z : Slice C). z.span) r v (ordered-clear start end (r ∷ v) o)) (λ d. held v o.2 s d k) (which_in r v s c) k
 

@@ -1,15 +1,8 @@
 -- Whether a point is on a line, as the code tests it.
-use Rattle.std.specs.Prelude.{◌≡◌, ◌≢◌, Bool, true, false, ◌↔◌, IsTrue, refl, pos}
-use Rattle.std.proofs.Common.{ap, sym, ◌∙◌, subst}
-use Rattle.mob_ratio.specs.Ratio.{Ratio, whole, ◌-ℚ◌, ◌/ℚ◌}
-use Rattle.mob_ratio.specs.Order.{before, up_to, same}
-use Rattle.mob_ratio.specs.Line.{line_at, line_continues}
-use Rattle.mob_ratio.proofs.Order.{before-lt, before-trans, same_exact, same_truth, up_to-equal}
-use Rattle.mob_ratio.proofs.Divide.{sub_ne-zero}
-use Rattle.mob_ratio.proofs.LineAt.{line_at-lower, line_at-upper, slopes-same}
-use Rattle.mob_span.specs.Span.{SpanOf, has_instant}
-use Rattle.mob_span.specs.Neighbours.{Meets}
-use Rattle.mob_span.proofs.SpanLemmas.{some_upto}
+use Rattle.std.{specs.Prelude.{◌≡◌, ◌≢◌, Bool, true, false, ◌↔◌, IsTrue, refl, pos}, proofs.Common.{ap, sym, ◌∙◌, subst}}
+use Rattle.mob_ratio.{specs.Ratio.{Ratio, whole, ◌-ℚ◌, ◌/ℚ◌}, specs.Order.{before, up_to, same}, specs.Line.{line_at, line_continues}}
+use Rattle.mob_ratio.{proofs.Order.{before-lt, before-trans, same_exact, same_truth, up_to-equal}, proofs.Divide.{sub_ne-zero}, proofs.LineAt.{line_at-lower, line_at-upper, slopes-same}}
+use Rattle.mob_span.{specs.Span.{SpanOf, has_instant}, specs.Neighbours.{Meets}, proofs.SpanLemmas.{some_upto}}
 
 pub at_first : (x0 x1 y l m u : Ratio) → up_to l m ≡ true → before l m ≡ false → same x0 x1 ≡ same (line_at x0 y l u m) x1
 at_first x0 x1 y l m u h k = ap (λ x. same x x1) (sym (ap (λ t. line_at x0 y l u t) (sym (up_to-equal l m h k)) ∙ line_at-lower x0 y l u))

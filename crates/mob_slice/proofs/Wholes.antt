@@ -1,11 +1,7 @@
 -- One course with two parts, and two courses that are equal.
-use Rattle.std.specs.Prelude.{◌≡◌, Bool, true, false, List, refl}
-use Rattle.std.proofs.Common.{arith, ap, sym, ◌∙◌, subst}
-use Rattle.mob_ratio.specs.Ratio.{Ratio}
-use Rattle.mob_ratio.specs.Order.{before, up_to}
-use Rattle.mob_ratio.proofs.Order.{before-back, before-trans, before-neither, up_to-self, up_to-equal}
-use Rattle.mob_slice.specs.Course.{IsCourse, IsWhole}
-use Rattle.mob_slice.specs.Wholes.{HasBothParts, AreNeighbours, ContinuesAsOne, TwoInstantsFix}
+use Rattle.std.{specs.Prelude.{◌≡◌, Bool, true, false, List, refl}, proofs.Common.{arith, ap, sym, ◌∙◌, subst}}
+use Rattle.mob_ratio.{specs.Ratio.{Ratio}, specs.Order.{before, up_to}, proofs.Order.{before-back, before-trans, before-neither, up_to-self, up_to-equal}}
+use Rattle.mob_slice.{specs.Course.{IsCourse, IsWhole}, specs.Wholes.{HasBothParts, AreNeighbours, ContinuesAsOne, TwoInstantsFix}}
 
 -- an instant of such a span
 only_instant : (s t x : Ratio) → up_to s x ≡ true → up_to x t ≡ true → before s t ≡ false → s ≡ x

@@ -1,12 +1,7 @@
 -- The results of an iterator that shows its rest.
-use Rattle.std.specs.Prelude.{◌≡◌, true, List, [], ◌∷◌, ◌++◌, map}
+use Rattle.std.{specs.Prelude.{◌≡◌, true, List, [], ◌∷◌, ◌++◌, map}, specs.Iterator.{Yields, Drains, HoldsAlong, YieldsFirstBy}, specs.List.{AllByRecursion}}
 use Rattle.std.proofs.Common.{ap, ◌∙◌, subst, append-nil}
-use Rattle.std.specs.Iterator.{Yields, Drains, HoldsAlong, YieldsFirstBy}
-use Rattle.std.specs.List.{AllByRecursion}
-use Rattle.mob_span.specs.Span.{SpanOf}
-use Rattle.mob_span.specs.Neighbours.{is_clear}
-use Rattle.mob_span.specs.Chained.{OfHead}
-use Rattle.mob_span.specs.Pieces.{PiecesAreClear}
+use Rattle.mob_span.{specs.Span.{SpanOf}, specs.Neighbours.{is_clear}, specs.Chained.{OfHead}, specs.Pieces.{PiecesAreClear}}
 
 module _ {S A B : Type 0} (view : A → B) (rest : S → List B) where
   -- the results so far and the rest are the whole

@@ -1,15 +1,9 @@
 -- The functions of a course in one record, for definitions that need many of them.
 use Rattle.std.specs.Prelude.{Bool, true, false}
-use Rattle.mob_ratio.specs.Ratio.{Ratio}
-use Rattle.mob_ratio.specs.Order.{same}
-use Rattle.mob_plane.specs.Points.{same_point}
-use Rattle.mob_plane.specs.declared.point.Point.{Point}
-use Rattle.mob_slice.specs.Lines.{line_value_of, line_continued, plane_value_of, plane_continued}
-use Rattle.mob_slice.specs.declared.course.Course.{Ghosts as CourseMembers}
-use Rattle.mob_slice.specs.declared.line.Line.{Line}
-use Rattle.mob_slice.specs.declared.line.PlaneLine.{PlaneLine}
-use Rattle.mob_slice.specs.declared.steady.Steady.{Steady}
-use Rattle.mob_slice.specs.Operands.{steady_value, steady_limit}
+use Rattle.mob_ratio.{specs.Ratio.{Ratio}, specs.Order.{same}}
+use Rattle.mob_plane.{specs.Points.{same_point}, specs.declared.point.Point.{Point}}
+use Rattle.mob_slice.{specs.Lines.{line_value_of, line_continued, plane_value_of, plane_continued}, specs.declared.course.Course.{Ghosts as CourseMembers}, specs.declared.line.Line.{Line}}
+use Rattle.mob_slice.{specs.declared.line.PlaneLine.{PlaneLine}, specs.declared.steady.Steady.{Steady}, specs.Operands.{steady_value, steady_limit}}
 
 -- whether the course is steady, its value on a span and its limits there, the course with two
 -- limits, whether two courses are one, and whether two values are equal

@@ -1,11 +1,8 @@
 -- A list of slices at one instant.
 use Rattle.std.specs.Prelude.{◌≡◌, ◌↔◌, true, List, [], Option, Some, None, Contains}
 use Rattle.mob_ratio.specs.Ratio.{Ratio}
-use Rattle.mob_span.specs.Span.{has}
-use Rattle.mob_span.specs.Pieces.{piece_at}
-use Rattle.mob_slice.specs.Cut.{slice_parts}
-use Rattle.mob_slice.specs.Slices.{IsOrdered}
-use Rattle.mob_slice.specs.declared.slice.Slice.{Slice}
+use Rattle.mob_span.{specs.Span.{has}, specs.Pieces.{piece_at}}
+use Rattle.mob_slice.{specs.Cut.{slice_parts}, specs.Slices.{IsRisingInTime}, specs.declared.slice.Slice.{Slice}}
 
 -- the slice whose span has the instant t, or none if no span has it
 abbrev pub slice_at : {C : Type 0} → List (Slice C) → Ratio → Option (Slice C)
@@ -21,4 +18,4 @@ parts_at parts slices t = parts_there parts t (slice_at slices t)
 
 -- if slices are ordered and disjoint, the slice at t is the one among them whose span has t
 abbrev pub OneSliceAt : {C B : Type 0} → (C → B) → (C → B) → Type 0
-OneSliceAt {C} start end = (slices : List (Slice C)) → IsOrdered start end slices → (t : Ratio) (s : Slice C) → (slice_at slices t ≡ Some s) ↔ (Contains slices s × (has s.span t ≡ true))
+OneSliceAt {C} start end = (slices : List (Slice C)) → IsRisingInTime start end slices → (t : Ratio) (s : Slice C) → (slice_at slices t ≡ Some s) ↔ (Contains slices s × (has s.span t ≡ true))

@@ -23,3 +23,5 @@ pub mod Lines
 pub mod LineLaws
 pub mod PlaneLaws
 pub mod LineComparison
+pub mod Piecewise
+pub mod OnPiece

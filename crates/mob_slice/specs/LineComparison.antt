@@ -1,27 +1,12 @@
 -- Lines satisfy the laws of comparisons: two numbers compare as their difference compares with 0,
 -- and two points are equal if both of their differences are 0.
-use Rattle.std.specs.Prelude.{◌≡◌, Bool, true, false, not, cond, ◌&&◌, refl}
-use Rattle.std.proofs.Common.{ap, sym, ◌∙◌, true≢false}
-use Rattle.std.specs.Cmp.{Equal-is}
-use Rattle.std.specs.declared.cmp.Ordering.TheVariants.{Less, Equal}
-use Rattle.mob_ratio.specs.Ratio.{Ratio, ◌-ℚ◌}
-use Rattle.mob_ratio.specs.Order.{same}
-use Rattle.mob_ratio.specs.Sign.{nil, sign_of}
-use Rattle.mob_ratio.proofs.Field.{sub_self}
-use Rattle.mob_ratio.proofs.Order.{same_exact, same_truth}
+use Rattle.std.{specs.Prelude.{◌≡◌, Bool, true, false, not, cond, ◌&&◌, refl}, specs.Cmp.{Equal-is}, specs.declared.cmp.Ordering.TheVariants.{Less, Equal}, proofs.Common.{ap, sym, ◌∙◌, true≢false}}
+use Rattle.mob_ratio.{specs.Ratio.{Ratio, ◌-ℚ◌}, specs.Order.{same}, specs.Sign.{nil, sign_of}, proofs.Field.{sub_self}, proofs.Order.{same_exact, same_truth}}
 use Rattle.mob_ratio.proofs.Signs.{sign_nil, sign-diff, line_at-diff}
-use Rattle.mob_plane.specs.Points.{same_point, same_point_exact}
-use Rattle.mob_plane.specs.declared.point.Point.{Point}
-use Rattle.mob_slice.specs.Comparison.{MayAsk, relates_gaps, IsComparison}
-use Rattle.mob_slice.specs.Lines.{line_value_of, plane_value_of}
-use Rattle.mob_slice.specs.RankLaws.{ranking_ratio}
-use Rattle.mob_slice.specs.Ranks.{holds, compare_ratio}
-use Rattle.mob_slice.specs.declared.comparison.Gaps.{Gaps}
-use Rattle.mob_slice.specs.declared.comparison.Gaps.TheVariants.{One, Two}
-use Rattle.mob_slice.specs.declared.comparison.Rel.{Rel}
-use Rattle.mob_slice.specs.declared.comparison.Rel.TheVariants.{Eq, Ne, Lt, Le, Gt, Ge}
-use Rattle.mob_slice.specs.declared.line.Line.{Line}
-use Rattle.mob_slice.specs.declared.line.PlaneLine.{PlaneLine}
+use Rattle.mob_plane.{specs.Points.{same_point, same_point_exact}, specs.declared.point.Point.{Point}}
+use Rattle.mob_slice.{specs.Comparison.{MayAsk, relates_gaps, IsComparison}, specs.Lines.{line_value_of, plane_value_of}, specs.RankLaws.{ranking_ratio}, specs.Ranks.{holds, compare_ratio}}
+use Rattle.mob_slice.{specs.declared.comparison.Gaps.{Gaps}, specs.declared.comparison.Gaps.TheVariants.{One, Two}, specs.declared.comparison.Rel.{Rel}}
+use Rattle.mob_slice.{specs.declared.comparison.Rel.TheVariants.{Eq, Ne, Lt, Le, Gt, Ge}, specs.declared.line.Line.{Line}, specs.declared.line.PlaneLine.{PlaneLine}}
 
 -- the ordinary comparison of two numbers, and their gap
 abbrev pub number_relates : Rel → Ratio → Ratio → Bool

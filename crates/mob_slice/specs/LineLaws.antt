@@ -1,16 +1,9 @@
 -- Lines satisfy the laws of courses.
-use Rattle.std.specs.Prelude.{◌≡◌, Bool, true, false, refl, ◌||◌, [], ⊤}
-use Rattle.std.proofs.lemmas.Bool.{and_parts, and_from}
-use Rattle.std.proofs.Common.{sym, arith, true≢false}
-use Rattle.mob_ratio.specs.Ratio.{Ratio}
-use Rattle.mob_ratio.specs.Order.{same}
-use Rattle.mob_ratio.specs.Line.{line_at, line_continues}
-use Rattle.mob_ratio.proofs.Order.{same_exact}
+use Rattle.std.{specs.Prelude.{◌≡◌, Bool, true, false, refl, ◌||◌, [], ⊤}, proofs.lemmas.Bool.{and_parts, and_from}, proofs.Common.{sym, arith, true≢false}}
+use Rattle.mob_ratio.{specs.Ratio.{Ratio}, specs.Order.{same}, specs.Line.{line_at, line_continues}, proofs.Order.{same_exact}}
 use Rattle.mob_ratio.proofs.LineAt.{line_at-lower, line_at-upper, line_at-level, line_at-part}
 use Rattle.mob_frac.specs.Formula.{line_parts}
-use Rattle.mob_slice.specs.Course.{IsCourse}
-use Rattle.mob_slice.specs.Lines.{line_value_of, line_continued, line_parts_of}
-use Rattle.mob_slice.specs.declared.line.Line.{Line}
+use Rattle.mob_slice.{specs.Course.{IsCourse}, specs.Lines.{line_value_of, line_continued, line_parts_of}, specs.declared.line.Line.{Line}}
 
 or_true : (a b c : Bool) → b ≡ true → (a || b || c) ≡ true
 or_true a b c h = grind (arith, h)

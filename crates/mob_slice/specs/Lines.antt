@@ -1,12 +1,9 @@
 -- Courses that change linearly: a number, and a point, each of whose coordinates changes linearly.
 use Rattle.std.specs.Prelude.{◌≡◌, Bool, true, ◌&&◌, List, ◌++◌}
-use Rattle.mob_ratio.specs.Ratio.{Ratio}
-use Rattle.mob_ratio.specs.Order.{before}
-use Rattle.mob_ratio.specs.Line.{IsOnLine, line_at, line_continues}
+use Rattle.mob_ratio.{specs.Ratio.{Ratio}, specs.Order.{before}, specs.Line.{IsOnLine, line_at, line_continues}}
 use Rattle.mob_frac.specs.Formula.{line_parts}
 use Rattle.mob_plane.specs.declared.point.Point.{Point}
-use Rattle.mob_slice.specs.declared.line.Line.{Line}
-use Rattle.mob_slice.specs.declared.line.PlaneLine.{PlaneLine}
+use Rattle.mob_slice.{specs.declared.line.Line.{Line}, specs.declared.line.PlaneLine.{PlaneLine}}
 
 -- the number at t of a line on the span from l to u
 abbrev pub line_value_of : Line → Ratio → Ratio → Ratio → Ratio

@@ -3,10 +3,7 @@
 -- one piece, whatever the steps on the way to them.
 use Rattle.std.specs.Prelude.{List, [], ◌∷◌}
 use Rattle.mob_ratio.specs.Ratio.{Ratio}
-use Rattle.mob_slice.specs.Entries.{Entry}
-use Rattle.mob_slice.specs.declared.formula.Formula.TheVariants.{Given}
-use Rattle.mob_slice.specs.declared.mode.Mode.{Mode}
-use Rattle.mob_slice.specs.declared.mode.Mode.TheVariants.{Narrow, Wide}
+use Rattle.mob_slice.{specs.Entries.{Entry}, specs.declared.formula.Formula.TheVariants.{Given}, specs.declared.mode.Mode.{Mode}, specs.declared.mode.Mode.TheVariants.{Narrow, Wide}}
 
 -- the first in the narrow mode, the second in the wide one
 abbrev pub by_mode : {A : Type 0} → Mode → A → A → A

@@ -1,11 +1,8 @@
 -- The numbers of a value at an instant that are computed. A slice holds its limits; so its value at
 -- an end, and that of a constant one, is not computed.
 use Rattle.std.specs.Prelude.{cond, not, ◌&&◌, ◌||◌, List, [], ◌∷◌, ◌++◌}
-use Rattle.mob_ratio.specs.Ratio.{Ratio}
-use Rattle.mob_ratio.specs.Order.{before, same}
-use Rattle.mob_ratio.specs.Line.{line_at}
-use Rattle.mob_slice.specs.declared.line.Line.{Line}
-use Rattle.mob_slice.specs.declared.line.PlaneLine.{PlaneLine}
+use Rattle.mob_ratio.{specs.Ratio.{Ratio}, specs.Order.{before, same}, specs.Line.{line_at}}
+use Rattle.mob_slice.{specs.declared.line.Line.{Line}, specs.declared.line.PlaneLine.{PlaneLine}}
 
 -- the number at t of the line from x0 at l to x1 at u, if it is not held
 abbrev pub line_numbers : Ratio → Ratio → Ratio → Ratio → Ratio → List Ratio

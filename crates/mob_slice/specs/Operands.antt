@@ -1,9 +1,7 @@
 -- Values that change in steps, and operations on two operands that both have a value.
 use Rattle.std.specs.Prelude.{◌≡◌, List, [], Option, Some, None, MatchOption}
 use Rattle.mob_ratio.specs.Ratio.{Ratio}
-use Rattle.mob_slice.specs.Slices.{value_at}
-use Rattle.mob_slice.specs.declared.slice.Slice.{Slice}
-use Rattle.mob_slice.specs.declared.steady.Steady.{Steady}
+use Rattle.mob_slice.{specs.Slices.{value_at}, specs.declared.slice.Slice.{Slice}, specs.declared.steady.Steady.{Steady}}
 
 -- the one value of a steady course, at every instant and at both ends
 abbrev pub steady_value : {B : Type 0} → Steady B → Ratio → Ratio → Ratio → B

@@ -1,14 +1,8 @@
 -- Lines of the plane satisfy the laws of courses, by coordinate.
-use Rattle.std.specs.Prelude.{false, refl, ⊤}
-use Rattle.std.proofs.lemmas.Bool.{and_parts, and_from}
-use Rattle.std.proofs.Common.{ap, sym, true≢false}
-use Rattle.mob_ratio.specs.Line.{line_continues}
-use Rattle.mob_ratio.proofs.LineAt.{line_at-lower, line_at-upper, line_at-level, line_at-part}
-use Rattle.mob_plane.specs.Points.{point_by_coordinates}
-use Rattle.mob_plane.specs.declared.point.Point.{Point}
-use Rattle.mob_slice.specs.Course.{IsCourse}
-use Rattle.mob_slice.specs.Lines.{plane_value_of, plane_continued, plane_parts_of}
-use Rattle.mob_slice.specs.LineLaws.{none_at_lower, none_at_upper, goes_on_is, is_goes_on}
+use Rattle.std.{specs.Prelude.{false, refl, ⊤}, proofs.lemmas.Bool.{and_parts, and_from}, proofs.Common.{ap, sym, true≢false}}
+use Rattle.mob_ratio.{specs.Line.{line_continues}, proofs.LineAt.{line_at-lower, line_at-upper, line_at-level, line_at-part}}
+use Rattle.mob_plane.{specs.Points.{point_by_coordinates}, specs.declared.point.Point.{Point}}
+use Rattle.mob_slice.{specs.Course.{IsCourse}, specs.Lines.{plane_value_of, plane_continued, plane_parts_of}, specs.LineLaws.{none_at_lower, none_at_upper, goes_on_is, is_goes_on}}
 use Rattle.mob_slice.specs.declared.line.PlaneLine.{PlaneLine}
 
 pub plane_laws : IsCourse {C = PlaneLine} {B = Point} false false plane_value_of (λ c. c.from) (λ c. c.to) (λ a b. ⊤) (λ a b. record { from = a; to = b }) plane_continued plane_parts_of

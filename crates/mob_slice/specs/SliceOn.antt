@@ -3,13 +3,9 @@ use Rattle.std.specs.Prelude.{List, Result, MatchResult}
 use Rattle.mob_ratio.specs.Ratio.{Ratio}
 use Rattle.mob_frac.specs.Formula.{AllFit}
 use Rattle.mob_span.specs.Span.{SpanOf}
-use Rattle.mob_slice.specs.Cut.{slice_value, slice_parts}
-use Rattle.mob_slice.specs.Look.{IsLookFault}
-use Rattle.mob_slice.specs.Sides.{HasValues, at_ends}
-use Rattle.mob_slice.specs.declared.course.Course.{Ghosts as CourseMembers}
-use Rattle.mob_slice.specs.declared.slice.Slice.{Slice}
+use Rattle.mob_slice.{specs.Cut.{slice_value, slice_parts}, specs.Look.{IsLookFault}, specs.Sides.{HasValues, at_ends}, specs.declared.course.Course.{Ghosts as CourseMembers}}
+use Rattle.mob_slice.{specs.declared.slice.Slice.{Slice}, specs.declared.formula.Formula.{Formula}}
 use Rattle.mob_list.specs.declared.fault.Fault.{Fault}
-use Rattle.mob_slice.specs.declared.formula.Formula.{Formula}
 
 -- The slice with the values f on the span r, if all parts of F1 at the ends of r fit, or an error
 -- with its cause. `c` has the functions of the course.

@@ -1,7 +1,6 @@
 -- When one course has two pieces, and when two courses are equal on a span.
 use Rattle.std.specs.Prelude.{◌≡◌, ◌↔◌, Bool, true, false}
-use Rattle.mob_ratio.specs.Ratio.{Ratio}
-use Rattle.mob_ratio.specs.Order.{before, up_to}
+use Rattle.mob_ratio.{specs.Ratio.{Ratio}, specs.Order.{before, up_to}}
 
 -- the course w, used from lower to upper, has the values of c up to the middle and those of d from
 -- there on

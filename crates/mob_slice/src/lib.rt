@@ -7,6 +7,14 @@
 //!
 //! `course` has the trait of courses, and the base values that a steady course may hold; `line` has
 //! lines and their comparison; `slice` has a slice and pieces of one.
+//!
+//! Lifting (`mob_lift`, which has the code), restricting and clipping make slices piece by piece,
+//! and share their definitions. `specs/OnPiece.antt` says what an operator returns on one piece,
+//! and `proofs/OnOnePiece.antt` shows that one slice with the wanted values meets it.
+//! `specs/Piecewise.antt` says what the pieces make together, in order. `proofs/Making.antt` shows
+//! that this is in order too and has, at each instant of a piece, the value returned there.
+//! `proofs/JoinedFirsts.antt` has the first entry that does not fit in two concatenated lists, and
+//! `proofs/Options.antt` has lemmas on options.
 #![tactic(auto)]
 
 mod comparison;

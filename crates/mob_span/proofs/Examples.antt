@@ -1,12 +1,7 @@
 -- Worked examples of the definitions. Each holds by computing.
 use Rattle.std.specs.Prelude.{◌≡◌, Bool, true, false, pos, [], ◌∷◌, map, refl}
-use Rattle.mob_ratio.specs.Gcd.{gcd, gcd_steps}
-use Rattle.mob_ratio.specs.Lowest.{in_lowest_terms}
-use Rattle.mob_ratio.specs.Ratio.{Ratio, over, whole}
-use Rattle.mob_ratio.specs.Order.{before}
-use Rattle.mob_span.specs.Span.{SpanOf}
-use Rattle.mob_span.specs.Meets.{shared_pieces}
-use Rattle.mob_span.specs.Remainders.{remainders_of}
+use Rattle.mob_ratio.{specs.Gcd.{gcd, gcd_steps}, specs.Lowest.{in_lowest_terms}, specs.Ratio.{Ratio, over, whole}, specs.Order.{before}}
+use Rattle.mob_span.{specs.Span.{SpanOf}, specs.Meets.{shared_pieces}, specs.Remainders.{remainders_of}}
 
 abbrev from_to : Ratio → Ratio → Bool → Bool → SpanOf
 from_to l u i j = record { lower = l; upper = u; lower_inc = i; upper_inc = j }

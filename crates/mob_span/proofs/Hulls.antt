@@ -1,19 +1,9 @@
 -- From the first span of a list in order to the last.
-use Rattle.std.specs.Prelude.{◌≡◌, Bool, true, false, ◌||◌, ◌&&◌, not, List, [], ◌∷◌, ◌++◌, Option, Some, None, IfSome, MatchOption, refl}
-use Rattle.std.proofs.lemmas.Bool.{and_parts, and_from}
-use Rattle.std.specs.List.{AllByRecursion}
-use Rattle.std.proofs.Common.{arith, ap, sym, ◌∙◌, subst, true≢false}
-use Rattle.mob_ratio.specs.Ratio.{Ratio}
-use Rattle.mob_ratio.specs.Order.{before, up_to}
-use Rattle.mob_ratio.proofs.Order.{before-back, before-trans, before-neither}
-use Rattle.mob_span.specs.Span.{SpanOf, has, has_instant}
-use Rattle.mob_span.specs.Neighbours.{is_clear, is_inside, joined}
-use Rattle.mob_span.specs.Pieces.{PiecesAreClear}
-use Rattle.mob_span.specs.Sets.{in_some}
-use Rattle.mob_span.specs.Remainders.{AreRemainders, IsInBoth, IsInFirstAlone}
-use Rattle.mob_span.proofs.SpanLemmas.{some_instant}
-use Rattle.mob_span.proofs.Insides.{inside_self, inside_has, high_on}
-use Rattle.mob_span.proofs.Clearness.{clear_before}
+use Rattle.std.{specs.Prelude.{◌≡◌, Bool, true, false, ◌||◌, ◌&&◌, not, List, [], ◌∷◌, ◌++◌, Option, Some, None, IfSome, MatchOption, refl}, specs.List.{AllByRecursion}}
+use Rattle.std.{proofs.lemmas.Bool.{and_parts, and_from}, proofs.Common.{arith, ap, sym, ◌∙◌, subst, true≢false}}
+use Rattle.mob_ratio.{specs.Ratio.{Ratio}, specs.Order.{before, up_to}, proofs.Order.{before-back, before-trans, before-neither}}
+use Rattle.mob_span.{specs.Span.{SpanOf, has, has_instant}, specs.Neighbours.{is_clear, is_inside, joined}, specs.Pieces.{PiecesAreClear}, specs.Sets.{in_some}}
+use Rattle.mob_span.{specs.Remainders.{AreRemainders, IsInBoth, IsInFirstAlone}, proofs.SpanLemmas.{some_instant}, proofs.Insides.{inside_self, inside_has, high_on}, proofs.Clearness.{clear_before}}
 use Rattle.mob_span.proofs.Shared.{AreAllClear, all_after, later}
 
 long_by : (l m n u : Ratio) (i j : Bool) → before m n ≡ true → (before l m || (i && up_to l m)) ≡ true → (before n u || (j && up_to n u)) ≡ true → before l u ≡ true

@@ -1,20 +1,10 @@
 -- The rest of a span without spans in order.
 use Rattle.std.specs.Prelude.{◌≡◌, Bool, true, false, cond, refl, ◌||◌, ◌&&◌, not, List, [], ◌∷◌, IfSome, MatchOption, Option, Some, None}
-use Rattle.std.proofs.Common.{◌++◌, arith, ap, sym, subst, ◌∙◌, true≢false, append_assoc, append-nil}
-use Rattle.std.proofs.lemmas.Bool.{false_from_ne_true}
-use Rattle.mob_ratio.specs.Ratio.{Ratio}
-use Rattle.mob_ratio.specs.Order.{before, up_to}
-use Rattle.mob_ratio.proofs.Order.{before-back, before-trans, before-neither}
-use Rattle.mob_span.specs.Span.{SpanOf, has, has_instant}
-use Rattle.mob_span.specs.Neighbours.{is_clear}
-use Rattle.mob_span.specs.Chained.{OfHead}
-use Rattle.mob_span.specs.Pieces.{PiecesAreClear}
-use Rattle.mob_span.specs.Sets.{in_some, is_apart, IsSpanSet}
-use Rattle.mob_span.specs.Remainders.{precedes, follows, front_of, back_of, remainders_of, AreRemainders}
-use Rattle.mob_span.proofs.SpanLemmas.{some_instant, no_instant, between_ends, IsMadeOf}
-use Rattle.mob_span.proofs.Clearness.{clear_before}
-use Rattle.mob_span.proofs.Shared.{AreAllClear, all_after}
-use Rattle.mob_span.proofs.Touching.{apart_clear}
+use Rattle.std.{proofs.Common.{◌++◌, arith, ap, sym, subst, ◌∙◌, true≢false, append_assoc, append-nil}, proofs.lemmas.Bool.{false_from_ne_true}}
+use Rattle.mob_ratio.{specs.Ratio.{Ratio}, specs.Order.{before, up_to}, proofs.Order.{before-back, before-trans, before-neither}}
+use Rattle.mob_span.{specs.Span.{SpanOf, has, has_instant}, specs.Neighbours.{is_clear}, specs.Chained.{OfHead}, specs.Pieces.{PiecesAreClear}, specs.Sets.{in_some, is_apart, IsSpanSet}}
+use Rattle.mob_span.{specs.Remainders.{precedes, follows, front_of, back_of, remainders_of, AreRemainders}, proofs.SpanLemmas.{some_instant, no_instant, between_ends, IsMadeOf}}
+use Rattle.mob_span.{proofs.Clearness.{clear_before}, proofs.Shared.{AreAllClear, all_after}, proofs.Touching.{apart_clear}}
 
 -- the end of the part before a span
 front_end : (u m t : Ratio) (i j b : Bool) → (before u m || (up_to u m && not (i && j))) ≡ b → (before t (cond b u m) || (cond b i (not j) && up_to t (cond b u m))) ≡ ((before t u || (i && up_to t u)) && (before t m || (not j && up_to t m)))

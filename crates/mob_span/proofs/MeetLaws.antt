@@ -1,20 +1,11 @@
 -- Laws of the pieces that two lists share.
-use Rattle.std.specs.Prelude.{◌≡◌, Bool, true, false, cond, ◌&&◌, Option, Some, None, option_map, List, [], ◌∷◌, ◌++◌, map, refl}
-use Rattle.std.specs.List.{filter, AllByRecursion}
-use Rattle.std.specs.Option.{option_zip}
+use Rattle.std.{specs.Prelude.{◌≡◌, Bool, true, false, cond, ◌&&◌, Option, Some, None, option_map, List, [], ◌∷◌, ◌++◌, map, refl}, specs.List.{filter, AllByRecursion}, specs.Option.{option_zip}}
 use Rattle.std.proofs.Common.{ap, sym, ◌∙◌}
 use Rattle.mob_list.proofs.Each.{each_both}
-use Rattle.mob_span.proofs.FirstOf.{or_else}
+use Rattle.mob_span.{specs.Span.{SpanOf, has, has_instant}, specs.Neighbours.{is_clear, is_inside}, specs.Meet.{meet_of}, specs.Meets.{PieceOf, shared_pieces, SharedAreCommon}, specs.Chained.{OfHead}}
+use Rattle.mob_span.{specs.Pieces.{piece_at, PiecesAreClear}, proofs.FirstOf.{or_else}, proofs.SpanLemmas.{meet_has, no_instant}}
+use Rattle.mob_span.{proofs.Insides.{clear_meet, clear_meet', meet_clear, meet_clear', meet_left, meet_right}, proofs.Shared.{AreAllClear, all_after, later, piece, row}}
 use Rattle.mob_ratio.specs.Ratio.{Ratio}
-use Rattle.mob_span.specs.Span.{SpanOf, has, has_instant}
-use Rattle.mob_span.specs.Neighbours.{is_clear, is_inside}
-use Rattle.mob_span.specs.Meet.{meet_of}
-use Rattle.mob_span.specs.Meets.{PieceOf, shared_pieces, SharedAreCommon}
-use Rattle.mob_span.proofs.SpanLemmas.{meet_has, no_instant}
-use Rattle.mob_span.proofs.Insides.{clear_meet, clear_meet', meet_clear, meet_clear', meet_left, meet_right}
-use Rattle.mob_span.specs.Chained.{OfHead}
-use Rattle.mob_span.specs.Pieces.{piece_at, PiecesAreClear}
-use Rattle.mob_span.proofs.Shared.{AreAllClear, all_after, later, piece, row}
 
 zip-none : {A B : Type 0} (x : Option A) → option_zip {U = B} x None ≡ None
 zip-none None = refl

@@ -1,23 +1,11 @@
 -- The remainders of a span have the ends of the spans removed: inside a slice of time, one list is
 -- cut at exactly the instants of the other.
-use Rattle.std.specs.Prelude.{◌≡◌, ◌⊎◌, Bool, true, false, cond, ◌||◌, ◌&&◌, not, List, [], ◌∷◌, refl}
-use Rattle.std.proofs.lemmas.Bool.{and_parts, and_from}
-use Rattle.std.specs.List.{AllByRecursion}
+use Rattle.std.{specs.Prelude.{◌≡◌, ◌⊎◌, Bool, true, false, cond, ◌||◌, ◌&&◌, not, List, [], ◌∷◌, refl}, specs.List.{AllByRecursion}, proofs.lemmas.Bool.{and_parts, and_from}}
 use Rattle.std.proofs.Common.{arith, ap, sym, ◌∙◌, subst, inl, inr, ⊎_elim, true≢false}
-use Rattle.mob_ratio.specs.Ratio.{Ratio}
-use Rattle.mob_ratio.specs.Order.{before, up_to}
-use Rattle.mob_ratio.proofs.Order.{before-back, before-trans, before-neither, up_to-trans, up_to-not-after, before-up_to, up_to-before}
-use Rattle.mob_span.specs.Span.{SpanOf, has_instant}
-use Rattle.mob_span.specs.Neighbours.{is_clear, is_inside}
-use Rattle.mob_span.specs.Meet.{starts_before, ends_before, meet_of}
-use Rattle.mob_span.specs.Pieces.{PiecesAreClear}
-use Rattle.mob_span.specs.Sets.{is_apart, IsSpanSet}
-use Rattle.mob_span.specs.Remainders.{front_of, back_of, remainders_of}
-use Rattle.mob_span.proofs.SpanLemmas.{some_upto, has_upto_lower, has_upto_upper, meet_some}
-use Rattle.mob_span.proofs.Ends.{first_by, last_by}
-use Rattle.mob_span.proofs.Shared.{AreAllClear, all_after}
-use Rattle.mob_span.proofs.Leaving.{set_clear, remainders_clear}
-use Rattle.mob_span.proofs.Insides.{inner_has}
+use Rattle.mob_ratio.{specs.Ratio.{Ratio}, specs.Order.{before, up_to}, proofs.Order.{before-back, before-trans, before-neither, up_to-trans, up_to-not-after, before-up_to, up_to-before}}
+use Rattle.mob_span.{specs.Span.{SpanOf, has_instant}, specs.Neighbours.{is_clear, is_inside}, specs.Meet.{starts_before, ends_before, meet_of}, specs.Pieces.{PiecesAreClear}}
+use Rattle.mob_span.{specs.Sets.{is_apart, IsSpanSet}, specs.Remainders.{front_of, back_of, remainders_of}, proofs.SpanLemmas.{some_upto, has_upto_lower, has_upto_upper, meet_some}}
+use Rattle.mob_span.{proofs.Ends.{first_by, last_by}, proofs.Shared.{AreAllClear, all_after}, proofs.Leaving.{set_clear, remainders_clear}, proofs.Insides.{inner_has}}
 
 later_from : (a l t : Ratio) (i : Bool) → before a l ≡ true → (before l t || (i && up_to l t)) ≡ true → before a t ≡ true
 later_from a l t i h k = grind (arith, before-trans a l t, before-neither l t)

@@ -1,16 +1,9 @@
 -- The shared pieces of two lists in order, from the front.
-use Rattle.std.specs.Prelude.{◌≡◌, Bool, true, false, cond, ◌&&◌, List, [], ◌∷◌, ◌++◌, map, refl}
-use Rattle.std.specs.List.{filter}
-use Rattle.std.specs.Iterator.{MakesProgress, item_count}
+use Rattle.std.{specs.Prelude.{◌≡◌, Bool, true, false, cond, ◌&&◌, List, [], ◌∷◌, ◌++◌, map, refl}, specs.List.{filter}, specs.Iterator.{MakesProgress, item_count}}
 use Rattle.std.proofs.Common.{ap, sym, ◌∙◌, subst, length, arith, Some}
 use Rattle.mob_list.proofs.Tests.{neither_true}
-use Rattle.mob_span.specs.Span.{SpanOf, has, has_instant}
-use Rattle.mob_span.specs.Neighbours.{is_clear}
-use Rattle.mob_span.specs.Meet.{ends_before, meet_of}
-use Rattle.mob_span.specs.Meets.{PieceOf, shared_pieces}
-use Rattle.mob_span.proofs.SpanLemmas.{meet_none}
-use Rattle.mob_span.proofs.Insides.{clear_trans, clear_has, ends_no_later, ends_sooner}
-use Rattle.mob_span.specs.Pieces.{PiecesAreClear}
+use Rattle.mob_span.{specs.Span.{SpanOf, has, has_instant}, specs.Neighbours.{is_clear}, specs.Meet.{ends_before, meet_of}, specs.Meets.{PieceOf, shared_pieces}, specs.Pieces.{PiecesAreClear}}
+use Rattle.mob_span.{proofs.SpanLemmas.{meet_none}, proofs.Insides.{clear_trans, clear_has, ends_no_later, ends_sooner}}
 
 -- every entry of a list is after the span
 abbrev pub AreAllClear : {X : Type 0} → (X → SpanOf) → SpanOf → List X → Type 0

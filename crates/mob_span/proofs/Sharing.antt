@@ -1,15 +1,8 @@
 -- The set of the instants that two lists of spans share.
-use Rattle.std.specs.Prelude.{◌≡◌, Bool, true, false, cond, refl, ◌||◌, ◌&&◌, List, [], ◌∷◌, ◌++◌, map, Option, Some, None, option_map}
-use Rattle.std.specs.List.{list_any}
-use Rattle.std.specs.Option.{option_zip}
+use Rattle.std.{specs.Prelude.{◌≡◌, Bool, true, false, cond, refl, ◌||◌, ◌&&◌, List, [], ◌∷◌, ◌++◌, map, Option, Some, None, option_map}, specs.List.{list_any}, specs.Option.{option_zip}}
 use Rattle.std.proofs.Common.{ap, sym, ◌∙◌, append-nil}
 use Rattle.mob_ratio.specs.Ratio.{Ratio}
-use Rattle.mob_span.specs.Span.{SpanOf, has}
-use Rattle.mob_span.specs.Pieces.{piece_at}
-use Rattle.mob_span.specs.Meets.{PieceOf, shared_pieces}
-use Rattle.mob_span.specs.Sets.{in_some}
-use Rattle.mob_span.specs.Remainders.{IsInBoth}
-use Rattle.mob_span.proofs.MeetLaws.{meets_at, sides}
+use Rattle.mob_span.{specs.Span.{SpanOf, has}, specs.Pieces.{piece_at}, specs.Meets.{PieceOf, shared_pieces}, specs.Sets.{in_some}, specs.Remainders.{IsInBoth}, proofs.MeetLaws.{meets_at, sides}}
 
 abbrev pub is_there : {A : Type 0} → Option A → Bool
 is_there None = false

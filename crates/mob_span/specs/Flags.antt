@@ -1,6 +1,5 @@
 -- Equality of booleans, such as the inclusion flags of spans.
-use Rattle.std.specs.Prelude.{◌≡◌, Bool, true, false, IsTrue, ◌↔◌, refl, not}
-use Rattle.std.proofs.Common.{sym}
+use Rattle.std.{specs.Prelude.{◌≡◌, Bool, true, false, IsTrue, ◌↔◌, refl, not}, proofs.Common.{sym}}
 
 -- two booleans are equal
 abbrev pub same_bool : Bool → Bool → Bool

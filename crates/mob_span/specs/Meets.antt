@@ -1,11 +1,7 @@
 -- The pieces of time that the entries of two lists share.
-use Rattle.std.specs.Prelude.{◌≡◌, List, map, option_map}
-use Rattle.std.specs.Option.{option_zip}
-use Rattle.std.specs.List.{flat_map, filter}
+use Rattle.std.{specs.Prelude.{◌≡◌, List, map, option_map}, specs.Option.{option_zip}, specs.List.{flat_map, filter}}
 use Rattle.mob_ratio.specs.Ratio.{Ratio}
-use Rattle.mob_span.specs.Span.{SpanOf, has_instant}
-use Rattle.mob_span.specs.Meet.{meet_of}
-use Rattle.mob_span.specs.Pieces.{PiecesAreClear, piece_at}
+use Rattle.mob_span.{specs.Span.{SpanOf, has_instant}, specs.Meet.{meet_of}, specs.Pieces.{PiecesAreClear, piece_at}}
 
 -- a piece of time, with an entry of each list that holds there
 pub record PieceOf (X Y : Type 0) : Type 0 where

@@ -1,9 +1,7 @@
 -- Pieces of time in order, each with its data.
 use Rattle.std.specs.Prelude.{◌≡◌, true, cond, List, [], ◌∷◌, Option, None, Some}
 use Rattle.mob_ratio.specs.Ratio.{Ratio}
-use Rattle.mob_span.specs.Chained.{Chained}
-use Rattle.mob_span.specs.Span.{SpanOf, has, has_instant}
-use Rattle.mob_span.specs.Neighbours.{is_clear}
+use Rattle.mob_span.{specs.Chained.{Chained}, specs.Span.{SpanOf, has, has_instant}, specs.Neighbours.{is_clear}}
 
 -- the pieces are ordered and disjoint, and each has an instant
 abbrev pub PiecesAreClear : {P : Type 0} → (P → SpanOf) → List P → Type 0

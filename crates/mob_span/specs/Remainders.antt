@@ -1,10 +1,7 @@
 -- The instants of a span that are not in given spans.
 use Rattle.std.specs.Prelude.{◌≡◌, Bool, cond, not, ◌||◌, ◌&&◌, List, [], ◌∷◌}
-use Rattle.mob_ratio.specs.Ratio.{Ratio}
-use Rattle.mob_ratio.specs.Order.{before, up_to}
-use Rattle.mob_span.specs.Span.{SpanOf, has, has_instant}
-use Rattle.mob_span.specs.Neighbours.{is_clear}
-use Rattle.mob_span.specs.Sets.{in_some}
+use Rattle.mob_ratio.{specs.Ratio.{Ratio}, specs.Order.{before, up_to}}
+use Rattle.mob_span.{specs.Span.{SpanOf, has, has_instant}, specs.Neighbours.{is_clear}, specs.Sets.{in_some}}
 
 -- the instant t comes before all of r
 abbrev pub precedes : Ratio → SpanOf → Bool

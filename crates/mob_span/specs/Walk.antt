@@ -1,10 +1,6 @@
 -- The walk over the pieces that two lists share.
 use Rattle.std.specs.Prelude.{List}
-use Rattle.mob_span.specs.Span.{SpanOf}
-use Rattle.mob_span.specs.Meets.{PieceOf, shared_pieces}
-use Rattle.mob_span.specs.Pieces.{PiecesAreClear}
-use Rattle.mob_span.specs.declared.walk.Met.{Met}
-use Rattle.mob_span.specs.declared.walk.SharedPieces.{SharedPieces}
+use Rattle.mob_span.{specs.Span.{SpanOf}, specs.Meets.{PieceOf, shared_pieces}, specs.Pieces.{PiecesAreClear}, specs.declared.walk.Met.{Met}, specs.declared.walk.SharedPieces.{SharedPieces}}
 
 -- the entries of the first and of the second list that are still ahead of the walk
 abbrev pub lefts_of : {X Y : Type 0} → SharedPieces X Y → List X

@@ -1,10 +1,8 @@
 -- Statements that run by one relation run by each wider one.
-use Rattle.std.proofs.Common.{◌≡◌, sym, subst, ℕ, zero, suc, List, [], ◌∷◌, take}
-use Rattle.std.specs.Prelude.{Option}
+use Rattle.std.{specs.Prelude.{Option}, proofs.Common.{◌≡◌, sym, subst, ℕ, zero, suc, List, [], ◌∷◌, take}}
 use Rattle.mob_outside.specs.EndsSeen.{StreamSeen}
 use Rattle.mob_eval.specs.QueryFaults.{TupleFault}
-use Rattle.mob_ending.specs.declared.ending.Ending.{Ending}
-use Rattle.mob_ending.specs.declared.ending.Ending.TheVariants.{Done, WriteFault, NoMemory, Overflow}
+use Rattle.mob_ending.{specs.declared.ending.Ending.{Ending}, specs.declared.ending.Ending.TheVariants.{Done, WriteFault, NoMemory, Overflow}}
 use Rattle.mob_statements.specs.Statements.{CanAllRun, CanRunEach, Ran, RanFirst, StatementsEnd}
 
 module _ {E S : Type 0} (step wider : E → S → E → List ℕ → Type 0) (widen : (s : E) (x : S) (t : E) (text : List ℕ) → step s x t text → wider s x t text) where

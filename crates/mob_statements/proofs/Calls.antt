@@ -1,17 +1,10 @@
 -- The meaning of a call's result, and what follows for a closure if each call is known.
-use Rattle.std.proofs.Common.{refl, subst, ℕ, List, take, Result, Ok, Err, IfOk, IfErr}
-use Rattle.std.specs.Borrow.{Bor, MutBor}
-use Rattle.std.specs.Fn.{Shared}
-use Rattle.std.specs.declared.vec.Vec.{Vec}
+use Rattle.std.{specs.Borrow.{Bor, MutBor}, specs.Fn.{Shared}, specs.declared.vec.Vec.{Vec}, proofs.Common.{refl, subst, ℕ, List, take, Result, Ok, Err, IfOk, IfErr}}
 use Rattle.mob_outside.specs.EndsSeen.{StreamSeen}
 use Rattle.mob_eval.specs.QueryFaults.{TupleFault}
-use Rattle.mob_list.specs.declared.fault.Fault.{Fault}
+use Rattle.mob_list.{specs.declared.fault.Fault.{Fault}, specs.declared.fault.Fault.TheVariants.{Because, NoMemory}, specs.Faults.{OnCause}}
 use Rattle.mob_ending.specs.declared.ending.Ending.{Ending}
-use Rattle.mob_statements.specs.Calls.{CallGives, CallRuns, CallStops}
-use Rattle.mob_statements.specs.Statements.{CanAllRun, CanRunEach, StatementsEnd}
-use Rattle.mob_statements.proofs.Alike.{can_at, ends_wider, ran_wider}
-use Rattle.mob_list.specs.declared.fault.Fault.TheVariants.{Because, NoMemory}
-use Rattle.mob_list.specs.Faults.{OnCause}
+use Rattle.mob_statements.{specs.Calls.{CallGives, CallRuns, CallStops}, specs.Statements.{CanAllRun, CanRunEach, StatementsEnd}, proofs.Alike.{can_at, ends_wider, ran_wider}}
 
 -- the second of two facts, whose type is found later
 pub second : {P Q : Type 0} → P × Q → Q

@@ -1,11 +1,7 @@
 -- The meaning of a closure that runs one statement on a state.
-use Rattle.std.specs.Prelude.{◌≡◌, ℕ, List, Result, Ok, Err}
-use Rattle.std.specs.Borrow.{Bor, MutBor}
-use Rattle.std.specs.Fn.{Shared}
-use Rattle.std.specs.declared.vec.Vec.{Vec}
+use Rattle.std.{specs.Prelude.{◌≡◌, ℕ, List, Result, Ok, Err}, specs.Borrow.{Bor, MutBor}, specs.Fn.{Shared}, specs.declared.vec.Vec.{Vec}}
 use Rattle.mob_eval.specs.QueryFaults.{TupleFault}
-use Rattle.mob_list.specs.declared.fault.Fault.{Fault}
-use Rattle.mob_list.specs.declared.fault.Fault.TheVariants.{Because}
+use Rattle.mob_list.{specs.declared.fault.Fault.{Fault}, specs.declared.fault.Fault.TheVariants.{Because}}
 
 module _ {F S X A : Type 0} (g : Shared F (A × (MutBor S × (Bor X × Unit {0}))) (Result (Vec ℕ A) (Fault TupleFault) × (MutBor S × Unit {0}))) (f : F) where
   -- it may be called for a state and a statement

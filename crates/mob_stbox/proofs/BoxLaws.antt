@@ -1,20 +1,14 @@
 -- Laws of boxes: the meaning of their tests, and what a search through a tree of boxes relies on.
-use Rattle.std.specs.Prelude.{◌≡◌, ◌↔◌, ◌⊎◌, IsTrue, Bool, true, false, refl, ◌||◌, ◌&&◌, not, Option, Some, None, is_some, IfSome, IsNone, MatchOption}
-use Rattle.std.proofs.lemmas.Bool.{and_parts, and_from}
+use Rattle.std.{specs.Prelude.{◌≡◌, ◌↔◌, ◌⊎◌, IsTrue, Bool, true, false, refl, ◌||◌, ◌&&◌, not, Option, Some, None, is_some, IfSome, IsNone, MatchOption}, proofs.lemmas.Bool.{and_parts, and_from}}
 use Rattle.std.proofs.Common.{arith, ap, sym, ◌∙◌, true≢false, inl, inr, subst}
-use Rattle.mob_ratio.specs.Ratio.{Ratio, ◌<ℚ◌}
-use Rattle.mob_ratio.specs.Order.{before, up_to}
-use Rattle.mob_ratio.proofs.Order.{before-lt, lt-before, before-back, before-neither, up_to-self, up_to-both}
-use Rattle.mob_span.specs.Span.{SpanOf, InSpan}
-use Rattle.mob_span.specs.Neighbours.{is_inside}
-use Rattle.mob_span.proofs.SpanLemmas.{has_exact}
-use Rattle.mob_span.proofs.Ends.{inside_exact}
-use Rattle.mob_span.proofs.Insides.{inside_self, inside-trans}
+use Rattle.mob_ratio.{specs.Ratio.{Ratio, ◌<ℚ◌}, specs.Order.{before, up_to}, proofs.Order.{before-lt, lt-before, before-back, before-neither, up_to-self, up_to-both}}
+use Rattle.mob_span.{specs.Span.{SpanOf, InSpan}, specs.Neighbours.{is_inside}, proofs.SpanLemmas.{has_exact}, proofs.Ends.{inside_exact}, proofs.Insides.{inside_self, inside-trans}}
 use Rattle.mob_plane.specs.declared.point.Point.{Point}
 use Rattle.mob_stbox.specs.Areas.{InArea, is_area, areas_meet, area_over, area_cover}
-use Rattle.mob_stbox.specs.Boxes.{BoxOf, NoBox, area_stands, span_stands, is_box, is_whole, InBox, in_space, in_time, in_box, both_have, BoxesMeet, where_both, spans_meet, overlaps, BoxContains, lies_in, contains, IsCover, span_cover, of_both, cover}
-use Rattle.mob_stbox.specs.declared.area.Area.{Area}
-use Rattle.mob_stbox.proofs.Sides.{four, in_area_exact, areas_meet_exact, spans_meet_exact, area_over_exact, in_over, in_inside, area_over_self, area_over_trans, area_over_meets, area_cover_left, area_cover_right, area_cover_least, over_is_area, inside_meets, span_cover_left, span_cover_right, span_cover_least, span_cover_some}
+use Rattle.mob_stbox.specs.Boxes.{BoxOf, NoBox, area_stands, span_stands, is_box, is_whole, InBox, in_space, in_time, in_box, both_have, BoxesMeet, where_both, spans_meet, overlaps, BoxContains}
+use Rattle.mob_stbox.{specs.Boxes.{lies_in, contains, IsCover, span_cover, of_both, cover}, specs.declared.area.Area.{Area}}
+use Rattle.mob_stbox.proofs.Sides.{four, in_area_exact, areas_meet_exact, spans_meet_exact, area_over_exact, in_over, in_inside, area_over_self, area_over_trans, area_over_meets, area_cover_left}
+use Rattle.mob_stbox.proofs.Sides.{area_cover_right, area_cover_least, over_is_area, inside_meets, span_cover_left, span_cover_right, span_cover_least, span_cover_some}
 
 -- the dimensions of a box are valid
 pub box_area : (b : BoxOf) → is_box b ≡ true → area_stands b.space ≡ true

@@ -1,13 +1,8 @@
 -- Worked examples of boxes. Each holds by computing.
 use Rattle.std.specs.Prelude.{◌≡◌, Bool, true, false, pos, Some, None, refl}
-use Rattle.mob_ratio.specs.Gcd.{gcd, gcd_steps}
-use Rattle.mob_ratio.specs.Lowest.{in_lowest_terms}
-use Rattle.mob_ratio.specs.Ratio.{Ratio, over, whole, ◌+ℚ◌, neg_ℚ}
-use Rattle.mob_ratio.specs.Order.{before, same}
+use Rattle.mob_ratio.{specs.Gcd.{gcd, gcd_steps}, specs.Lowest.{in_lowest_terms}, specs.Ratio.{Ratio, over, whole, ◌+ℚ◌, neg_ℚ}, specs.Order.{before, same}}
 use Rattle.mob_span.specs.Span.{SpanOf}
-use Rattle.mob_stbox.specs.Boxes.{BoxOf, overlaps, contains, cover, same_box}
-use Rattle.mob_stbox.specs.Expansion.{expanded}
-use Rattle.mob_stbox.specs.declared.area.Area.{Area}
+use Rattle.mob_stbox.{specs.Boxes.{BoxOf, overlaps, contains, cover, same_box}, specs.Expansion.{expanded}, specs.declared.area.Area.{Area}}
 
 abbrev area : Ratio → Ratio → Ratio → Ratio → Area
 area x0 y0 x1 y1 = record { xmin = x0; xmax = x1; ymin = y0; ymax = y1 }

@@ -1,17 +1,9 @@
 -- Areas expanded or shrunk, by their points.
-use Rattle.std.specs.Prelude.{◌≡◌, ◌↔◌, Bool, true, false, pos, refl}
-use Rattle.std.proofs.lemmas.Bool.{and_parts}
-use Rattle.std.proofs.Common.{arith}
-use Rattle.mob_ratio.specs.Ratio.{Ratio, whole, ◌+ℚ◌, ◌-ℚ◌, ◌≤ℚ◌, neg_ℚ}
-use Rattle.mob_ratio.specs.Order.{before, up_to}
-use Rattle.mob_ratio.proofs.Clear.{clear2, clear3, clear4, cleared}
-use Rattle.mob_ratio.proofs.Field.{le_refl, le_trans, le_of_lt, le_add}
-use Rattle.mob_ratio.proofs.IntRing.{linear}
-use Rattle.mob_ratio.proofs.Order.{before-lt, up_to-le, not-up_to-le}
+use Rattle.std.{specs.Prelude.{◌≡◌, ◌↔◌, Bool, true, false, pos, refl}, proofs.lemmas.Bool.{and_parts}, proofs.Common.{arith}}
+use Rattle.mob_ratio.{specs.Ratio.{Ratio, whole, ◌+ℚ◌, ◌-ℚ◌, ◌≤ℚ◌, neg_ℚ}, specs.Order.{before, up_to}, proofs.Clear.{clear2, clear3, clear4, cleared}}
+use Rattle.mob_ratio.{proofs.Field.{le_refl, le_trans, le_of_lt, le_add}, proofs.IntRing.{linear}, proofs.Order.{before-lt, up_to-le, not-up_to-le}}
 use Rattle.mob_plane.specs.declared.point.Point.{Point}
-use Rattle.mob_stbox.specs.Areas.{InArea, is_area}
-use Rattle.mob_stbox.specs.Expansion.{moved_area, AreWithin}
-use Rattle.mob_stbox.specs.declared.area.Area.{Area}
+use Rattle.mob_stbox.{specs.Areas.{InArea, is_area}, specs.Expansion.{moved_area, AreWithin}, specs.declared.area.Area.{Area}}
 
 -- ---- one coordinate
 

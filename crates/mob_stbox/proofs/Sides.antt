@@ -1,19 +1,11 @@
 -- The relations of areas and spans, by their sides.
-use Rattle.std.specs.Prelude.{◌≡◌, ◌↔◌, Bool, true, false, cond, refl, ◌||◌, ◌&&◌, not, IsTrue}
-use Rattle.std.proofs.lemmas.Bool.{and_parts, and_from}
-use Rattle.std.proofs.Common.{arith, sym, ◌∙◌, true≢false}
-use Rattle.mob_ratio.specs.Ratio.{Ratio}
-use Rattle.mob_ratio.specs.Order.{before, up_to, smaller, greater}
+use Rattle.std.{specs.Prelude.{◌≡◌, ◌↔◌, Bool, true, false, cond, refl, ◌||◌, ◌&&◌, not, IsTrue}, proofs.lemmas.Bool.{and_parts, and_from}, proofs.Common.{arith, sym, ◌∙◌, true≢false}}
+use Rattle.mob_ratio.{specs.Ratio.{Ratio}, specs.Order.{before, up_to, smaller, greater}}
 use Rattle.mob_ratio.proofs.Order.{before-self, before-back, before-neither, not-up_to-le, smaller_left, smaller_right, greater_left, greater_right, le-test, up_to-trans, up_to-self, greater_least}
-use Rattle.mob_span.specs.Span.{SpanOf, InSpan, has, has_instant}
-use Rattle.mob_span.specs.Meet.{meet_of, starts_before, ends_before}
-use Rattle.mob_span.specs.Neighbours.{is_inside}
-use Rattle.mob_span.proofs.SpanLemmas.{has_exact, some_instant, instant_some, meet_some}
-use Rattle.mob_span.proofs.Insides.{inside_has}
+use Rattle.mob_span.{specs.Span.{SpanOf, InSpan, has, has_instant}, specs.Meet.{meet_of, starts_before, ends_before}, specs.Neighbours.{is_inside}}
+use Rattle.mob_span.{proofs.SpanLemmas.{has_exact, some_instant, instant_some, meet_some}, proofs.Insides.{inside_has}}
 use Rattle.mob_plane.specs.declared.point.Point.{Point}
-use Rattle.mob_stbox.specs.Areas.{InArea, in_area, is_area, areas_meet, area_over, area_cover, area_between, IsAreaOver}
-use Rattle.mob_stbox.specs.Boxes.{span_cover}
-use Rattle.mob_stbox.specs.declared.area.Area.{Area}
+use Rattle.mob_stbox.{specs.Areas.{InArea, in_area, is_area, areas_meet, area_over, area_cover, area_between, IsAreaOver}, specs.Boxes.{span_cover}, specs.declared.area.Area.{Area}}
 
 pub four : (a b c d : Bool) → (a && b && (c && d)) ≡ true → (a ≡ true) × (b ≡ true) × (c ≡ true) × (d ≡ true)
 four a b c d h = let k = and_parts (a && b) (c && d) h in let l = and_parts a b k.0 in let r = and_parts c d k.1 in (l.0, l.1, r.0, r.1)

@@ -1,7 +1,6 @@
 -- Closed rectangles of the plane.
 use Rattle.std.specs.Prelude.{Bool, ◌&&◌}
-use Rattle.mob_ratio.specs.Ratio.{◌≤ℚ◌}
-use Rattle.mob_ratio.specs.Order.{up_to, same, smaller, greater}
+use Rattle.mob_ratio.{specs.Ratio.{◌≤ℚ◌}, specs.Order.{up_to, same, smaller, greater}}
 use Rattle.mob_plane.specs.declared.point.Point.{Point}
 use Rattle.mob_stbox.specs.declared.area.Area.{Area}
 

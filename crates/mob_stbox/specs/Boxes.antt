@@ -1,15 +1,9 @@
 -- Boxes of the plane and of time, and the relations between two of them.
 use Rattle.std.specs.Prelude.{◌≡◌, ◌⊎◌, Bool, true, false, cond, ◌&&◌, ◌||◌, Option, Some, None, is_some, IfSome, MatchOption}
-use Rattle.mob_ratio.specs.Ratio.{Ratio, ◌<ℚ◌}
-use Rattle.mob_ratio.specs.Order.{same}
-use Rattle.mob_ratio.specs.Sign.{nil}
-use Rattle.mob_span.specs.Span.{SpanOf, InSpan, has, has_instant}
-use Rattle.mob_span.specs.Meet.{meet_of, starts_before, ends_before}
-use Rattle.mob_span.specs.Neighbours.{is_inside}
-use Rattle.mob_span.specs.Flags.{same_bool}
+use Rattle.mob_ratio.{specs.Ratio.{Ratio, ◌<ℚ◌}, specs.Order.{same}, specs.Sign.{nil}}
+use Rattle.mob_span.{specs.Span.{SpanOf, InSpan, has, has_instant}, specs.Meet.{meet_of, starts_before, ends_before}, specs.Neighbours.{is_inside}, specs.Flags.{same_bool}}
 use Rattle.mob_plane.specs.declared.point.Point.{Point}
-use Rattle.mob_stbox.specs.Areas.{InArea, in_area, is_area, areas_meet, area_over, area_cover, same_area}
-use Rattle.mob_stbox.specs.declared.area.Area.{Area}
+use Rattle.mob_stbox.{specs.Areas.{InArea, in_area, is_area, areas_meet, area_over, area_cover, same_area}, specs.declared.area.Area.{Area}}
 
 -- a closed area of the plane, a span of time, or both
 pub record BoxOf : Type 0 where

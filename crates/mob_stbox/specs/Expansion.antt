@@ -4,9 +4,7 @@ use Rattle.mob_ratio.specs.Ratio.{Ratio, ◌+ℚ◌, ◌-ℚ◌, ◌≤ℚ◌}
 use Rattle.mob_frac.specs.Formula.{expansion_parts}
 use Rattle.mob_span.specs.Span.{SpanOf}
 use Rattle.mob_plane.specs.declared.point.Point.{Point}
-use Rattle.mob_stbox.specs.Areas.{is_area}
-use Rattle.mob_stbox.specs.Boxes.{BoxOf}
-use Rattle.mob_stbox.specs.declared.area.Area.{Area}
+use Rattle.mob_stbox.{specs.Areas.{is_area}, specs.Boxes.{BoxOf}, specs.declared.area.Area.{Area}}
 
 -- each side of the area moved outward by d, which is inward if d is below 0
 abbrev pub moved_area : Area → Ratio → Area

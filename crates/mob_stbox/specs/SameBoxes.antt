@@ -1,16 +1,9 @@
 -- The test of whether two boxes are equal is exact.
-use Rattle.std.specs.Prelude.{◌≡◌, ◌↔◌, Bool, true, false, IsTrue, refl, Option, Some, None}
-use Rattle.std.proofs.lemmas.Bool.{and_parts, and_from}
+use Rattle.std.{specs.Prelude.{◌≡◌, ◌↔◌, Bool, true, false, IsTrue, refl, Option, Some, None}, specs.Cmp.{IsEquivalence}, proofs.lemmas.Bool.{and_parts, and_from}}
 use Rattle.std.proofs.Common.{ap, sym, ◌∙◌, true≢false}
-use Rattle.std.specs.Cmp.{IsEquivalence}
-use Rattle.mob_ratio.specs.Ratio.{Ratio}
-use Rattle.mob_ratio.specs.Order.{same}
-use Rattle.mob_ratio.proofs.Order.{same_exact, same_truth}
-use Rattle.mob_span.specs.Span.{SpanOf}
-use Rattle.mob_span.specs.Flags.{same_bool_exact}
-use Rattle.mob_stbox.specs.Areas.{same_area}
-use Rattle.mob_stbox.specs.Boxes.{BoxOf, same_span, same_part, same_box}
-use Rattle.mob_stbox.specs.declared.area.Area.{Area}
+use Rattle.mob_ratio.{specs.Ratio.{Ratio}, specs.Order.{same}, proofs.Order.{same_exact, same_truth}}
+use Rattle.mob_span.{specs.Span.{SpanOf}, specs.Flags.{same_bool_exact}}
+use Rattle.mob_stbox.{specs.Areas.{same_area}, specs.Boxes.{BoxOf, same_span, same_part, same_box}, specs.declared.area.Area.{Area}}
 
 area_is : (a b : Area) → same_area a b ≡ true → a ≡ b
 area_is a b h =

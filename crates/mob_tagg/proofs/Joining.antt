@@ -1,19 +1,10 @@
 -- The aggregate of two concatenated lists is that of the two aggregates.
-use Rattle.std.specs.Prelude.{◌≡◌, Bool, true, false, cond, ◌&&◌, ◌||◌, ◌+◌, pos, refl, List, [], ◌∷◌, ◌++◌, length, Option, Some, None, option_map}
-use Rattle.std.proofs.Common.{ap, sym, ◌∙◌, arith}
-use Rattle.mob_lifted.proofs.Options.{none_some}
-use Rattle.mob_ratio.specs.Ratio.{Ratio, whole, ◌+ℚ◌}
+use Rattle.std.{specs.Prelude.{◌≡◌, Bool, true, false, cond, ◌&&◌, ◌||◌, ◌+◌, pos, refl, List, [], ◌∷◌, ◌++◌, length, Option, Some, None, option_map}, proofs.Common.{ap, sym, ◌∙◌, arith}}
+use Rattle.mob_slice.{specs.Cut.{slice_value}, specs.Slices.{value_at, IsNormal}, specs.declared.slice.Slice.{Slice}, proofs.Options.{none_some}}
+use Rattle.mob_ratio.{specs.Ratio.{Ratio, whole, ◌+ℚ◌}, proofs.Field.{add_assoc}, proofs.Rings.{whole-add}, proofs.Clear.{clear1, cleared}, proofs.IntRing.{linear}}
 use Rattle.mob_span.proofs.SpanLemmas.{some_instant}
-use Rattle.mob_slice.specs.Cut.{slice_value}
-use Rattle.mob_slice.specs.Slices.{value_at, IsNormal}
-use Rattle.mob_slice.specs.declared.slice.Slice.{Slice}
-use Rattle.mob_ratio.proofs.Field.{add_assoc}
-use Rattle.mob_ratio.proofs.Rings.{whole-add}
-use Rattle.mob_ratio.proofs.Clear.{clear1, cleared}
-use Rattle.mob_ratio.proofs.IntRing.{linear}
-use Rattle.mob_normal.specs.OneNormal.{OneNormal}
-use Rattle.mob_tagg.specs.United.{united_by, AreUnited}
-use Rattle.mob_tagg.specs.Aggregates.{put_there, values_at, made_of, IsAggregate, JoinsBy, total, count, all_hold, some_holds}
+use Rattle.mob_lift.specs.OneNormal.{OneNormal}
+use Rattle.mob_tagg.{specs.United.{united_by, AreUnited}, specs.Aggregates.{put_there, values_at, made_of, IsAggregate, JoinsBy, total, count, all_hold, some_holds}}
 
 append_none : {B : Type 0} (xs : List B) → xs ++ [] ≡ xs
 append_none [] = refl

@@ -1,9 +1,7 @@
 -- Kept tuples have one first fault, or none.
-use Rattle.std.specs.List.{AllZip}
-use Rattle.std.specs.Prelude.{◌≡◌, Bool, refl, List, [], ◌∷◌, ◌++◌, Option, Some, None, Result, Ok, Err}
-use Rattle.std.proofs.Common.{ap, ap₂, sym, ◌∙◌, subst, inl, inr}
+use Rattle.std.{specs.List.{AllZip}, specs.Prelude.{◌≡◌, Bool, refl, List, [], ◌∷◌, ◌++◌, Option, Some, None, Result, Ok, Err}, proofs.Common.{ap, ap₂, sym, ◌∙◌, subst, inl, inr}}
 use Rattle.std.proofs.lemmas.Option.{same_Some}
-use Rattle.mob_lifted.proofs.Options.{none_some}
+use Rattle.mob_slice.proofs.Options.{none_some}
 use Rattle.mob_tagg.specs.Rows.{IsAddedTo, IsItem, IsTuple, earlier, IsRowFault}
 
 module _ {T I V F : Type 0} (evaluates : T → I → Result V F → Type 0) (adds : I → List V → V → Option F → Type 0)

@@ -1,37 +1,15 @@
 -- The meaning, for a piece, of a call on a pair.
-use Rattle.std.specs.Prelude.{◌≡◌, Bool, true, List, [], ◌∷◌, Result, Ok}
-use Rattle.std.specs.List.{AllByRecursion}
-use Rattle.std.proofs.Common.{sym, subst}
+use Rattle.std.{specs.Prelude.{◌≡◌, Bool, true, List, [], ◌∷◌, Result, Ok}, specs.List.{AllByRecursion}, proofs.Common.{sym, subst}}
 use Rattle.mob_ratio.specs.Ratio.{Ratio}
 use Rattle.mob_frac.specs.Formula.{AllFit}
-use Rattle.mob_span.specs.Meets.{PieceOf}
-use Rattle.mob_slice.specs.Cut.{slice_parts}
-use Rattle.mob_list.specs.Faults.{OnCause}
-use Rattle.mob_slice.specs.Look.{IsLookFault}
-use Rattle.mob_slice.specs.Sides.{at_ends}
-use Rattle.mob_slice.specs.declared.slice.Slice.{Slice}
-use Rattle.mob_slice.specs.declared.part.Pair.{Pair}
-use Rattle.mob_slice.specs.declared.formula.Formula.TheVariants.{F1}
-use Rattle.mob_list.specs.declared.fault.Fault.{Fault}
-use Rattle.mob_list.specs.declared.fault.Fault.TheVariants.{Because, NoMemory}
-use Rattle.mob_slice.proofs.Cuts.{all_both, all_first, all_second}
-use Rattle.mob_sync.specs.Common.{pair_of}
-use Rattle.mob_shares.specs.Taken.{piece_parts, AreFull, IsShareGiven}
-use Rattle.mob_shares.specs.Shares.{share_of, share_span, HoldsShare}
-use Rattle.mob_shares.specs.declared.shares.Share.{Share}
-use Rattle.mob_shares.specs.declared.shares.Share.TheVariants.{Left, Right, Both}
-use Rattle.mob_shares.proofs.Together.{pair_fit}
-use Rattle.mob_shares.proofs.Walked.{AreOf}
-use Rattle.mob_shares.specs.Cuts.{CutOf, wholes}
-use Rattle.mob_shares.proofs.Sides.{wholes_of}
-use Rattle.mob_span.specs.Span.{has_instant}
-use Rattle.mob_span.specs.Neighbours.{is_inside}
-use Rattle.mob_span.proofs.Insides.{inside_self}
-use Rattle.mob_slice.specs.Parts.{IsPairFit}
-use Rattle.mob_slice.specs.Pieces.{AreInside}
-use Rattle.mob_slice.specs.Slices.{IsSound, IsOrdered}
-use Rattle.mob_slice.proofs.Orders.{all_sound}
-use Rattle.mob_slice.specs.declared.formula.Formula.{Formula}
+use Rattle.mob_span.{specs.Meets.{PieceOf}, specs.Span.{has_instant}, specs.Neighbours.{is_inside}, proofs.Insides.{inside_self}}
+use Rattle.mob_slice.{specs.Cut.{slice_parts}, specs.Look.{IsLookFault}, specs.Sides.{at_ends}, specs.declared.slice.Slice.{Slice}, specs.declared.part.Pair.{Pair}}
+use Rattle.mob_slice.{specs.declared.formula.Formula.TheVariants.{F1}, specs.Parts.{IsPairFit}, specs.Pieces.{AreInside}, specs.Slices.{IsSound, IsRisingInTime}}
+use Rattle.mob_slice.{specs.declared.formula.Formula.{Formula}, proofs.Cuts.{all_both, all_first, all_second}, proofs.Orders.{all_sound}}
+use Rattle.mob_list.{specs.Faults.{OnCause}, specs.declared.fault.Fault.{Fault}, specs.declared.fault.Fault.TheVariants.{Because, NoMemory}}
+use Rattle.mob_lift.specs.Common.{pair_of}
+use Rattle.mob_shares.{specs.Taken.{piece_parts, AreFull, IsShareGiven}, specs.Shares.{share_of, share_span, HoldsShare}, specs.declared.shares.Share.{Share}}
+use Rattle.mob_shares.{specs.declared.shares.Share.TheVariants.{Left, Right, Both}, specs.Cuts.{CutOf, wholes}, proofs.Together.{pair_fit}, proofs.Walked.{AreOf}, proofs.Sides.{wholes_of}}
 
 module _ {C : Type 0} (parts : C → Ratio → Ratio → Ratio → List Ratio) (q : PieceOf (Slice C) (Slice C)) where
   abbrev lefts : List Ratio
@@ -54,12 +32,12 @@ module _ {C : Type 0} (parts : C → Ratio → Ratio → Ratio → List Ratio) (
 -- the result on a piece of the walk is ordered and lies in the piece
 pub share_sound : {C B V : Type 0} (value : C → Ratio → Ratio → Ratio → B) (start end : C → B) (parts : C → Ratio → Ratio → Ratio → List Ratio) (items : V → List (Slice C)) (returns : Pair C C → Result V (Fault Formula) → Type 0) (x : V)
     → ((p : Pair C C) → has_instant p.span ≡ true → IsPairFit start end start end p → returns p (Ok x) → AreFull value start end p.span (items x) × AllFit (piece_parts parts (pair_of p)))
-    → (p : Share C) → has_instant (share_span p) ≡ true → HoldsShare start end (share_of p) → IsShareGiven value start end parts items returns p (Ok x) → IsOrdered start end (items x) × AreInside (share_span p) (items x)
+    → (p : Share C) → has_instant (share_span p) ≡ true → HoldsShare start end (share_of p) → IsShareGiven value start end parts items returns p (Ok x) → IsRisingInTime start end (items x) × AreInside (share_span p) (items x)
 share_sound value start end parts items returns x f (Left o) i h k = (k.0.ordered, k.0.inside)
 share_sound value start end parts items returns x f (Right o) i h k = (k.0.ordered, k.0.inside)
 share_sound value start end parts items returns x f (Both p) i h k = let a = f p i (pair_fit start end p h) k in (a.0.ordered, a.0.inside)
 
-pub wholes_are : {C B : Type 0} (start end : C → B) (cs : List (CutOf (Slice C))) (v : List (Slice C)) → cs ≡ wholes (λ s. s.span) v → IsOrdered start end v → AreOf start end cs
+pub wholes_are : {C B : Type 0} (start end : C → B) (cs : List (CutOf (Slice C))) (v : List (Slice C)) → cs ≡ wholes (λ s. s.span) v → IsRisingInTime start end v → AreOf start end cs
 wholes_are {C = C} start end cs v e h = subst (AreOf start end) (sym e) (wholes_of (λ s. s.span) (IsSound start end) v (each v (all_sound start end v h)))
   where
     each : (v : List (Slice C)) → AllByRecursion (IsSound start end) v → AllByRecursion (λ s. IsSound start end s × (is_inside s.span s.span ≡ true)) v

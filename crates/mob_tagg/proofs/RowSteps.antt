@@ -1,7 +1,6 @@
 -- Kept tuples one by one: those so far have no fault.
-use Rattle.std.specs.Prelude.{Bool, refl, List, [], ◌∷◌, ◌++◌, Option, Some, None, Result}
-use Rattle.std.proofs.Common.{sym, subst, inl, inr, append_assoc, append-nil}
-use Rattle.mob_lifted.proofs.Options.{none_some}
+use Rattle.std.{specs.Prelude.{Bool, refl, List, [], ◌∷◌, ◌++◌, Option, Some, None, Result}, proofs.Common.{sym, subst, inl, inr, append_assoc, append-nil}}
+use Rattle.mob_slice.proofs.Options.{none_some}
 use Rattle.mob_tagg.specs.Rows.{IsTuple, earlier, IsRowFault}
 
 module _ {T I V F : Type 0} (evaluates : T → I → Result V F → Type 0) (adds : I → List V → V → Option F → Type 0) (same_group : T → T → Bool) where

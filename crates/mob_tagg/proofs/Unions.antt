@@ -1,30 +1,14 @@
 -- Two values that change in steps have a union.
 use Rattle.std.specs.Prelude.{◌≡◌, ◌≢◌, ◌⊎◌, ◌↔◌, Bool, true, false, not, cond, IsTrue, refl, ℕ, zero, suc, ◌<◌, List, [], ◌∷◌, ◌++◌, Option, Some, None, option_map}
 use Rattle.std.proofs.Common.{ap, ap₂, sym, ◌∙◌, inl, inr, ⊎_elim, arith, true≢false}
-use Rattle.mob_ratio.specs.Ratio.{Ratio}
-use Rattle.mob_ratio.specs.Order.{same}
-use Rattle.mob_ratio.proofs.Order.{same_exact}
-use Rattle.mob_span.specs.Span.{SpanOf, has, has_instant}
-use Rattle.mob_span.specs.Neighbours.{Meets, joined, is_clear}
-use Rattle.mob_span.specs.Pieces.{PiecesAreClear}
-use Rattle.mob_span.proofs.Insides.{clear_has}
-use Rattle.mob_span.proofs.Shared.{AreAllClear}
+use Rattle.mob_ratio.{specs.Ratio.{Ratio}, specs.Order.{same}, proofs.Order.{same_exact}}
+use Rattle.mob_span.{specs.Span.{SpanOf, has, has_instant}, specs.Neighbours.{Meets, joined, is_clear}, specs.Pieces.{PiecesAreClear}, proofs.Insides.{clear_has}, proofs.Shared.{AreAllClear}}
 use Rattle.mob_span.proofs.SpanLemmas.{some_instant}
-use Rattle.mob_slice.specs.CourseOf.{steady_course}
-use Rattle.mob_slice.specs.Operands.{steady_value, steady_limit}
-use Rattle.mob_slice.specs.Slices.{OfHead, IsClearOf, IsSound, IsOrdered, AreNormal, IsNormal, value_at}
-use Rattle.mob_slice.specs.SteadyLaws.{steady_laws}
-use Rattle.mob_slice.specs.declared.slice.Slice.{Slice}
-use Rattle.mob_slice.specs.declared.steady.Steady.{Steady}
-use Rattle.mob_slice.proofs.LookUps.{value_by}
-use Rattle.mob_slice.proofs.Orders.{ordered, ordered-clear}
-use Rattle.mob_normal.specs.Joined.{IsJoin}
-use Rattle.mob_normal.proofs.Joins.{join_one, join_kept}
-use Rattle.mob_normal.proofs.Runs.{step_normal, step_ordered, step_keeps}
-use Rattle.mob_lifted.proofs.Options.{none_some}
-use Rattle.mob_shares.specs.Cuts.{CutOf, wholes, entry_at}
-use Rattle.mob_shares.specs.Sharing.{ShareOf, next_share, behind, most_shares}
-use Rattle.mob_shares.proofs.Sides.{cut_span, entry_whole, whole_clear}
+use Rattle.mob_slice.{specs.CourseOf.{steady_course}, specs.Operands.{steady_value, steady_limit}, specs.Slices.{OfHead, IsClearOf, IsSound, IsRisingInTime, AreNormal, IsNormal, value_at}}
+use Rattle.mob_slice.{specs.SteadyLaws.{steady_laws}, specs.declared.slice.Slice.{Slice}, specs.declared.steady.Steady.{Steady}, proofs.LookUps.{value_by}, proofs.Orders.{ordered, ordered-clear}}
+use Rattle.mob_slice.proofs.Options.{none_some}
+use Rattle.mob_lift.{specs.Joined.{IsJoin}, proofs.Joins.{join_one, join_kept}, proofs.Runs.{step_normal, step_ordered, step_keeps}}
+use Rattle.mob_shares.{specs.Cuts.{CutOf, wholes, entry_at}, specs.Sharing.{ShareOf, next_share, behind_piece, most_shares}, proofs.Sides.{cut_span, entry_whole, whole_clear}}
 use Rattle.mob_shares.proofs.Steps.{IsStep, next_step, none_next, next_fewer}
 use Rattle.mob_tagg.specs.United.{united_by, AreUnited}
 
@@ -78,7 +62,7 @@ module _ {B : Type 0} (is_same : B → B → Bool) (exact : (a b : B) → IsTrue
       by true e inc = join_meet s r ss sr clear (record { at_one = (same_exact s.span.upper r.span.lower).0 e; in_one = inc }) (is_same s.course.value r.course.value) refl
       by false e inc = join_apart s r ss sr clear (λ m. true≢false (sym ((same_exact s.span.upper r.span.lower).1 m.at_one) ∙ e))
 
-  normal_from : (done : Steps B) (last : Slice (Steady B)) (rest : Steps B) → AreNormal steady_limit steady_limit (goes_on is_same) (done ++ last ∷ []) → IsOrdered steady_limit steady_limit (last ∷ rest)
+  normal_from : (done : Steps B) (last : Slice (Steady B)) (rest : Steps B) → AreNormal steady_limit steady_limit (goes_on is_same) (done ++ last ∷ []) → IsRisingInTime steady_limit steady_limit (last ∷ rest)
       → (u : Steps B) × (u ≢ []) × AreNormal steady_limit steady_limit (goes_on is_same) u × ((t : Ratio) → value_at steady_value u t ≡ value_at steady_value (done ++ last ∷ rest) t)
   normal_from done last [] n o = (done ++ last ∷ [], one_at_end done last, n, λ t. refl)
   normal_from done last (r ∷ rest) n o =
@@ -86,7 +70,7 @@ module _ {B : Type 0} (is_same : B → B → Bool) (exact : (a b : B) → IsTrue
       let u = normal_from (done ++ j.0) j.1 rest (step_normal done j.0 (done ++ j.0) last r j.1 refl n j.2) (step_ordered j.0 rest last r j.1 o j.2) in
       (u.0, u.1, u.2, λ t. u.3 t ∙ step_keeps done j.0 (done ++ j.0) rest last r j.1 refl j.2 t)
 
-  pub normal_steps : (v : Steps B) → v ≢ [] → IsOrdered steady_limit steady_limit v → (u : Steps B) × IsNormal steady_limit steady_limit (goes_on is_same) u × ((t : Ratio) → value_at steady_value u t ≡ value_at steady_value v t)
+  pub normal_steps : (v : Steps B) → v ≢ [] → IsRisingInTime steady_limit steady_limit v → (u : Steps B) × IsNormal steady_limit steady_limit (goes_on is_same) u × ((t : Ratio) → value_at steady_value u t ≡ value_at steady_value v t)
   normal_steps [] n o = absurd (n refl)
   normal_steps (s ∷ v) n o = let u = normal_from [] s v (o.0, tt, tt) o in (u.0, record { some = u.1; chained = u.2 }, u.3)
 
@@ -118,7 +102,7 @@ module _ {B : Type 0} (op : B → B → B) where
   put_gone p None rest t k = refl
   put_gone p (Some x) rest t k = ap (λ b. cond b (Some x) (value_at steady_value rest t)) k
 
-  put_ordered : (p : SpanOf) (o : Option B) (rest : Steps B) → has_instant p ≡ true → AreAfter p rest → IsOrdered steady_limit steady_limit rest → IsOrdered steady_limit steady_limit (put_step p o rest)
+  put_ordered : (p : SpanOf) (o : Option B) (rest : Steps B) → has_instant p ≡ true → AreAfter p rest → IsRisingInTime steady_limit steady_limit rest → IsRisingInTime steady_limit steady_limit (put_step p o rest)
   put_ordered p None rest i h k = k
   put_ordered p (Some x) rest i h k = (record { some = i; level = λ e. refl }, head rest h, k)
     where
@@ -132,7 +116,7 @@ module _ {B : Type 0} (op : B → B → B) where
 
   -- slices in order with the union of two lists at each instant
   pub record IsWalked (v w : List (CutOf (Slice (Steady B)))) (slices : Steps B) : Type 0 where
-    pub in_order : IsOrdered steady_limit steady_limit slices
+    pub in_order : IsRisingInTime steady_limit steady_limit slices
     pub values : (t : Ratio) → value_at steady_value slices t ≡ both_at (entry_at v t) (entry_at w t)
     pub after : (q : SpanOf) → AreAllClear cut_span q v → AreAllClear cut_span q w → AreAfter q slices
 
@@ -144,7 +128,7 @@ module _ {B : Type 0} (op : B → B → B) where
       let none = none_next v w e in
       ([], record { in_order = tt; values = λ t. sym (ap₂ (λ a b. both_at (entry_at a t) (entry_at b t)) none.0 none.1); after = λ q a b. tt })
 
-  walked_more : (v w : List (CutOf (Slice (Steady B)))) (p : ShareOf (Slice (Steady B)) (Slice (Steady B))) → IsStep v w p (behind p.span p.left v) (behind p.span p.right w) → Walked (behind p.span p.left v) (behind p.span p.right w) → Walked v w
+  walked_more : (v w : List (CutOf (Slice (Steady B)))) (p : ShareOf (Slice (Steady B)) (Slice (Steady B))) → IsStep v w p (behind_piece p.span p.left v) (behind_piece p.span p.right w) → Walked (behind_piece p.span p.left v) (behind_piece p.span p.right w) → Walked v w
   walked_more v w p step (slices, h) = (
     put_step p.span (both_at p.left p.right) slices,
     record {
@@ -162,7 +146,7 @@ module _ {B : Type 0} (op : B → B → B) where
       value t false i = put_gone p.span (both_at p.left p.right) slices t i ∙ h.values t ∙ ap₂ both_at (step.gone t i).0 (step.gone t i).1
 
   walked_by : (v w : List (CutOf (Slice (Steady B)))) → PiecesAreClear cut_span v → PiecesAreClear cut_span w → (o : Option (ShareOf (Slice (Steady B)) (Slice (Steady B)))) → next_share v w ≡ o
-      → ((p : ShareOf (Slice (Steady B)) (Slice (Steady B))) → next_share v w ≡ Some p → Walked (behind p.span p.left v) (behind p.span p.right w)) → Walked v w
+      → ((p : ShareOf (Slice (Steady B)) (Slice (Steady B))) → next_share v w ≡ Some p → Walked (behind_piece p.span p.left v) (behind_piece p.span p.right w)) → Walked v w
   walked_by v w h k None e f = walked_none v w e
   walked_by v w h k (Some p) e f = walked_more v w p (next_step v w h k p e) (f p e)
 
@@ -171,7 +155,7 @@ module _ {B : Type 0} (op : B → B → B) where
   walked (suc n) v w lt h k = walked_by v w h k (next_share v w) refl (λ p e.
       let step = next_step v w h k p e in
       let fewer = next_fewer v w p e in
-      walked n (behind p.span p.left v) (behind p.span p.right w) (omega (arith, lt, fewer)) step.clear.0 step.clear.1)
+      walked n (behind_piece p.span p.left v) (behind_piece p.span p.right w) (omega (arith, lt, fewer)) step.clear.0 step.clear.1)
 
   below : (n : ℕ) → n < suc n
   below n = omega arith
@@ -180,7 +164,7 @@ module _ {B : Type 0} (op : B → B → B) where
   whole_value v t = ap (option_map (λ s. s.course.value)) (entry_whole (λ s. s.span) v t) ∙ sym (value_by steady_value v t)
 
   -- two lists of steps in order have a union in order
-  pub union_of : (v w : Steps B) → IsOrdered steady_limit steady_limit v → IsOrdered steady_limit steady_limit w → (u : Steps B) × IsOrdered steady_limit steady_limit u × AreUnited steady_value op v w u
+  pub union_of : (v w : Steps B) → IsRisingInTime steady_limit steady_limit v → IsRisingInTime steady_limit steady_limit w → (u : Steps B) × IsRisingInTime steady_limit steady_limit u × AreUnited steady_value op v w u
   union_of v w h k =
       let cs = wholes (λ s. s.span) v in
       let ds = wholes (λ s. s.span) w in
@@ -191,7 +175,7 @@ module _ {B : Type 0} (op : B → B → B) where
   there_is x None e = none_some x e
   there_is x (Some y) e = none_some (op x y) e
 
-  union_some : (v w u : Steps B) → v ≢ [] → IsOrdered steady_limit steady_limit v → AreUnited steady_value op v w u → u ≢ []
+  union_some : (v w u : Steps B) → v ≢ [] → IsRisingInTime steady_limit steady_limit v → AreUnited steady_value op v w u → u ≢ []
   union_some [] w u n o h e = n refl
   union_some (s ∷ v) w u n o h e =
       let i = some_instant s.span o.0.some in

@@ -1,39 +1,19 @@
 -- The union of two values.
-use Rattle.std.specs.Prelude.{◌≡◌, ◌≢◌, ◌⊎◌, Bool, true, false, cond, refl, List, [], ◌∷◌, ◌++◌, map, Option, Some, None, option_map, MatchOption, Result, Ok, Err, IfOk, IfErr, pos, ℕ, ◌≤◌, length, drop}
-use Rattle.std.specs.List.{AllByRecursion, flat_map}
-use Rattle.std.specs.Option.{option_zip}
-use Rattle.std.proofs.Common.{ap, sym, ◌∙◌, subst, inl, inr, ⊎_elim, append-nil, arith}
+use Rattle.std.specs.Prelude.{◌≡◌, ◌≢◌, ◌⊎◌, Bool, true, false, cond, refl, List, [], ◌∷◌, ◌++◌, map, Option, Some, None, option_map, MatchOption, Result, Ok, Err, IfOk, IfErr, pos, ℕ, ◌≤◌, length}
+use Rattle.std.{specs.Prelude.{drop}, specs.List.{AllByRecursion, flat_map}, specs.Option.{option_zip}, proofs.Common.{ap, sym, ◌∙◌, subst, inl, inr, ⊎_elim, append-nil, arith}}
+use Rattle.std.proofs.lemmas.List.{drop_all}
 use Rattle.mob_ratio.specs.Ratio.{Ratio, whole}
 use Rattle.mob_frac.specs.Formula.{AllFit}
-use Rattle.mob_span.specs.Span.{SpanOf, has, has_instant}
-use Rattle.mob_span.specs.Meets.{PieceOf, shared_pieces}
-use Rattle.mob_span.specs.Pieces.{piece_at}
-use Rattle.mob_span.proofs.MeetLaws.{meets_at, sides}
-use Rattle.mob_span.proofs.SpanLemmas.{some_instant}
-use Rattle.mob_slice.specs.Cut.{slice_value}
-use Rattle.mob_list.specs.Faults.{OnCause}
-use Rattle.mob_slice.specs.Entries.{Entry, IsFirst, IsJudged}
-use Rattle.mob_slice.specs.Parts.{IsPairFit}
-use Rattle.mob_slice.specs.Sides.{SideOf, pieces, Slices, side_parts, at_ends}
-use Rattle.mob_lift.specs.Given.{IsGiven, on_sides}
-use Rattle.mob_slice.specs.Slices.{IsOrdered, IsClearOf, OfHead, value_at}
-use Rattle.mob_slice.specs.declared.slice.Slice.{Slice}
-use Rattle.mob_slice.specs.declared.part.Pair.{Pair}
-use Rattle.mob_slice.specs.declared.formula.Formula.{Formula}
-use Rattle.mob_slice.specs.declared.formula.Formula.TheVariants.{F1}
-use Rattle.mob_list.specs.declared.fault.Fault.{Fault}
-use Rattle.mob_list.specs.declared.fault.Fault.TheVariants.{Because, NoMemory}
-use Rattle.mob_slice.proofs.LookUps.{value_by}
-use Rattle.mob_lifted.specs.Piecewise.{IsFirstFailure}
-use Rattle.mob_lifted.proofs.Firsts.{first_joined, first_front}
-use Rattle.mob_lifted.proofs.Options.{none_some, same_some}
-use Rattle.mob_sync.specs.Common.{pair_of}
-use Rattle.mob_shares.specs.Taken.{one_of, piece_parts, AreFull, IsAnswered, IsRefused, IsTakenAt, AreTaken, IsFirstRefused}
-use Rattle.std.proofs.lemmas.List.{drop_all}
+use Rattle.mob_span.{specs.Span.{SpanOf, has, has_instant}, specs.Meets.{PieceOf, shared_pieces}, specs.Pieces.{piece_at}, proofs.MeetLaws.{meets_at, sides}, proofs.SpanLemmas.{some_instant}}
 use Rattle.mob_span.proofs.Insides.{inside_self}
-use Rattle.mob_slice.specs.Operands.{steady_value, steady_limit, steady_parts}
-use Rattle.mob_slice.specs.declared.steady.Steady.{Steady}
-use Rattle.mob_tagg.specs.United.{united_by, AreUnited, sides_of, IsChecked, one_slice, IsUnitedAt}
+use Rattle.mob_slice.{specs.Cut.{slice_value}, specs.Entries.{Entry, IsFirst, IsJudged}, specs.Parts.{IsPairFit}, specs.Sides.{SideOf, pieces, Slices, side_parts, at_ends}}
+use Rattle.mob_slice.{specs.Slices.{IsRisingInTime, IsClearOf, OfHead, value_at}, specs.declared.slice.Slice.{Slice}, specs.declared.part.Pair.{Pair}, specs.declared.formula.Formula.{Formula}}
+use Rattle.mob_slice.{specs.declared.formula.Formula.TheVariants.{F1}, specs.Piecewise.{IsFirstFailure}, specs.Operands.{steady_value, steady_limit, steady_parts}}
+use Rattle.mob_slice.{specs.declared.steady.Steady.{Steady}, proofs.LookUps.{value_by}, proofs.JoinedFirsts.{first_joined, first_front}, proofs.Options.{none_some, same_some}}
+use Rattle.mob_list.{specs.Faults.{OnCause}, specs.declared.fault.Fault.{Fault}, specs.declared.fault.Fault.TheVariants.{Because, NoMemory}}
+use Rattle.mob_lift.{specs.Given.{IsGiven, on_sides}, specs.Common.{pair_of}}
+use Rattle.mob_shares.specs.Taken.{one_of, piece_parts, AreFull, IsAnswered, IsRefused, IsTakenAt, AreTaken, IsFirstRefused}
+use Rattle.mob_tagg.specs.United.{united_by, AreUnited, united_sides, IsChecked, one_slice, IsUnitedAt}
 
 pub part_here : {P : Type 0} (span : P → SpanOf) (ps : List P) (t : Ratio) (q : P) → piece_at span ps t ≡ Some q → has (span q) t ≡ true
 part_here span [] t q e = none_some q e
@@ -45,7 +25,7 @@ part_here {P} span (p ∷ ps) t q e = by (has (span p) t) refl e (part_here span
 
 module _ {C B V : Type 0} (value : C → Ratio → Ratio → Ratio → B) (start end : C → B) (parts : C → Ratio → Ratio → Ratio → List Ratio) (items : V → List (Slice C)) (returns : Pair C C → Result V (Fault Formula) → Type 0) where
   -- slices merged from a value are not the empty list
-  pub taken_some : ((q : PieceOf (Slice C) (Slice C)) (x : V) → IsAnswered start end returns q (Ok x) → (t : Ratio) → has q.span t ≡ true → value_at value (items x) t ≢ None) → (v w slices : List (Slice C)) → v ≢ [] → IsOrdered start end v → AreTaken value start end parts items returns v w slices → slices ≢ []
+  pub taken_some : ((q : PieceOf (Slice C) (Slice C)) (x : V) → IsAnswered start end returns q (Ok x) → (t : Ratio) → has q.span t ≡ true → value_at value (items x) t ≢ None) → (v w slices : List (Slice C)) → v ≢ [] → IsRisingInTime start end v → AreTaken value start end parts items returns v w slices → slices ≢ []
   taken_some full [] w slices n o h e = n refl
   taken_some full (s ∷ v) w slices n o h e =
       let i = some_instant s.span o.0.some in
@@ -85,15 +65,15 @@ module _ {C B V : Type 0} (value : C → Ratio → Ratio → Ratio → B) (start
 
   -- the first entry that does not fit, of the entries of all shared pieces
   module _ (entries : PieceOf (SideOf C B) (SideOf C B) → List Entry)
-      (good : (q : PieceOf (Slice C) (Slice C)) (x : V) → IsAnswered start end returns q (Ok x) → IsFirst (entries (sides_of q)) None)
-      (bad : (q : PieceOf (Slice C) (Slice C)) (f : Formula) → IsRefused start end parts returns f q → IsFirst (entries (sides_of q)) (Some f)) where
-    all_fit : (qs : List (PieceOf (Slice C) (Slice C))) → AllByRecursion (λ q. AllFit (piece_parts parts q) × ((x : V) × IsAnswered start end returns q (Ok x))) qs → IsFirst (flat_map entries (map sides_of qs)) None
+      (good : (q : PieceOf (Slice C) (Slice C)) (x : V) → IsAnswered start end returns q (Ok x) → IsFirst (entries (united_sides q)) None)
+      (bad : (q : PieceOf (Slice C) (Slice C)) (f : Formula) → IsRefused start end parts returns f q → IsFirst (entries (united_sides q)) (Some f)) where
+    all_fit : (qs : List (PieceOf (Slice C) (Slice C))) → AllByRecursion (λ q. AllFit (piece_parts parts q) × ((x : V) × IsAnswered start end returns q (Ok x))) qs → IsFirst (flat_map entries (map united_sides qs)) None
     all_fit [] h = refl
-    all_fit (q ∷ qs) h = first_joined (entries (sides_of q)) (flat_map entries (map sides_of qs)) None (good q h.0.1.0 h.0.1.1) (all_fit qs h.1)
+    all_fit (q ∷ qs) h = first_joined (entries (united_sides q)) (flat_map entries (map united_sides qs)) None (good q h.0.1.0 h.0.1.1) (all_fit qs h.1)
 
-    first_fails : (f : Formula) (qs : List (PieceOf (Slice C) (Slice C))) → IsFirstFailure {V = V} (λ q x. AllFit (piece_parts parts q) × IsAnswered start end returns q (Ok x)) (IsRefused start end parts returns f) qs → IsFirst (flat_map entries (map sides_of qs)) (Some f)
+    first_fails : (f : Formula) (qs : List (PieceOf (Slice C) (Slice C))) → IsFirstFailure {V = V} (λ q x. AllFit (piece_parts parts q) × IsAnswered start end returns q (Ok x)) (IsRefused start end parts returns f) qs → IsFirst (flat_map entries (map united_sides qs)) (Some f)
     first_fails f [] h = absurd h
-    first_fails f (q ∷ qs) h = ⊎_elim (λ k. first_front (entries (sides_of q)) (flat_map entries (map sides_of qs)) f (bad q f k)) (λ k. first_joined (entries (sides_of q)) (flat_map entries (map sides_of qs)) (Some f) (good q k.0 k.1.1) (first_fails f qs k.2)) h
+    first_fails f (q ∷ qs) h = ⊎_elim (λ k. first_front (entries (united_sides q)) (flat_map entries (map united_sides qs)) f (bad q f k)) (λ k. first_joined (entries (united_sides q)) (flat_map entries (map united_sides qs)) (Some f) (good q k.0 k.1.1) (first_fails f qs k.2)) h
 
     pub judged_by : {W : Type 0} (list : W → List (Slice C)) (v w : List (Slice C)) (r : Result W (Fault Formula)) → IfOk r (λ all. AreTaken value start end parts items returns v w (list all)) → ((f : Formula) → r ≡ Err (Because f) → IsFirstRefused start end parts returns v w f) → IsJudged (flat_map entries (pieces (Slices v) (Slices w))) r
     judged_by list v w (Ok all) h k = all_fit (shared_pieces (λ s. s.span) (λ s. s.span) v w) h.answered
@@ -143,28 +123,28 @@ module _ {C B V : Type 0} (value : C → Ratio → Ratio → Ratio → B) (start
   abbrev pub with_cuts : PieceOf (SideOf C B) (SideOf C B) → List Entry
   with_cuts q = record { formula = F1; parts = at_ends (side_parts parts q.left) q.span ++ at_ends (side_parts parts q.right) q.span } ∷ others q
 
-  module _ (gives : (p : Pair C C) (r : Result V (Fault Formula)) → returns p r → IsGiven value start end items (on_sides value value op (sides_of (pair_of p))) p.span (with_cuts (sides_of (pair_of p))) r) where
+  module _ (gives : (p : Pair C C) (r : Result V (Fault Formula)) → returns p r → IsGiven value start end items (on_sides value value op (united_sides (pair_of p))) p.span (with_cuts (united_sides (pair_of p))) r) where
     pub given_united : (v w : List (Slice C)) (t : Ratio) (o : Option B) → IsTakenAt value start end items returns v w t o → o ≡ united_by op (value_at value v t) (value_at value w t)
     given_united v w t o h = united_at value start end parts items returns op (λ q x a t k. subst (λ z. value_at value (items x) t ≡ Some (op (slice_value value z.left t) (slice_value value z.right t))) a.1 ((gives a.0 (Ok x) a.3).0.values t (subst (λ z. has z.span t ≡ true) (sym a.1) k))) v w t o h
 
     pub given_judged : {W : Type 0} (list : W → List (Slice C)) (v w : List (Slice C)) (r : Result W (Fault Formula)) → IfOk r (λ all. AreTaken value start end parts items returns v w (list all)) → ((f : Formula) → r ≡ Err (Because f) → IsFirstRefused start end parts returns v w f) → IsJudged (flat_map with_cuts (pieces (Slices v) (Slices w))) r
     given_judged list v w r h k = judged_by value start end parts items returns with_cuts
-        (λ q x a. subst (λ z. IsFirst (with_cuts (sides_of z)) None) a.1 (gives a.0 (Ok x) a.3).1)
-        (λ q f m. ⊎_elim (λ n. inr (n.1, ap Some n.0)) (λ n. subst (λ z. IsFirst (with_cuts (sides_of z)) (Some f)) n.1.1 (gives n.1.0 (Err (Because f)) n.1.3)) m)
+        (λ q x a. subst (λ z. IsFirst (with_cuts (united_sides z)) None) a.1 (gives a.0 (Ok x) a.3).1)
+        (λ q f m. ⊎_elim (λ n. inr (n.1, ap Some n.0)) (λ n. subst (λ z. IsFirst (with_cuts (united_sides z)) (Some f)) n.1.1 (gives n.1.0 (Err (Because f)) n.1.3)) m)
         list v w r h k
 
     -- the result of such a call fills the piece, and it says whether F1 fits
     pub given_full : (p : Pair C C) (x : V) → returns p (Ok x) → AreFull value start end p.span (items x) × AllFit (piece_parts parts (pair_of p))
     given_full p x h =
         let g = gives p (Ok x) h in
-        (record { ordered = g.0.ordered; inside = g.0.inside; full = λ t k e. none_some (on_sides value value op (sides_of (pair_of p)) t) (sym e ∙ g.0.values t k) }, ⊎_elim (λ m. m.0) (λ m. none_some F1 m.1) g.1)
+        (record { ordered = g.0.ordered; inside = g.0.inside; full = λ t k e. none_some (on_sides value value op (united_sides (pair_of p)) t) (sym e ∙ g.0.values t k) }, ⊎_elim (λ m. m.0) (λ m. none_some F1 m.1) g.1)
 
     pub given_passes : (p : Pair C C) (f : Formula) → returns p (Err (Because f)) → ((f ≡ F1) × (¬ AllFit (piece_parts parts (pair_of p)))) ⊎ AllFit (piece_parts parts (pair_of p))
     given_passes p f h = ⊎_elim (λ m. inr m.0) (λ m. inl (same_some m.1, m.0)) (gives p (Err (Because f)) h)
 
 -- the same for two whole values
 pub given_value : {C B V : Type 0} (value : C → Ratio → Ratio → Ratio → B) (start end : C → B) (parts : C → Ratio → Ratio → Ratio → List Ratio) (items : V → List (Slice C)) (returns : Pair C C → Result V (Fault Formula) → Type 0) (v w slices r : List (Slice C)) → AreTaken value start end parts items returns v w slices → ((t : Ratio) → value_at value r t ≡ value_at value slices t)
-    → (op : B → B → B) (others : PieceOf (SideOf C B) (SideOf C B) → List Entry) → ((p : Pair C C) (r : Result V (Fault Formula)) → returns p r → IsGiven value start end items (on_sides value value op (sides_of (pair_of p))) p.span (with_cuts value start end parts items returns op others (sides_of (pair_of p))) r) → AreUnited value op v w r
+    → (op : B → B → B) (others : PieceOf (SideOf C B) (SideOf C B) → List Entry) → ((p : Pair C C) (r : Result V (Fault Formula)) → returns p r → IsGiven value start end items (on_sides value value op (united_sides (pair_of p))) p.span (with_cuts value start end parts items returns op others (united_sides (pair_of p))) r) → AreUnited value op v w r
 given_value value start end parts items returns v w slices r h e op others gives t = e t ∙ given_united value start end parts items returns op others gives v w t (value_at value slices t) (h.values t)
 
 -- if calls return a step on each shared piece, from the values there
@@ -188,7 +168,7 @@ module _ {C B : Type 0} (start end : C → B) where
   one_head s [] h = tt
   one_head s (r ∷ v) h = h
 
-  pub ones_ordered : (v : List (Slice C)) → IsOrdered start end v → IsOrdered steady_limit steady_limit (map one_slice v)
+  pub ones_ordered : (v : List (Slice C)) → IsRisingInTime start end v → IsRisingInTime steady_limit steady_limit (map one_slice v)
   ones_ordered [] h = tt
   ones_ordered (s ∷ v) h = (record { some = h.0.some; level = λ n. refl }, one_head s v h.1, ones_ordered v h.2)
 

@@ -1,10 +1,8 @@
 -- The aggregate of a list of temporal values, instant by instant.
-use Rattle.std.specs.Prelude.{◌≡◌, Bool, pos, List, [], ◌∷◌, ◌++◌, length, Option, Some, None, MatchOption}
-use Rattle.std.specs.List.{list_any, list_all}
+use Rattle.std.{specs.Prelude.{◌≡◌, Bool, pos, List, [], ◌∷◌, ◌++◌, length, Option, Some, None, MatchOption}, specs.List.{list_any, list_all}}
 use Rattle.mob_ratio.specs.Ratio.{Ratio, whole, ◌+ℚ◌}
-use Rattle.mob_slice.specs.Slices.{value_at, IsNormal}
+use Rattle.mob_slice.{specs.Slices.{value_at, IsNormal}, specs.declared.slice.Slice.{Slice}}
 use Rattle.mob_tagg.specs.United.{AreUnited}
-use Rattle.mob_slice.specs.declared.slice.Slice.{Slice}
 
 -- the values of a list of options that exist, in order
 abbrev pub put_there : {B : Type 0} → Option B → List B → List B

@@ -1,6 +1,5 @@
 -- The first fault of a grouped query on the tuples that it keeps.
-use Rattle.std.specs.Prelude.{◌≡◌, ◌⊎◌, Bool, List, [], ◌∷◌, ◌++◌, Option, Some, None, filter, Result, Ok, Err}
-use Rattle.std.specs.List.{AllZip}
+use Rattle.std.{specs.Prelude.{◌≡◌, ◌⊎◌, Bool, List, [], ◌∷◌, ◌++◌, Option, Some, None, filter, Result, Ok, Err}, specs.List.{AllZip}}
 
 -- those of these tuples that are in the group of t; `same_group` says whether two tuples are in the
 -- same group

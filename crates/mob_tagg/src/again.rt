@@ -10,9 +10,9 @@ ghost use Rattle.mob_tagg.specs.Sums.{IsSumOf};
 
 use mob_arith::Summed;
 use mob_frac::Frac;
+use mob_lift::walks::{Found, limit_found};
 use mob_list::fault::Fault;
 use mob_slice::{Course, Formula, Slice, limit};
-use mob_sync::{Found, limit_found};
 use std::alloc::Global;
 use std::cell::Cell;
 use std::marker::Model;

@@ -8,18 +8,18 @@ ghost use Rattle.mob_frac.specs.Formula.{AllFit};
 ghost use Rattle.mob_slice.specs.Cut.{slice_value};
 ghost use Rattle.mob_list.specs.Faults.{OnCause};
 ghost use Rattle.mob_slice.specs.Parts.{IsOneFit, IsPairFit};
-ghost use Rattle.mob_slice.specs.Slices.{value_at, IsOrdered};
+ghost use Rattle.mob_slice.specs.Slices.{value_at, IsRisingInTime};
 ghost use Rattle.mob_slice.specs.declared.formula.Formula.{Formula};
 ghost use Rattle.mob_slice.specs.declared.formula.Formula.TheVariants.{F1};
 ghost use Rattle.mob_lift.specs.Given.{IsGiven};
-ghost use Rattle.mob_sync.specs.Common.{pair_of};
+ghost use Rattle.mob_lift.specs.Common.{pair_of};
 ghost use Rattle.mob_shares.specs.Shares.{share_of, HoldsShare};
 ghost use Rattle.mob_tagg.specs.United.{IsChecked, AnswersFull, AnswersFullWhereFit, JudgesEnds};
 ghost use Rattle.mob_shares.specs.Taken.{entry_alone, IsShareGiven, piece_parts, AreTaken, IsFirstRefused};
 
+use mob_lift::normal::normal;
 use mob_lift::{lift, lift_each, listed};
 use mob_list::fault::Fault;
-use mob_normal::normal;
 use mob_shares::{Share, Shares};
 use mob_slice::{Course, Formula, Moving, One, Pair, Slice, cut};
 use std::alloc::Global;
@@ -112,7 +112,7 @@ where
     requires callable { (p : _) → IsPairFit C.start_of C.end_of C.start_of C.end_of p.now → F.pre both p }
     requires sound { AnswersFullWhereFit C.value_of C.start_of C.end_of C.parts_of (λ v. v.items) (FnReturnsAt F.Fn both) }
     requires passes { JudgesEnds C.start_of C.end_of C.parts_of (FnReturnsAt F.Fn both) }
-    ensures ordered { IfOk result (λ all. IsOrdered C.start_of C.end_of all.items) }
+    ensures ordered { IfOk result (λ all. IsRisingInTime C.start_of C.end_of all.items) }
     ensures some { IfOk result (λ all. all.items ≢ []) }
     ensures taken { IfOk result (λ all. AreTaken C.value_of C.start_of C.end_of C.parts_of (λ v. v.items) (FnReturnsAt F.Fn both) a.now b.now all.items) }
     ensures passed { (formula : Formula) → result ≡ Err (Fault.Because formula) → IsFirstRefused C.start_of C.end_of C.parts_of (FnReturnsAt F.Fn both) a.now b.now formula }
@@ -192,7 +192,7 @@ where
     requires callable { (p : _) → IsPairFit C.start_of C.end_of C.start_of C.end_of p.now → F.pre both p }
     requires sound { AnswersFullWhereFit C.value_of C.start_of C.end_of C.parts_of (λ s. s ∷ []) (FnReturnsAt F.Fn both) }
     requires passes { JudgesEnds C.start_of C.end_of C.parts_of (FnReturnsAt F.Fn both) }
-    ensures ordered { IfOk result (λ all. IsOrdered C.start_of C.end_of all.items) }
+    ensures ordered { IfOk result (λ all. IsRisingInTime C.start_of C.end_of all.items) }
     ensures some { IfOk result (λ all. all.items ≢ []) }
     ensures taken { IfOk result (λ all. AreTaken C.value_of C.start_of C.end_of C.parts_of (λ s. s ∷ []) (FnReturnsAt F.Fn both) a.now b.now all.items) }
     ensures passed { (formula : Formula) → result ≡ Err (Fault.Because formula) → IsFirstRefused C.start_of C.end_of C.parts_of (FnReturnsAt F.Fn both) a.now b.now formula }
@@ -271,7 +271,7 @@ pub fn normal_of<C: Course + Drop>(
 ) -> Result<Moving<C>, Fault<Formula>>
 where
     C::Base: Drop,
-    requires ordered { IsOrdered C.start_of C.end_of slices.items }
+    requires ordered { IsRisingInTime C.start_of C.end_of slices.items }
     requires some { slices.items ≢ [] }
     ensures same { IfOk result (λ r. (t : Ratio) → value_at C.value_of r t ≡ value_at C.value_of slices.items t) }
     ensures memory { IfErr result (λ e. e ≡ Fault.NoMemory) }

@@ -1,40 +1,25 @@
 -- Aggregates of values with one more.
 use Rattle.std.specs.Prelude.{◌≡◌, Bool, true, false, cond, not, ℕ, ◌+◌, pos, refl, List, [], ◌∷◌, ◌++◌, length, Option, Some, None, option_map, Result, Ok, Err, IfOk, IfErr, MatchOption}
 use Rattle.std.proofs.Common.{ap, sym, ◌∙◌, subst, inl, arith, append-nil}
-use Rattle.mob_ratio.specs.Ratio.{Ratio, whole, ◌+ℚ◌}
-use Rattle.mob_ratio.specs.Order.{same}
-use Rattle.mob_ratio.proofs.Clear.{clear1, cleared}
-use Rattle.mob_ratio.proofs.IntRing.{linear}
-use Rattle.mob_ratio.proofs.Rings.{whole-add}
-use Rattle.mob_arith.specs.Operations.{sum_of, both_hold, one_holds}
-use Rattle.mob_slice.specs.CourseOf.{CourseOf, steady_course, line_course}
-use Rattle.mob_slice.specs.Lines.{line_value_of}
-use Rattle.mob_slice.specs.Operands.{steady_value, steady_limit}
-use Rattle.mob_slice.specs.declared.line.Line.{Line}
-use Rattle.mob_list.specs.Faults.{OnCause}
-use Rattle.mob_slice.specs.Entries.{Entry, IsFirst}
-use Rattle.mob_slice.specs.Slices.{value_at}
-use Rattle.mob_slice.specs.declared.slice.Slice.{Slice}
-use Rattle.mob_slice.specs.declared.formula.Formula.{Formula}
-use Rattle.mob_list.specs.declared.fault.Fault.{Fault}
-use Rattle.mob_list.specs.declared.fault.Fault.TheVariants.{Because, NoMemory}
-use Rattle.mob_ast.specs.declared.types.SqlType.{SqlType}
-use Rattle.mob_ast.specs.declared.types.SqlType.TheVariants as sql
-use Rattle.mob_operators.specs.declared.aggregate.AggKind.{AggKind}
-use Rattle.mob_operators.specs.declared.aggregate.AggKind.TheVariants.{CountAll, Count, Sum, TCount, TSum, TAnd, TOr}
-use Rattle.mob_value.specs.declared.value.Value.{Value}
-use Rattle.mob_value.specs.declared.value.Value.TheVariants.{Null, Number, MovingBool, MovingInt, MovingFrac}
-use Rattle.mob_arith.specs.declared.sql.calculation.Calculation.TheVariants.{Sum as Added}
-use Rattle.mob_arith.specs.Sql.Entries.{arithmetic_entries, parts_on}
+use Rattle.mob_ratio.{specs.Ratio.{Ratio, whole, ◌+ℚ◌}, specs.Order.{same}, proofs.Clear.{clear1, cleared}, proofs.IntRing.{linear}, proofs.Rings.{whole-add}}
+use Rattle.mob_arith.{specs.Operations.{sum_of, both_hold, one_holds}, specs.declared.sql.calculation.Calculation.TheVariants.{Sum as Added}, specs.Sql.Entries.{arithmetic_entries, parts_on}}
 use Rattle.mob_arith.specs.Sql.Calculations.{parts_by}
+use Rattle.mob_slice.{specs.CourseOf.{CourseOf, steady_course, line_course}, specs.Lines.{line_value_of}, specs.Operands.{steady_value, steady_limit}, specs.declared.line.Line.{Line}}
+use Rattle.mob_slice.{specs.Entries.{Entry, IsFirst}, specs.Slices.{value_at}, specs.declared.slice.Slice.{Slice}, specs.declared.formula.Formula.{Formula}}
+use Rattle.mob_list.{specs.Faults.{OnCause}, specs.declared.fault.Fault.{Fault}, specs.declared.fault.Fault.TheVariants.{Because, NoMemory}}
+use Rattle.mob_ast.specs.declared.types.SqlType.{SqlType}
+use Rattle.mob_operators.{specs.declared.aggregate.AggKind.{AggKind}, specs.declared.aggregate.AggKind.TheVariants.{CountAll, Count, Sum, TCount, TSum, TAnd, TOr}}
+use Rattle.mob_value.{specs.declared.value.Value.{Value}, specs.declared.value.Value.TheVariants.{Null, Number, MovingBool, MovingInt, MovingFrac}}
+use Rattle.mob_value.specs.Moving.{AreNormalBy, IsFunction, SteadySlices, or_nothing}
 use Rattle.mob_frac.specs.Formula.{AllFit}
 use Rattle.mob_span.specs.Flags.{same_bool}
-use Rattle.mob_value.specs.declared.value.Value.TheVariants as value
-use Rattle.mob_value.specs.Moving.{AreNormalBy, IsFunction, StepSlices, or_nothing}
 use Rattle.mob_ordinary.specs.Ordinary.{is_null}
 use Rattle.mob_tagg.specs.Aggregates.{put_there, made_of, IsAggregate, JoinsBy, total, count, all_hold, some_holds}
 use Rattle.mob_tagg.proofs.Joining.{total_joins, all_joins, some_joins, aggregate_one, aggregate_both, aggregate_same, aggregate_first}
-use Rattle.mob_tail.specs.Aggregated.{counted, known_of, number_in, numbers_of, IsOverTime, IsAggregated, leaves_out, AddingPasses, IsUnion, IsAggregateWith, one_where, one_there, slices_there, step_there, line_there, truth_there, steps_of, lines_of, truths_of}
+use Rattle.mob_tail.specs.Aggregated.{counted_values, known_of, number_of_value, numbers_of, IsOverTime, IsAggregated, leaves_out, AddingPasses, IsUnion, IsAggregateWith, one_where, one_there}
+use Rattle.mob_tail.specs.Aggregated.{slices_there, step_there, line_there, truth_there, steps_of, aggregate_lines, truths_of}
+use Rattle.mob_ast.specs.declared.types.SqlType.TheVariants as sql
+use Rattle.mob_value.specs.declared.value.Value.TheVariants as value
 
 -- ---- over time
 
@@ -84,7 +69,7 @@ known_less (w ∷ vs) v e = by (is_null w) (known_less vs v e)
 
 numbers_both : (vs ws : List Value) → numbers_of (vs ++ ws) ≡ numbers_of vs ++ numbers_of ws
 numbers_both [] ws = refl
-numbers_both (v ∷ vs) ws = by (number_in v) (numbers_both vs ws)
+numbers_both (v ∷ vs) ws = by (number_of_value v) (numbers_both vs ws)
   where
     by : (o : Option Ratio) → numbers_of (vs ++ ws) ≡ numbers_of vs ++ numbers_of ws → put_there o (numbers_of (vs ++ ws)) ≡ put_there o (numbers_of vs) ++ numbers_of ws
     by None e = e
@@ -111,43 +96,43 @@ no_sum sql.TPoint = refl
 
 -- ---- counts and sums
 
-number_is : (v : Value) (m : Ratio) (n : ℕ) → number_in v ≡ Some m → v ≡ counted n → m ≡ whole (pos n)
-number_is v m n h e = let k : Some (whole (pos n)) ≡ Some m = ap number_in (sym e) ∙ h in cc
+number_is : (v : Value) (m : Ratio) (n : ℕ) → number_of_value v ≡ Some m → v ≡ counted_values n → m ≡ whole (pos n)
+number_is v m n h e = let k : Some (whole (pos n)) ≡ Some m = ap number_of_value (sym e) ∙ h in cc
 
-no_number : {R : Type 0} (v : Value) (n : ℕ) → number_in v ≡ None → v ≡ counted n → R
-no_number v n h e = let k : Some (whole (pos n)) ≡ None = ap number_in (sym e) ∙ h in cc
+no_number : {R : Type 0} (v : Value) (n : ℕ) → number_of_value v ≡ None → v ≡ counted_values n → R
+no_number v n h e = let k : Some (whole (pos n)) ≡ None = ap number_of_value (sym e) ∙ h in cc
 
-count_same : (n : ℕ) (m : Ratio) → m ≡ whole (pos n) → Number (sum_of m (whole (pos 1))) ≡ counted (n + 1)
+count_same : (n : ℕ) (m : Ratio) → m ≡ whole (pos n) → Number (sum_of m (whole (pos 1))) ≡ counted_values (n + 1)
 count_same n m e = ap (λ z. Number (z +ℚ whole (pos 1))) e ∙ ap Number (counted_more n)
 
-entries_same : (n : ℕ) (m : Ratio) (before : Value) (f : Option Formula) → m ≡ whole (pos n) → before ≡ counted n → IsFirst (arithmetic_entries Added sql.Numeric (Number m) (Number (whole (pos 1)))) f → IsFirst (arithmetic_entries Added sql.Numeric before (counted 1)) f
-entries_same n m before f e h k = subst (λ z. IsFirst (arithmetic_entries Added sql.Numeric z (counted 1)) f) (ap Number e ∙ sym h) k
+entries_same : (n : ℕ) (m : Ratio) (before : Value) (f : Option Formula) → m ≡ whole (pos n) → before ≡ counted_values n → IsFirst (arithmetic_entries Added sql.Numeric (Number m) (Number (whole (pos 1)))) f → IsFirst (arithmetic_entries Added sql.Numeric before (counted_values 1)) f
+entries_same n m before f e h k = subst (λ z. IsFirst (arithmetic_entries Added sql.Numeric z (counted_values 1)) f) (ap Number e ∙ sym h) k
 
 -- a count without a number is impossible
-pub no_count : (ty : SqlType) (before v r : Value) → number_in before ≡ None → IsAggregateWith false CountAll ty before v (Ok r)
+pub no_count : (ty : SqlType) (before v r : Value) → number_of_value before ≡ None → IsAggregateWith false CountAll ty before v (Ok r)
 no_count ty before v r h = λ vs e. no_number before (length vs) h e
 
-pub no_count_known : (ty : SqlType) (before v r : Value) → number_in before ≡ None → IsAggregateWith false Count ty before v (Ok r)
+pub no_count_known : (ty : SqlType) (before v r : Value) → number_of_value before ≡ None → IsAggregateWith false Count ty before v (Ok r)
 no_count_known ty before v r h = λ vs e. no_number before (length (known_of vs)) h e
 
-pub count_with : (ty : SqlType) (before v : Value) (m : Ratio) (r : Result Value (Fault Formula)) → number_in before ≡ Some m → IfOk r (λ x. x ≡ Number (sum_of m (whole (pos 1)))) → IfOk r (λ _. IsFirst (arithmetic_entries Added sql.Numeric (Number m) (Number (whole (pos 1)))) None) → IfErr r (OnCause (λ f. IsFirst (arithmetic_entries Added sql.Numeric (Number m) (Number (whole (pos 1)))) (Some f)))
+pub count_with : (ty : SqlType) (before v : Value) (m : Ratio) (r : Result Value (Fault Formula)) → number_of_value before ≡ Some m → IfOk r (λ x. x ≡ Number (sum_of m (whole (pos 1)))) → IfOk r (λ _. IsFirst (arithmetic_entries Added sql.Numeric (Number m) (Number (whole (pos 1)))) None) → IfErr r (OnCause (λ f. IsFirst (arithmetic_entries Added sql.Numeric (Number m) (Number (whole (pos 1)))) (Some f)))
     → IsAggregateWith false CountAll ty before v r
 count_with ty before v m (Ok x) n h k l = λ vs e.
     let is = number_is before m (length vs) n e in
-    (h ∙ count_same (length vs) m is ∙ ap counted (sym (length_more vs v)), (before, e, (counted 1, refl, entries_same (length vs) m before None is e k)))
+    (h ∙ count_same (length vs) m is ∙ ap counted_values (sym (length_more vs v)), (before, e, (counted_values 1, refl, entries_same (length vs) m before None is e k)))
 count_with ty before v m (Err (Because f)) n h k l = λ vs e.
     let is = number_is before m (length vs) n e in
-    (before, e, (counted 1, refl, entries_same (length vs) m before (Some f) is e l))
+    (before, e, (counted_values 1, refl, entries_same (length vs) m before (Some f) is e l))
 count_with ty before v m (Err NoMemory) n h k l = tt
 
-pub count_known_with : (ty : SqlType) (before v : Value) (m : Ratio) (r : Result Value (Fault Formula)) → is_null v ≡ false → number_in before ≡ Some m → IfOk r (λ x. x ≡ Number (sum_of m (whole (pos 1)))) → IfOk r (λ _. IsFirst (arithmetic_entries Added sql.Numeric (Number m) (Number (whole (pos 1)))) None) → IfErr r (OnCause (λ f. IsFirst (arithmetic_entries Added sql.Numeric (Number m) (Number (whole (pos 1)))) (Some f)))
+pub count_known_with : (ty : SqlType) (before v : Value) (m : Ratio) (r : Result Value (Fault Formula)) → is_null v ≡ false → number_of_value before ≡ Some m → IfOk r (λ x. x ≡ Number (sum_of m (whole (pos 1)))) → IfOk r (λ _. IsFirst (arithmetic_entries Added sql.Numeric (Number m) (Number (whole (pos 1)))) None) → IfErr r (OnCause (λ f. IsFirst (arithmetic_entries Added sql.Numeric (Number m) (Number (whole (pos 1)))) (Some f)))
     → IsAggregateWith false Count ty before v r
 count_known_with ty before v m (Ok x) u n h k l = λ vs e.
     let is = number_is before m (length (known_of vs)) n e in
-    (h ∙ count_same (length (known_of vs)) m is ∙ ap counted (sym (length_more (known_of vs) v)) ∙ ap (λ z. counted (length z)) (sym (known_more vs v u)), (before, e, (counted 1, ap (λ z. counted (length z)) (sym (known_more [] v u)), entries_same (length (known_of vs)) m before None is e k)))
+    (h ∙ count_same (length (known_of vs)) m is ∙ ap counted_values (sym (length_more (known_of vs) v)) ∙ ap (λ z. counted_values (length z)) (sym (known_more vs v u)), (before, e, (counted_values 1, ap (λ z. counted_values (length z)) (sym (known_more [] v u)), entries_same (length (known_of vs)) m before None is e k)))
 count_known_with ty before v m (Err (Because f)) u n h k l = λ vs e.
     let is = number_is before m (length (known_of vs)) n e in
-    (before, e, (counted 1, ap (λ z. counted (length z)) (sym (known_more [] v u)), entries_same (length (known_of vs)) m before (Some f) is e l))
+    (before, e, (counted_values 1, ap (λ z. counted_values (length z)) (sym (known_more [] v u)), entries_same (length (known_of vs)) m before (Some f) is e l))
 count_known_with ty before v m (Err NoMemory) u n h k l = tt
 
 -- ---- one more of each kind
@@ -155,15 +140,15 @@ count_known_with ty before v m (Err NoMemory) u n h k l = tt
 one_total : (b : Ratio) → total (b ∷ []) ≡ b
 one_total = clear1 _ (λ D a p. simp cleared (omega (arith, linear)))
 
-sum_of_numbers : (vs : List Value) (v : Value) (b : Ratio) → number_in v ≡ Some b → numbers_of (vs ++ v ∷ []) ≡ numbers_of vs ++ b ∷ []
+sum_of_numbers : (vs : List Value) (v : Value) (b : Ratio) → number_of_value v ≡ Some b → numbers_of (vs ++ v ∷ []) ≡ numbers_of vs ++ b ∷ []
 sum_of_numbers vs v b e = numbers_both vs (v ∷ []) ∙ ap (λ o. numbers_of vs ++ put_there o []) e
 
-alone : (v : Value) (b : Ratio) → number_in v ≡ Some b → Number b ≡ or_nothing Number (made_of total (numbers_of (v ∷ [])))
+alone : (v : Value) (b : Ratio) → number_of_value v ≡ Some b → Number b ≡ or_nothing Number (made_of total (numbers_of (v ∷ [])))
 alone v b e = ap Number (sym (one_total b)) ∙ ap (λ o. or_nothing Number (made_of total (put_there o []))) (sym e)
 
 -- the sum before, by the numbers that there are
-module _ (ty : SqlType) (before v : Value) (b : Ratio) (is : number_in v ≡ Some b) where
-  pub sum_first : number_in before ≡ None → IsAggregateWith false Sum ty before v (Ok (Number b))
+module _ (ty : SqlType) (before v : Value) (b : Ratio) (is : number_of_value v ≡ Some b) where
+  pub sum_first : number_of_value before ≡ None → IsAggregateWith false Sum ty before v (Ok (Number b))
   sum_first n vs e = by (numbers_of vs) refl (e ∙ refl)
     where
       by : (ns : List Ratio) → numbers_of vs ≡ ns → before ≡ or_nothing Number (made_of total (numbers_of vs)) → IsAggregated Sum ty (vs ++ v ∷ []) (Number b) × AddingPasses false Sum ty vs v None
@@ -172,33 +157,33 @@ module _ (ty : SqlType) (before v : Value) (b : Ratio) (is : number_in v ≡ Som
             ap Number (sym (one_total b)) ∙ ap (λ z. or_nothing Number (made_of total (z ++ b ∷ []))) (sym k) ∙ ap (λ z. or_nothing Number (made_of total z)) (sym (sum_of_numbers vs v b is)),
             (before, e, (Number b, alone v b is, subst (λ z. IsFirst (arithmetic_entries Added sql.Numeric z (Number b)) None) (sym none) (inl (tt, refl)))),
           )
-      by (a ∷ ns) k e = let some : before ≡ Number (total (a ∷ ns)) = e ∙ ap (λ z. or_nothing Number (made_of total z)) k in let m : Some (total (a ∷ ns)) ≡ None = ap number_in (sym some) ∙ n in absurd cc
+      by (a ∷ ns) k e = let some : before ≡ Number (total (a ∷ ns)) = e ∙ ap (λ z. or_nothing Number (made_of total z)) k in let m : Some (total (a ∷ ns)) ≡ None = ap number_of_value (sym some) ∙ n in absurd cc
 
   abbrev NumberEntries : Value → List Entry
   NumberEntries z = arithmetic_entries Added sql.Numeric z (Number b)
 
   -- a sum that is a number is the sum of some numbers
-  sum_is : (a : Ratio) → number_in before ≡ Some a → (vs : List Value) → IsAggregated Sum ty vs before → {P : Type 0} → ((c : Ratio) (ns : List Ratio) → numbers_of vs ≡ c ∷ ns → total (c ∷ ns) ≡ a → before ≡ Number a → P) → P
+  sum_is : (a : Ratio) → number_of_value before ≡ Some a → (vs : List Value) → IsAggregated Sum ty vs before → {P : Type 0} → ((c : Ratio) (ns : List Ratio) → numbers_of vs ≡ c ∷ ns → total (c ∷ ns) ≡ a → before ≡ Number a → P) → P
   sum_is a n vs e {P} f = by (numbers_of vs) refl
     where
       by : (ns : List Ratio) → numbers_of vs ≡ ns → P
-      by [] i = let none : before ≡ Null = e ∙ ap (λ z. or_nothing Number (made_of total z)) i in let m : None ≡ Some a = ap number_in (sym none) ∙ n in absurd cc
+      by [] i = let none : before ≡ Null = e ∙ ap (λ z. or_nothing Number (made_of total z)) i in let m : None ≡ Some a = ap number_of_value (sym none) ∙ n in absurd cc
       by (c ∷ ns) i =
           let some : before ≡ Number (total (c ∷ ns)) = e ∙ ap (λ z. or_nothing Number (made_of total z)) i in
-          let m : Some (total (c ∷ ns)) ≡ Some a = ap number_in (sym some) ∙ n in
+          let m : Some (total (c ∷ ns)) ≡ Some a = ap number_of_value (sym some) ∙ n in
           let same : total (c ∷ ns) ≡ a = cc m in
           f c ns i same (some ∙ ap Number same)
 
-  sum_ok : (a : Ratio) (x : Value) → number_in before ≡ Some a → x ≡ Number (sum_of a b) → IsFirst (NumberEntries (Number a)) None → (vs : List Value) → IsAggregated Sum ty vs before → IsAggregated Sum ty (vs ++ v ∷ []) x × AddingPasses false Sum ty vs v None
+  sum_ok : (a : Ratio) (x : Value) → number_of_value before ≡ Some a → x ≡ Number (sum_of a b) → IsFirst (NumberEntries (Number a)) None → (vs : List Value) → IsAggregated Sum ty vs before → IsAggregated Sum ty (vs ++ v ∷ []) x × AddingPasses false Sum ty vs v None
   sum_ok a x n h k vs e = sum_is a n vs e (λ c ns i same there. (
     h ∙ ap (λ z. Number (z +ℚ b)) (sym same) ∙ ap (λ z. Number (total (c ∷ ns) +ℚ z)) (sym (one_total b)) ∙ ap Number (sym (total_joins c ns b [])) ∙ ap (λ z. or_nothing Number (made_of total (z ++ b ∷ []))) (sym i) ∙ ap (λ z. or_nothing Number (made_of total z)) (sym (sum_of_numbers vs v b is)),
     (before, e, (Number b, alone v b is, subst (λ z. IsFirst (NumberEntries z) None) (sym there) k)),
   ))
 
-  sum_err : (a : Ratio) (f : Formula) → number_in before ≡ Some a → IsFirst (NumberEntries (Number a)) (Some f) → (vs : List Value) → IsAggregated Sum ty vs before → AddingPasses false Sum ty vs v (Some f)
+  sum_err : (a : Ratio) (f : Formula) → number_of_value before ≡ Some a → IsFirst (NumberEntries (Number a)) (Some f) → (vs : List Value) → IsAggregated Sum ty vs before → AddingPasses false Sum ty vs v (Some f)
   sum_err a f n l vs e = sum_is a n vs e (λ c ns i same there. (before, e, (Number b, alone v b is, subst (λ z. IsFirst (NumberEntries z) (Some f)) (sym there) l)))
 
-  pub sum_next : (a : Ratio) (r : Result Value (Fault Formula)) → number_in before ≡ Some a → IfOk r (λ x. x ≡ Number (sum_of a b)) → IfOk r (λ _. IsFirst (NumberEntries (Number a)) None) → IfErr r (OnCause (λ f. IsFirst (NumberEntries (Number a)) (Some f))) → IsAggregateWith false Sum ty before v r
+  pub sum_next : (a : Ratio) (r : Result Value (Fault Formula)) → number_of_value before ≡ Some a → IfOk r (λ x. x ≡ Number (sum_of a b)) → IfOk r (λ _. IsFirst (NumberEntries (Number a)) None) → IfErr r (OnCause (λ f. IsFirst (NumberEntries (Number a)) (Some f))) → IsAggregateWith false Sum ty before v r
   sum_next a (Ok x) n h k l = λ vs e. sum_ok a x n h k vs e
   sum_next a (Err (Because f)) n h k l = λ vs e. sum_err a f n l vs e
   sum_next a (Err NoMemory) n h k l = tt
@@ -225,7 +210,7 @@ nothing_passed : (r : Value) → IsFirst (arithmetic_entries Added sql.Numeric r
 nothing_passed r = inl (subst AllFit (sym (no_parts r)) tt, refl)
 
 -- a value that is no number
-pub no_number_more : (ty : SqlType) (before v : Value) → number_in v ≡ None → IsAggregateWith false Sum ty before v (Ok before)
+pub no_number_more : (ty : SqlType) (before v : Value) → number_of_value v ≡ None → IsAggregateWith false Sum ty before v (Ok before)
 no_number_more ty before v n = λ vs e. (
   e ∙ ap (λ z. or_nothing Number (made_of total z)) (sym (numbers_both vs (v ∷ []) ∙ ap (λ o. numbers_of vs ++ put_there o []) n ∙ append-nil (numbers_of vs))),
   (before, e, (Null, ap (λ o. or_nothing Number (made_of total (put_there o []))) (sym n), nothing_passed before)),
@@ -251,15 +236,15 @@ other_sum sql.TPoint before v n m = λ vs e. (e, (before, e, (Null, refl, refl))
 
 -- ---- one more over time
 
-pub seen_steps : (r : Option (StepSlices Ratio)) → steps_of (or_nothing MovingInt r) ≡ r
+pub seen_steps : (r : Option (SteadySlices Ratio)) → steps_of (or_nothing MovingInt r) ≡ r
 seen_steps None = refl
 seen_steps (Some r) = refl
 
-pub seen_lines : (r : Option (List (Slice Line))) → lines_of (or_nothing MovingFrac r) ≡ r
+pub seen_lines : (r : Option (List (Slice Line))) → aggregate_lines (or_nothing MovingFrac r) ≡ r
 seen_lines None = refl
 seen_lines (Some r) = refl
 
-pub seen_truths : (r : Option (StepSlices Bool)) → truths_of (or_nothing MovingBool r) ≡ r
+pub seen_truths : (r : Option (SteadySlices Bool)) → truths_of (or_nothing MovingBool r) ≡ r
 seen_truths None = refl
 seen_truths (Some r) = refl
 
@@ -283,8 +268,8 @@ alone_there {C} {B} value f one (Some w) t = by (value_at value w t)
 pub int_alone : (v : Value) → MatchOption (steps_of v) (Unit {0}) (AreNormalBy (steady_course same)) → IsAggregate step_there steady_value steady_limit steady_limit (steady_course same).continues total (v ∷ []) (steps_of v)
 int_alone v n = over_one (steady_course same) MovingInt steps_of seen_steps sum_of total total_joins step_there v (steps_of v) n (λ t. alone_there steady_value total one_total (steps_of v) t)
 
-pub frac_alone : (v : Value) → MatchOption (lines_of v) (Unit {0}) (AreNormalBy line_course) → IsAggregate line_there line_value_of line_course.start line_course.end line_course.continues total (v ∷ []) (lines_of v)
-frac_alone v n = over_one line_course MovingFrac lines_of seen_lines sum_of total total_joins line_there v (lines_of v) n (λ t. alone_there line_value_of total one_total (lines_of v) t)
+pub frac_alone : (v : Value) → MatchOption (aggregate_lines v) (Unit {0}) (AreNormalBy line_course) → IsAggregate line_there line_value_of line_course.start line_course.end line_course.continues total (v ∷ []) (aggregate_lines v)
+frac_alone v n = over_one line_course MovingFrac aggregate_lines seen_lines sum_of total total_joins line_there v (aggregate_lines v) n (λ t. alone_there line_value_of total one_total (aggregate_lines v) t)
 
 pub all_alone : (v : Value) → MatchOption (truths_of v) (Unit {0}) (AreNormalBy (steady_course same_bool)) → IsAggregate truth_there steady_value steady_limit steady_limit (steady_course same_bool).continues all_hold (v ∷ []) (truths_of v)
 all_alone v n = over_one (steady_course same_bool) MovingBool truths_of seen_truths both_hold all_hold all_joins truth_there v (truths_of v) n (λ t. alone_there steady_value all_hold one_all (truths_of v) t)
@@ -310,12 +295,12 @@ int_sum_with before v (Ok x) n u k l = λ vs e. (
 int_sum_with before v (Err (Because f)) n u k l = λ vs e. (before, e, (or_nothing MovingInt (steps_of v), (steps_of v, int_alone v n, refl), subst (λ z. IsFirst (IntEntries z (or_nothing MovingInt (steps_of v))) (Some f)) (before_is (steady_course same) MovingInt steps_of seen_steps total step_there vs before e) l))
 int_sum_with before v (Err NoMemory) n u k l = tt
 
-pub frac_sum_with : (before v : Value) (r : Result Value (Fault Formula)) → MatchOption (lines_of v) (Unit {0}) (AreNormalBy line_course) → IfOk r (λ x. IsUnion line_course MovingFrac sum_of (lines_of before) (lines_of v) before x) → IfOk r (λ _. IsFirst (FracEntries (or_nothing MovingFrac (lines_of before)) (or_nothing MovingFrac (lines_of v))) None) → IfErr r (OnCause (λ f. IsFirst (FracEntries (or_nothing MovingFrac (lines_of before)) (or_nothing MovingFrac (lines_of v))) (Some f))) → IsAggregateWith false TSum sql.TFrac before v r
+pub frac_sum_with : (before v : Value) (r : Result Value (Fault Formula)) → MatchOption (aggregate_lines v) (Unit {0}) (AreNormalBy line_course) → IfOk r (λ x. IsUnion line_course MovingFrac sum_of (aggregate_lines before) (aggregate_lines v) before x) → IfOk r (λ _. IsFirst (FracEntries (or_nothing MovingFrac (aggregate_lines before)) (or_nothing MovingFrac (aggregate_lines v))) None) → IfErr r (OnCause (λ f. IsFirst (FracEntries (or_nothing MovingFrac (aggregate_lines before)) (or_nothing MovingFrac (aggregate_lines v))) (Some f))) → IsAggregateWith false TSum sql.TFrac before v r
 frac_sum_with before v (Ok x) n u k l = λ vs e. (
-  over_more line_course MovingFrac lines_of seen_lines sum_of total total_joins line_there vs before v x (lines_of v) e (frac_alone v n) u,
-  (before, e, (or_nothing MovingFrac (lines_of v), (lines_of v, frac_alone v n, refl), subst (λ z. IsFirst (FracEntries z (or_nothing MovingFrac (lines_of v))) None) (before_is line_course MovingFrac lines_of seen_lines total line_there vs before e) k)),
+  over_more line_course MovingFrac aggregate_lines seen_lines sum_of total total_joins line_there vs before v x (aggregate_lines v) e (frac_alone v n) u,
+  (before, e, (or_nothing MovingFrac (aggregate_lines v), (aggregate_lines v, frac_alone v n, refl), subst (λ z. IsFirst (FracEntries z (or_nothing MovingFrac (aggregate_lines v))) None) (before_is line_course MovingFrac aggregate_lines seen_lines total line_there vs before e) k)),
 )
-frac_sum_with before v (Err (Because f)) n u k l = λ vs e. (before, e, (or_nothing MovingFrac (lines_of v), (lines_of v, frac_alone v n, refl), subst (λ z. IsFirst (FracEntries z (or_nothing MovingFrac (lines_of v))) (Some f)) (before_is line_course MovingFrac lines_of seen_lines total line_there vs before e) l))
+frac_sum_with before v (Err (Because f)) n u k l = λ vs e. (before, e, (or_nothing MovingFrac (aggregate_lines v), (aggregate_lines v, frac_alone v n, refl), subst (λ z. IsFirst (FracEntries z (or_nothing MovingFrac (aggregate_lines v))) (Some f)) (before_is line_course MovingFrac aggregate_lines seen_lines total line_there vs before e) l))
 frac_sum_with before v (Err NoMemory) n u k l = tt
 
 -- the ones of a value are its count
@@ -350,7 +335,7 @@ null_sum sql.TPoint vs before h = h
 
 null_out : (kind : AggKind) (ty : SqlType) (before : Value) → leaves_out kind Null ≡ true → IsAggregateWith true kind ty before Null (Ok before)
 null_out CountAll ty before h = absurd cc
-null_out Count ty before h = λ vs e. (e ∙ ap (λ z. counted (length z)) (sym (known_less vs Null refl)), refl)
+null_out Count ty before h = λ vs e. (e ∙ ap (λ z. counted_values (length z)) (sym (known_less vs Null refl)), refl)
 null_out Sum ty before h = λ vs e. (e ∙ ap (λ z. or_nothing Number (made_of total z)) (sym (numbers_both vs (Null ∷ []) ∙ append-nil (numbers_of vs))), refl)
 null_out TCount ty before h = λ vs e. (over_same (steady_course same) MovingInt count one_there vs before Null (λ t. refl) e, refl)
 null_out TSum ty before h = λ vs e. (null_sum ty vs before e, refl)

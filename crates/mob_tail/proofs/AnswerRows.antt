@@ -1,21 +1,12 @@
 -- Rows as values, and as printed.
-use Rattle.std.proofs.Common.{◌≡◌, ℕ, ℤ, ◌+◌, Bool, List, [], ◌∷◌, ◌++◌, Ok, Err, inl, inr, length, map, take, drop, refl, sym, ap, subst, ◌∙◌, arith}
-use Rattle.std.specs.List.{AllZip}
+use Rattle.std.{specs.List.{AllZip}, proofs.Common.{◌≡◌, ℕ, ℤ, ◌+◌, Bool, List, [], ◌∷◌, ◌++◌, Ok, Err, inl, inr, length, map, take, drop, refl, sym, ap, subst, ◌∙◌, arith}}
 use Rattle.std.proofs.Math.Seq.{take-append_seam, drop-append_seam}
-use Rattle.mob_typed.specs.Trees.{TypedTree}
-use Rattle.mob_typed.specs.Selects.{Output, TypedSelectParts}
-use Rattle.mob_value.specs.declared.value.Value.{Value}
+use Rattle.mob_typed.{specs.Trees.{TypedTree}, specs.Selects.{Output, TypedSelectParts}}
+use Rattle.mob_value.{specs.declared.value.Value.{Value}, specs.declared.store.Store.{Store}}
 use Rattle.mob_literal.specs.Fields.{field_text}
-use Rattle.mob_meaning.specs.Scene.{Scene}
-use Rattle.mob_meaning.specs.Evaluation.{PlacedFormula, TreeEvaluatesTo}
-use Rattle.mob_tail.specs.IsMadeOfEach.{IsMadeOfEach}
-use Rattle.mob_tail.specs.Answers.{IsField, IsKey, IsRowOf}
-use Rattle.mob_tail.specs.Evaluated.{AreEvaluated}
-use Rattle.mob_tail.specs.Recalling.{item_trees, key_trees}
-use Rattle.mob_value.specs.declared.store.Store.{Store}
-use Rattle.mob_tail.specs.GroupedAnswers.{columns_of, keys_from, IsColumnValue, IsGroupRow}
-use Rattle.mob_tail.specs.AnswerRows.{falls_of, answer_row, IsGroupRowOf}
-use Rattle.mob_tail.proofs.GroupLoop.{row_made}
+use Rattle.mob_meaning.{specs.Scene.{Scene}, specs.Evaluation.{PlacedFormula, TreeEvaluatesTo}}
+use Rattle.mob_tail.{specs.IsMadeOfEach.{IsMadeOfEach}, specs.Answers.{IsField, IsKey, IsRowOf}, specs.Evaluated.{AreEvaluated}, specs.Recalling.{item_trees, order_trees}}
+use Rattle.mob_tail.{specs.GroupedAnswers.{columns_of, keys_from, IsColumnValue, IsGroupRow}, specs.AnswerRows.{falls_of, answer_row, IsGroupRowOf}, proofs.GroupLoop.{row_made}}
 use Rattle.mob_tail.proofs.Making.{made_length}
 
 count_map : {X Y : Type 0} (f : X → Y) (xs : List X) → length (map f xs) ≡ length xs
@@ -56,18 +47,18 @@ module _ (s : Scene) where
   keys_fail (x ∷ xs) f (inl h) = inl h
   keys_fail (x ∷ xs) f (inr h) = inr (h.0, h.1, keys_fail xs f h.2)
 
-  evaluated_fault : (select : TypedSelectParts) (f : PlacedFormula) → AreEvaluated s (item_trees select) (key_trees select) (Err f) → IsRowOf select s (Err f)
+  evaluated_fault : (select : TypedSelectParts) (f : PlacedFormula) → AreEvaluated s (item_trees select) (order_trees select) (Err f) → IsRowOf select s (Err f)
   evaluated_fault select f (inl h) = inl (fields_fail select.items f h)
   evaluated_fault select f (inr h) = inr (map (field_text s.day) h.0, fields_made select.items h.0 h.1, keys_fail select.keys f h.2)
 
-  module _ (select : TypedSelectParts) (items keys : List TypedTree) (these : items ≡ item_trees select) (those : keys ≡ key_trees select) where
+  module _ (select : TypedSelectParts) (items keys : List TypedTree) (these : items ≡ item_trees select) (those : keys ≡ order_trees select) where
     pub row_seen : (row : List Value) → AreEvaluated s items keys (Ok row) → IsRowOf select s (Ok (answer_row select s.day row))
     row_seen row (fields, front, made, kept, is) =
         row_evaluated select s front fields row (fields_made select.items fields (subst (λ es. IsMadeOfEach (TreeEvaluatesTo s) es (Ok fields)) these made))
         (keys_made select.keys front (subst (λ es. IsMadeOfEach (TreeEvaluatesTo s) es (Ok front)) those kept)) is
 
     pub row_fails : (f : PlacedFormula) → AreEvaluated s items keys (Err f) → IsRowOf select s (Err f)
-    row_fails f h = evaluated_fault select f (subst (λ es. AreEvaluated s es (key_trees select) (Err f)) these (subst (λ es. AreEvaluated s items es (Err f)) those h))
+    row_fails f h = evaluated_fault select f (subst (λ es. AreEvaluated s es (order_trees select) (Err f)) these (subst (λ es. AreEvaluated s items es (Err f)) those h))
 
 keys_counted : (select : TypedSelectParts) (store : Store) (day : ℤ) (group : List (List ℕ)) (values : List Value) (n : ℕ) (keys : List (TypedTree × Bool)) → length (keys_from select store day group values n keys) ≡ length keys
 keys_counted select store day group values n [] = refl

@@ -1,32 +1,23 @@
 -- No count over kept tuples overflows.
-use Rattle.std.specs.Prelude.{◌≡◌, ◌+◌, ◌<◌, ◌^◌, Bool, true, false, ℕ, ℤ, List, Option, Some, None, option_map, length}
-use Rattle.std.proofs.Common.{arith, sym}
-use Rattle.std.proofs.lemmas.Slice.Zip.{AllZip-long}
-use Rattle.mob_slice.specs.declared.formula.Formula.{Formula}
-use Rattle.mob_slice.proofs.Firsts.{one_first}
+use Rattle.std.{specs.Prelude.{◌≡◌, ◌+◌, ◌<◌, ◌^◌, Bool, true, false, ℕ, ℤ, List, Option, Some, None, option_map, length}, proofs.Common.{arith, sym}, proofs.lemmas.Slice.Zip.{AllZip-long}}
+use Rattle.mob_slice.{specs.declared.formula.Formula.{Formula}, proofs.Firsts.{one_first}}
 use Rattle.mob_ast.specs.declared.types.SqlType.{SqlType}
 use Rattle.mob_operators.specs.declared.aggregate.AggKind.{AggKind}
-use Rattle.mob_typed.specs.Trees.{TypedTree}
-use Rattle.mob_typed.specs.Selects.{TypedSelectParts}
-use Rattle.mob_typed.specs.declared.typed.Agg.{Agg}
-use Rattle.mob_value.specs.declared.value.Value.{Value}
-use Rattle.mob_value.specs.declared.store.Store.{Store}
+use Rattle.mob_typed.{specs.Trees.{TypedTree}, specs.Selects.{TypedSelectParts}, specs.declared.typed.Agg.{Agg}}
+use Rattle.mob_value.{specs.declared.value.Value.{Value}, specs.declared.store.Store.{Store}}
 use Rattle.mob_meaning.specs.Evaluation.{PlacedFormula}
 use Rattle.mob_tagg.specs.Rows.{earlier}
-use Rattle.mob_tail.specs.Aggregated.{leaves_out, adding_entries, AddingPasses}
-use Rattle.mob_tail.specs.Groups.{same_group}
-use Rattle.mob_tail.specs.GroupedAnswers.{AddingFails}
-use Rattle.mob_tail.specs.States.{is_count}
+use Rattle.mob_tail.{specs.Aggregated.{leaves_out, adding_entries, AddingPasses}, specs.Groups.{same_group}, specs.GroupedAnswers.{AddingFails}, specs.States.{is_counting}}
 use Rattle.mob_tail.proofs.CountsFit.{count_fits, fewer}
 
 none_some : {A R : Type 0} (x : A) → None ≡ Some x → R
 none_some x e = cc
 
-passes_none : (b : Bool) (kind : AggKind) (ty : SqlType) (vs : List Value) (v : Value) (g : Formula) → is_count kind ≡ true → length vs + 1 < 2 ^ 62 → AddingPasses b kind ty vs v (Some g) → ⊥
+passes_none : (b : Bool) (kind : AggKind) (ty : SqlType) (vs : List Value) (v : Value) (g : Formula) → is_counting kind ≡ true → length vs + 1 < 2 ^ 62 → AddingPasses b kind ty vs v (Some g) → ⊥
 passes_none true kind ty vs v g is few h = none_some g (sym h)
 passes_none false kind ty vs v g is few h = none_some g (one_first (adding_entries kind ty h.0 h.2.0) None (Some g) (count_fits kind ty vs v h.0 h.2.0 is few h.1 h.2.1) h.2.2)
 
-pub no_count_passes : (select : TypedSelectParts) (store : Store) (day : ℤ) (before : List (List ℕ)) (tuple : List ℕ) (e : TypedTree) (agg : Agg) (f : PlacedFormula) → is_count agg.kind ≡ true → length before + 1 < 2 ^ 62 → AddingFails select store day before tuple (e, Some agg) f → ⊥
+pub no_count_passes : (select : TypedSelectParts) (store : Store) (day : ℤ) (before : List (List ℕ)) (tuple : List ℕ) (e : TypedTree) (agg : Agg) (f : PlacedFormula) → is_counting agg.kind ≡ true → length before + 1 < 2 ^ 62 → AddingFails select store day before tuple (e, Some agg) f → ⊥
 no_count_passes select store day before tuple e agg f is few h =
     let vs = h.2.0 in
     let long : length vs ≡ length (earlier (same_group select store day) before tuple) = AllZip-long _ (earlier (same_group select store day) before tuple) vs h.2.1 in

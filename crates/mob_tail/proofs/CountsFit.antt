@@ -1,42 +1,21 @@
 -- No count of a list of fewer than 2^62 values overflows.
-use Rattle.std.specs.Prelude.{◌≡◌, ◌+◌, ◌<◌, ◌≤◌, ◌^◌, Bool, true, false, cond, not, ℕ, pos, refl, List, [], ◌∷◌, map, filter, length, Option, Some, None}
-use Rattle.std.specs.List.{AllByRecursion, flat_map}
+use Rattle.std.{specs.Prelude.{◌≡◌, ◌+◌, ◌<◌, ◌≤◌, ◌^◌, Bool, true, false, cond, not, ℕ, pos, refl, List, [], ◌∷◌, map, filter, length, Option, Some, None}, specs.List.{AllByRecursion, flat_map}}
 use Rattle.std.proofs.Common.{ap, sym, ◌∙◌, subst, inl, arith}
 use Rattle.mob_list.proofs.Each.{each_both}
-use Rattle.mob_ratio.specs.Ratio.{Ratio, whole, ◌+ℚ◌}
-use Rattle.mob_ratio.specs.Order.{same}
-use Rattle.mob_ratio.proofs.Rings.{whole-add}
-use Rattle.mob_frac.specs.Fits.{Fits}
-use Rattle.mob_frac.specs.Formula.{sum_parts}
-use Rattle.mob_span.specs.Span.{has, has_instant}
-use Rattle.mob_span.specs.Meet.{meet_of}
-use Rattle.mob_span.specs.Meets.{PieceOf, shared_pieces}
-use Rattle.mob_span.proofs.Shared.{AreAllClear, all_after}
-use Rattle.mob_span.proofs.SpanLemmas.{some_instant}
-use Rattle.mob_slice.specs.CourseOf.{steady_course}
-use Rattle.mob_slice.specs.Entries.{IsFirst}
-use Rattle.mob_slice.specs.Operands.{steady_value, steady_limit, steady_parts}
-use Rattle.mob_slice.specs.Sides.{pieces, Slices, Moves}
-use Rattle.mob_slice.specs.Slices.{value_at, IsOrdered}
-use Rattle.mob_slice.specs.declared.slice.Slice.{Slice}
-use Rattle.mob_slice.specs.declared.steady.Steady.{Steady}
-use Rattle.mob_slice.proofs.Orders.{ordered, ordered-clear}
-use Rattle.mob_arith.specs.Termwise.{entries_at_ends}
+use Rattle.mob_ratio.{specs.Ratio.{Ratio, whole, ◌+ℚ◌}, specs.Order.{same}, proofs.Rings.{whole-add}}
+use Rattle.mob_frac.{specs.Fits.{Fits}, specs.Formula.{sum_parts}}
+use Rattle.mob_span.{specs.Span.{has, has_instant}, specs.Meet.{meet_of}, specs.Meets.{PieceOf, shared_pieces}, proofs.Shared.{AreAllClear, all_after}, proofs.SpanLemmas.{some_instant}}
+use Rattle.mob_slice.{specs.CourseOf.{steady_course}, specs.Entries.{IsFirst}, specs.Operands.{steady_value, steady_limit, steady_parts}, specs.Sides.{pieces, Slices, Moves}}
+use Rattle.mob_slice.{specs.Slices.{value_at, IsRisingInTime}, specs.declared.slice.Slice.{Slice}, specs.declared.steady.Steady.{Steady}, proofs.Orders.{ordered, ordered-clear}}
+use Rattle.mob_arith.{specs.Termwise.{entries_at_ends}, specs.declared.sql.calculation.Calculation.TheVariants.{Sum as Added}, specs.Sql.Entries.{arithmetic_entries}}
 use Rattle.mob_scalar.proofs.Parts.{whole_fits}
 use Rattle.mob_ast.specs.declared.types.SqlType.{SqlType}
-use Rattle.mob_ast.specs.declared.types.SqlType.TheVariants as sql
-use Rattle.mob_operators.specs.declared.aggregate.AggKind.{AggKind}
-use Rattle.mob_operators.specs.declared.aggregate.AggKind.TheVariants.{CountAll, Count, Sum, TCount, TSum, TAnd, TOr}
-use Rattle.mob_value.specs.declared.value.Value.{Value}
-use Rattle.mob_value.specs.declared.value.Value.TheVariants.{MovingInt}
-use Rattle.mob_arith.specs.declared.sql.calculation.Calculation.TheVariants.{Sum as Added}
-use Rattle.mob_arith.specs.Sql.Entries.{arithmetic_entries}
-use Rattle.mob_value.specs.Moving.{StepSlices, or_nothing}
+use Rattle.mob_operators.{specs.declared.aggregate.AggKind.{AggKind}, specs.declared.aggregate.AggKind.TheVariants.{CountAll, Count, Sum, TCount, TSum, TAnd, TOr}}
+use Rattle.mob_value.{specs.declared.value.Value.{Value}, specs.declared.value.Value.TheVariants.{MovingInt}, specs.Moving.{SteadySlices, or_nothing}}
 use Rattle.mob_ordinary.specs.Ordinary.{is_null}
-use Rattle.mob_tagg.proofs.Unions.{none_at}
-use Rattle.mob_tagg.specs.Aggregates.{put_there, values_at, made_of, IsAggregate, count}
-use Rattle.mob_tail.specs.Aggregated.{counted, known_of, one_there, IsAggregated, adding_entries}
-use Rattle.mob_tail.specs.States.{is_count}
+use Rattle.mob_tagg.{specs.Aggregates.{put_there, values_at, made_of, IsAggregate, count}, proofs.Unions.{none_at}}
+use Rattle.mob_tail.{specs.Aggregated.{counted_values, known_of, one_there, IsAggregated, adding_entries}, specs.States.{is_counting}}
+use Rattle.mob_ast.specs.declared.types.SqlType.TheVariants as sql
 
 none_some : {A R : Type 0} (x : A) → None ≡ Some x → R
 none_some x e = cc
@@ -47,7 +26,7 @@ some_is x y e = cc
 -- ---- the steps of a value have its values
 
 module _ (P : Ratio → Type 0) where
-  pub steps_each : (v : StepSlices Ratio) → IsOrdered steady_limit steady_limit v → ((t x : Ratio) → value_at steady_value v t ≡ Some x → P x) → AllByRecursion (λ s. P s.course.value) v
+  pub steps_each : (v : SteadySlices Ratio) → IsRisingInTime steady_limit steady_limit v → ((t x : Ratio) → value_at steady_value v t ≡ Some x → P x) → AllByRecursion (λ s. P s.course.value) v
   steps_each [] o f = tt
   steps_each (s ∷ v) o f =
       let i = some_instant s.span o.0.some in
@@ -69,7 +48,7 @@ module _ (P Q : Ratio → Type 0) (fits : (x y : Ratio) → P x → Q y → Fits
   abbrev Both : Piece → Type 0
   Both q = P q.left.course.value × Q q.right.course.value
 
-  row : (s : Slice (Steady Ratio)) (w : StepSlices Ratio) → P s.course.value → AllByRecursion (λ r. Q r.course.value) w
+  row : (s : Slice (Steady Ratio)) (w : SteadySlices Ratio) → P s.course.value → AllByRecursion (λ r. Q r.course.value) w
       → AllByRecursion Both (map (λ r. record { span = meet_of s.span r.span; left = s; right = r }) (filter (λ r. has_instant (meet_of s.span r.span)) w))
   row s [] h k = tt
   row s (r ∷ w) h k = by (has_instant (meet_of s.span r.span)) (row s w h k.1)
@@ -79,7 +58,7 @@ module _ (P Q : Ratio → Type 0) (fits : (x y : Ratio) → P x → Q y → Fits
       by true l = ((h, k.0), l)
       by false l = l
 
-  shared : (v w : StepSlices Ratio) → AllByRecursion (λ s. P s.course.value) v → AllByRecursion (λ r. Q r.course.value) w → AllByRecursion Both (shared_pieces (λ s. s.span) (λ r. r.span) v w)
+  shared : (v w : SteadySlices Ratio) → AllByRecursion (λ s. P s.course.value) v → AllByRecursion (λ r. Q r.course.value) w → AllByRecursion Both (shared_pieces (λ s. s.span) (λ r. r.span) v w)
   shared [] w h k = tt
   shared (s ∷ v) w h k = each_both Both _ (shared_pieces (λ s. s.span) (λ r. r.span) v w) (row s w h.0 k) (shared v w h.1 k)
 
@@ -87,7 +66,7 @@ module _ (P Q : Ratio → Type 0) (fits : (x y : Ratio) → P x → Q y → Fits
   entries_fit [] h = refl
   entries_fit (q ∷ qs) h = let fit = fits q.left.course.value q.right.course.value h.0.0 h.0.1 in inl (tt, inl ((fit, (fit, tt)), entries_fit qs h.1))
 
-  pub sums_fit : (v w : StepSlices Ratio) → AllByRecursion (λ s. P s.course.value) v → AllByRecursion (λ r. Q r.course.value) w → IsFirst (flat_map (entries_at_ends steady_value steady_parts steady_value steady_parts sum_parts) (pieces (Slices v) (Slices w))) None
+  pub sums_fit : (v w : SteadySlices Ratio) → AllByRecursion (λ s. P s.course.value) v → AllByRecursion (λ r. Q r.course.value) w → IsFirst (flat_map (entries_at_ends steady_value steady_parts steady_value steady_parts sum_parts) (pieces (Slices v) (Slices w))) None
   sums_fit v w h k = entries_fit (shared_pieces (λ s. s.span) (λ r. r.span) v w) (shared v w h k)
 
 -- ---- counts
@@ -109,7 +88,7 @@ count_to [] x e = none_some x (sym e)
 count_to (y ∷ xs) x e = some_is x (whole (pos (length (y ∷ xs)))) e
 
 -- the steps of a count over time are counts of at most all values
-count_steps : (vs : List Value) (m : StepSlices Ratio) → IsAggregate one_there steady_value steady_limit steady_limit (steady_course same).continues count vs (Some m) → AllByRecursion (λ s. IsCountTo (length vs) s.course.value) m
+count_steps : (vs : List Value) (m : SteadySlices Ratio) → IsAggregate one_there steady_value steady_limit steady_limit (steady_course same).continues count vs (Some m) → AllByRecursion (λ s. IsCountTo (length vs) s.course.value) m
 count_steps vs m h = steps_each (IsCountTo (length vs)) m (ordered steady_limit steady_limit (steady_course same).continues m h.0.chained)
     (λ t x e. (length (values_at one_there vs t), count_to (values_at one_there vs t) x (sym e ∙ h.1 t), few_there one_there vs t))
 
@@ -118,14 +97,14 @@ sum_fits most few x y h k =
     let fit = whole_fits (pos (h.0 + k.0)) (omega (arith, few, h.2, k.2)) in
     subst Fits (whole-add (pos h.0) (pos k.0) ∙ ap (λ z. z +ℚ whole (pos k.0)) (sym h.1) ∙ ap (λ z. x +ℚ z) (sym k.1)) fit
 
-over_time : (vs : List Value) (v : Value) (o p : Option (StepSlices Ratio)) → length vs + 1 < 2 ^ 62 → IsAggregate one_there steady_value steady_limit steady_limit (steady_course same).continues count vs o → IsAggregate one_there steady_value steady_limit steady_limit (steady_course same).continues count (v ∷ []) p
+over_time : (vs : List Value) (v : Value) (o p : Option (SteadySlices Ratio)) → length vs + 1 < 2 ^ 62 → IsAggregate one_there steady_value steady_limit steady_limit (steady_course same).continues count vs o → IsAggregate one_there steady_value steady_limit steady_limit (steady_course same).continues count (v ∷ []) p
     → IsFirst (arithmetic_entries Added sql.TInt (or_nothing MovingInt o) (or_nothing MovingInt p)) None
 over_time vs v None None few h k = refl
 over_time vs v None (Some w) few h k = refl
 over_time vs v (Some m) None few h k = refl
 over_time vs v (Some m) (Some w) few h k = sums_fit (IsCountTo (length vs)) (IsCountTo 1) (sum_fits (length vs) few) m w (count_steps vs m h) (count_steps (v ∷ []) w k)
 
-plain : (n m : ℕ) → n + m < 2 ^ 62 → IsFirst (arithmetic_entries Added sql.Numeric (counted n) (counted m)) None
+plain : (n m : ℕ) → n + m < 2 ^ 62 → IsFirst (arithmetic_entries Added sql.Numeric (counted_values n) (counted_values m)) None
 plain n m few = inl ((subst Fits (whole-add (pos n) (pos m)) (whole_fits (pos (n + m)) few), tt), refl)
 
 pub fewer : {X : Type 0} (test : X → Bool) (xs : List X) → length (filter test xs) ≤ length xs
@@ -137,12 +116,12 @@ fewer test (x ∷ xs) = by (test x) (fewer test xs)
     by false h = omega (arith, h)
 
 -- adding one more to a count of so few values does not overflow
-pub count_fits : (kind : AggKind) (ty : SqlType) (vs : List Value) (v r a : Value) → is_count kind ≡ true → length vs + 1 < 2 ^ 62 → IsAggregated kind ty vs r → IsAggregated kind ty (v ∷ []) a → IsFirst (adding_entries kind ty r a) None
-count_fits CountAll ty vs v r a is few h k = subst (λ z. IsFirst (arithmetic_entries Added sql.Numeric z a) None) (sym h) (subst (λ z. IsFirst (arithmetic_entries Added sql.Numeric (counted (length vs)) z) None) (sym k) (plain (length vs) 1 few))
+pub count_fits : (kind : AggKind) (ty : SqlType) (vs : List Value) (v r a : Value) → is_counting kind ≡ true → length vs + 1 < 2 ^ 62 → IsAggregated kind ty vs r → IsAggregated kind ty (v ∷ []) a → IsFirst (adding_entries kind ty r a) None
+count_fits CountAll ty vs v r a is few h k = subst (λ z. IsFirst (arithmetic_entries Added sql.Numeric z a) None) (sym h) (subst (λ z. IsFirst (arithmetic_entries Added sql.Numeric (counted_values (length vs)) z) None) (sym k) (plain (length vs) 1 few))
 count_fits Count ty vs v r a is few h k =
     let less = fewer (λ v. not (is_null v)) vs in
     let one = fewer (λ v. not (is_null v)) (v ∷ []) in
-    subst (λ z. IsFirst (arithmetic_entries Added sql.Numeric z a) None) (sym h) (subst (λ z. IsFirst (arithmetic_entries Added sql.Numeric (counted (length (known_of vs))) z) None) (sym k) (plain (length (known_of vs)) (length (known_of (v ∷ []))) (omega (arith, few, less, one))))
+    subst (λ z. IsFirst (arithmetic_entries Added sql.Numeric z a) None) (sym h) (subst (λ z. IsFirst (arithmetic_entries Added sql.Numeric (counted_values (length (known_of vs))) z) None) (sym k) (plain (length (known_of vs)) (length (known_of (v ∷ []))) (omega (arith, few, less, one))))
 count_fits TCount ty vs v r a is few h k = subst (λ z. IsFirst (arithmetic_entries Added sql.TInt z a) None) (sym h.2) (subst (λ z. IsFirst (arithmetic_entries Added sql.TInt (or_nothing MovingInt h.0) z) None) (sym k.2) (over_time vs v h.0 k.0 few h.1 k.1))
 count_fits Sum ty vs v r a is few h k = absurd cc
 count_fits TSum ty vs v r a is few h k = absurd cc

@@ -1,12 +1,8 @@
 -- Two values of one column have the same field only if they are the same value.
 use Rattle.std.proofs.Common.{◌≡◌, ◌∙◌, inl, inr, ℤ, Ok, ap, sym, subst, true≢false}
 use Rattle.mob_ast.specs.declared.types.SqlType.{SqlType}
-use Rattle.mob_value.specs.declared.value.Value.{Value}
-use Rattle.mob_value.specs.declared.value.Value.TheVariants.{Null}
-use Rattle.mob_literal.specs.Fields.{field_text, is_null_field, text_of_field}
-use Rattle.mob_literal.specs.SqlReadable.{IsReadableAs}
-use Rattle.mob_literal.specs.SqlText.{SaysAs}
-use Rattle.mob_literal.proofs.FieldsAgain.{field_again, null_again}
+use Rattle.mob_value.{specs.declared.value.Value.{Value}, specs.declared.value.Value.TheVariants.{Null}}
+use Rattle.mob_literal.{specs.Fields.{field_text, is_null_field, text_of_field}, specs.SqlReadable.{IsReadableAs}, specs.SqlText.{SaysAs}, proofs.FieldsAgain.{field_again, null_again}}
 use Rattle.mob_literal.proofs.SqlReading.{one_sql_reading}
 use Rattle.mob_tail.specs.GroupLaws.{IsStoredAs}
 

@@ -1,12 +1,10 @@
 -- The select list and the keys of a query fit what is remembered of them.
-use Rattle.std.proofs.Common.{◌≡◌, ◌<◌, ◌++◌, ℕ, zero, suc, ℤ, List, [], ◌∷◌, length, get_or, map, take, drop, sym, ap, subst, ◌∙◌, arith}
-use Rattle.std.specs.List.{AllByRecursion}
-use Rattle.std.proofs.lemmas.List.{length-map, map-append}
-use Rattle.std.proofs.Math.Seq.{take-append_seam, drop-append_seam}
+use Rattle.std.{specs.List.{AllByRecursion}, proofs.Common.{◌≡◌, ◌<◌, ◌++◌, ℕ, zero, suc, ℤ, List, [], ◌∷◌, length, get_or, map, take, drop, sym, ap, subst, ◌∙◌, arith}}
+use Rattle.std.{proofs.lemmas.List.{length-map, map-append}, proofs.Math.Seq.{take-append_seam, drop-append_seam}}
 use Rattle.mob_typed.specs.Selects.{TypedSelectParts}
 use Rattle.mob_value.specs.declared.store.Store.{Store}
 use Rattle.mob_eval.proofs.Fitting.{roots_fit}
-use Rattle.mob_tail.specs.Recalling.{AnswerFits, answer_recollection, item_trees, key_trees}
+use Rattle.mob_tail.specs.Recalling.{AnswerFits, answer_recollection, item_trees, order_trees}
 
 module _ {X : Type 0} (P : X → Type 0) where
   -- at the place i of a list
@@ -25,4 +23,4 @@ halves see ws front back xs ys parts count seen =
     )
 
 pub answer_fits : (select : TypedSelectParts) (store : Store) (day : ℤ) → AnswerFits (answer_recollection select store day) select store day
-answer_fits select store day tuple = roots_fit store select.from tuple day (item_trees select ++ key_trees select)
+answer_fits select store day tuple = roots_fit store select.from tuple day (item_trees select ++ order_trees select)

@@ -1,24 +1,20 @@
 -- Worked groups and aggregates, by the definitions.
-use Rattle.std.proofs.Common.{◌≡◌, true, false, [], ◌∷◌, None, refl}
-use Rattle.std.specs.Prelude.{pos}
+use Rattle.std.{specs.Prelude.{pos}, proofs.Common.{◌≡◌, true, false, [], ◌∷◌, None, refl}}
+use Rattle.mob_operators.specs.declared.aggregate.AggKind.TheVariants.{CountAll, Count, Sum, TCount, TAnd}
+use Rattle.mob_typed.{specs.Trees.{typed, none}, specs.Selects.{TypedSelectParts}}
+use Rattle.mob_value.{specs.declared.value.Value.TheVariants.{Null, Bool as Truth}, specs.declared.store.Store.{Store}}
+use Rattle.mob_tail.{specs.Aggregated.{counted_values, IsAggregated, AddingPasses}, specs.Groups.{groups_on}}
 use Rattle.mob_ast.specs.declared.types.SqlType.TheVariants as sql
 use Rattle.mob_operators.specs.declared.operator.Op.TheVariants as op
-use Rattle.mob_operators.specs.declared.aggregate.AggKind.TheVariants.{CountAll, Count, Sum, TCount, TAnd}
-use Rattle.mob_typed.specs.Trees.{typed, none}
-use Rattle.mob_typed.specs.Selects.{TypedSelectParts}
-use Rattle.mob_value.specs.declared.value.Value.TheVariants.{Null, Bool as Truth}
-use Rattle.mob_value.specs.declared.store.Store.{Store}
-use Rattle.mob_tail.specs.Aggregated.{counted, IsAggregated, AddingPasses}
-use Rattle.mob_tail.specs.Groups.{groups_on}
 
 -- count(*) counts NULL, count does not, and the sum of no numbers is NULL
-rows_counted : IsAggregated CountAll sql.Int (Null ∷ Null ∷ []) (counted 2)
+rows_counted : IsAggregated CountAll sql.Int (Null ∷ Null ∷ []) (counted_values 2)
 rows_counted = refl
 
-values_counted : IsAggregated Count sql.Int (Null ∷ Truth true ∷ Truth false ∷ []) (counted 2)
+values_counted : IsAggregated Count sql.Int (Null ∷ Truth true ∷ Truth false ∷ []) (counted_values 2)
 values_counted = refl
 
-nothing_counted : IsAggregated Count sql.Int [] (counted 0)
+nothing_counted : IsAggregated Count sql.Int [] (counted_values 0)
 nothing_counted = refl
 
 nothing_summed : IsAggregated Sum sql.Int (Null ∷ []) Null

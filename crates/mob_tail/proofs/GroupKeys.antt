@@ -1,18 +1,14 @@
 -- The groups of tuples by their fields, tuple by tuple.
 use Rattle.std.specs.Prelude.{◌≡◌, Bool, true, false, cond, not, ◌||◌, ℕ, zero, suc, ◌+◌, ◌<◌, ℤ, refl, List, [], ◌∷◌, ◌++◌, map, filter, length, get_or, set}
-use Rattle.std.specs.List.{AllZip, list_any, position_or_len}
-use Rattle.std.specs.Cmp.{IsEquivalence}
-use Rattle.std.specs.Cmp.Lexicographic.{lists_equiv, nat_list_eq_equiv}
+use Rattle.std.{specs.List.{AllZip, list_any, position_or_len}, specs.Cmp.{IsEquivalence}, specs.Cmp.Lexicographic.{lists_equiv, nat_list_eq_equiv}}
 use Rattle.std.proofs.Common.{ap, ap₂, sym, ◌∙◌, subst, arith, true≢false}
-use Rattle.mob_typed.specs.Selects.{TypedSelectParts}
-use Rattle.mob_typed.specs.Trees.{TypedTree}
+use Rattle.mob_typed.{specs.Selects.{TypedSelectParts}, specs.Trees.{TypedTree}}
 use Rattle.mob_literal.specs.Fields.{field_text}
 use Rattle.mob_meaning.specs.Scene.{scene}
 use Rattle.mob_value.specs.declared.store.Store.{Store}
 use Rattle.mob_groups.specs.Groups.{first_keys, members}
 use Rattle.mob_tagg.specs.Rows.{earlier}
-use Rattle.mob_tail.specs.declared.group_cells.Group.{Group}
-use Rattle.mob_tail.specs.Groups.{is_bare, column_on, group_fields, same_texts, same_group, under_fields, has_groups}
+use Rattle.mob_tail.{specs.declared.group_memos.Group.{Group}, specs.Groups.{is_bare_column, column_on, group_fields, same_texts, same_group, under_fields, has_groups}}
 
 -- any two keys differ
 abbrev pub AreApart : {K : Type 0} → (K → K → Bool) → List K → Type 0
@@ -187,6 +183,6 @@ module _ (select : TypedSelectParts) (store : Store) (day : ℤ) where
   pub no_fields : has_groups select ≡ false → (t : List ℕ) → Fields t ≡ []
   no_fields h t = by select.groups h
     where
-      by : (gs : List TypedTree) → not (is_bare gs) ≡ false → map (λ g. field_text day (column_on (scene store select.from t day) g)) gs ≡ []
+      by : (gs : List TypedTree) → not (is_bare_column gs) ≡ false → map (λ g. field_text day (column_on (scene store select.from t day) g)) gs ≡ []
       by [] h = refl
       by (g ∷ gs) h = absurd (true≢false h)

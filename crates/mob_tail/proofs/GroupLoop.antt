@@ -1,30 +1,21 @@
 -- The invariant of the loop that adds tuples to their groups.
-use Rattle.std.specs.Prelude.{◌≡◌, ◌⊎◌, Bool, true, false, cond, not, ◌||◌, ℕ, ◌+◌, ◌<◌, ℤ, refl, List, [], ◌∷◌, ◌++◌, Some, None, is_none, map, length, get_or, set, take, drop, filter, ◌≤◌, ◌^◌, zero, suc}
-use Rattle.std.specs.List.{AllZip, AllByRecursion, list_any, position_or_len}
-use Rattle.std.proofs.Common.{ap, ap₂, sym, ◌∙◌, subst, inl, inr, arith}
-use Rattle.std.proofs.lemmas.List.{take_more, take-append-drop}
-use Rattle.std.proofs.lemmas.Slice.Zip.{AllZip-long}
+use Rattle.std.specs.Prelude.{◌≡◌, ◌⊎◌, Bool, true, false, cond, not, ◌||◌, ℕ, ◌+◌, ◌<◌, ℤ, refl, List, [], ◌∷◌, ◌++◌, Some, None, is_none, map, length, get_or, set, take, drop, filter, ◌≤◌, ◌^◌}
+use Rattle.std.{specs.Prelude.{zero, suc}, specs.List.{AllZip, AllByRecursion, list_any, position_or_len}, proofs.Common.{ap, ap₂, sym, ◌∙◌, subst, inl, inr, arith}}
+use Rattle.std.{proofs.lemmas.List.{take_more, take-append-drop}, proofs.lemmas.Slice.Zip.{AllZip-long}}
 use Rattle.mob_typed.specs.Selects.{TypedSelectParts}
-use Rattle.mob_value.specs.declared.value.Value.{Value}
-use Rattle.mob_value.specs.declared.value.Value.TheVariants.{Null}
-use Rattle.mob_value.specs.declared.store.Store.{Store}
-use Rattle.mob_meaning.specs.Scene.{Scene, scene}
-use Rattle.mob_meaning.specs.Evaluation.{PlacedFormula}
+use Rattle.mob_value.{specs.declared.value.Value.{Value}, specs.declared.value.Value.TheVariants.{Null}, specs.declared.store.Store.{Store}}
+use Rattle.mob_meaning.{specs.Scene.{Scene, scene}, specs.Evaluation.{PlacedFormula}}
 use Rattle.mob_list.proofs.Entries.{drop_read}
 use Rattle.mob_groups.specs.Groups.{first_keys, group_number}
-use Rattle.mob_tagg.specs.Rows.{IsTuple}
-use Rattle.mob_tagg.proofs.RowSteps.{none_more, fault_at}
-use Rattle.mob_tail.specs.declared.columns.Column.{Column as ColumnOf}
-use Rattle.mob_tail.specs.declared.group_cells.GroupCell.{GroupCell}
-use Rattle.mob_tail.specs.declared.group_cells.Group.{Group}
-use Rattle.mob_tail.specs.declared.state.State.{State}
+use Rattle.mob_tagg.{specs.Rows.{IsTuple}, proofs.RowSteps.{none_more, fault_at}}
+use Rattle.mob_tail.{specs.declared.columns.Column.{Column as ColumnOf}, specs.declared.group_memos.GroupMemo.{GroupMemo}, specs.declared.group_memos.Group.{Group}, specs.declared.state.State.{State}}
 use Rattle.mob_tail.specs.Groups.{group_fields, same_texts, same_group, under_fields, has_groups, groups_on}
-use Rattle.mob_tail.specs.GroupedAnswers.{Column, columns_of, IsArgumentOn, IsAddingTo, IsColumnValue, keys_from, IsGroupRow, IsGroupedFault}
+use Rattle.mob_tail.specs.GroupedAnswers.{AnswerColumn, columns_of, IsArgumentOn, IsAddingTo, IsColumnValue, keys_from, IsGroupRow, IsGroupedFault}
+use Rattle.mob_tail.specs.GroupSteps.{column_seen, IsStart, IsStartMemo, IsStartGroup, IsMemoWith, FailsInMemos, first_of, IsKeptOf, IsMemoKept, IsStateOf, IsGroupMemoOf, IsGroupOf, AreGroupsOf}
+use Rattle.mob_tail.{specs.GroupSteps.{keys_on, number_on}, proofs.TupleSteps.{cells_ok, cells_err}}
+use Rattle.mob_tail.proofs.GroupKeys.{AreApart, firsts_apart, any_first, any_at, texts_equal, With, with_earlier, group_there, group_step, by_keys, no_fields}
 use Rattle.mob_arrange.specs.Keyed.{Keyed}
 use Rattle.mob_literal.specs.Fields.{field_text}
-use Rattle.mob_tail.specs.GroupSteps.{column_seen, IsStart, IsStartCell, IsStartGroup, IsCellWith, FailsInCells, first_of, IsHeldOf, IsCellHeld, IsStateOf, IsCellOf, IsGroupOf, AreGroupsOf, keys_on, number_on}
-use Rattle.mob_tail.proofs.TupleSteps.{cells_ok, cells_err}
-use Rattle.mob_tail.proofs.GroupKeys.{AreApart, firsts_apart, any_first, any_at, texts_equal, With, with_earlier, group_there, group_step, by_keys, no_fields}
 
 -- what is found in a list is found within it
 found_within : {K : Type 0} (p : K → Bool) (ks : List K) → list_any p ks ≡ true → position_or_len p ks < length ks
@@ -44,11 +35,11 @@ taken (suc i) (x ∷ xs) = let h = taken i xs in omega (arith, h)
 module _ (select : TypedSelectParts) (store : Store) (day : ℤ) where
   -- ---- no tuple
 
-  start_state : (c : Column) (x : State) → IsStart c x → IsStateOf select store day [] c x
+  start_state : (c : AnswerColumn) (x : State) → IsStart c x → IsStateOf select store day [] c x
   start_state (e, None) x h = (Null, h, refl)
   start_state (e, Some agg) x h = let s = h agg.ty in (s.0, s.1, ([], tt, s.2))
 
-  start_cells : (columns : List ColumnOf) (cells : List GroupCell) → AllZip IsStartCell columns cells → AllZip (IsCellOf select store day []) (map column_seen columns) cells
+  start_cells : (columns : List ColumnOf) (cells : List GroupMemo) → AllZip IsStartMemo columns cells → AllZip (IsGroupMemoOf select store day []) (map column_seen columns) cells
   start_cells [] [] h = tt
   start_cells [] (c ∷ cells) h = absurd h
   start_cells (d ∷ columns) [] h = absurd h
@@ -58,20 +49,20 @@ module _ (select : TypedSelectParts) (store : Store) (day : ℤ) where
   start_groups [] [] columns e h n = tt
   start_groups [] (g ∷ groups) columns e h n = absurd (omega (arith, n))
   start_groups (k ∷ keys) [] columns e h n = absurd (omega (arith, n))
-  start_groups (k ∷ keys) (g ∷ groups) columns e h n = (record { first = h.0.first; cells = subst (λ z. AllZip (IsCellOf select store day []) z g.cells.items) e (start_cells columns g.cells.items h.0.cells) }, start_groups keys groups columns e h.1 (omega (arith, n)))
+  start_groups (k ∷ keys) (g ∷ groups) columns e h n = (record { first = h.0.first; cells = subst (λ z. AllZip (IsGroupMemoOf select store day []) z g.cells.items) e (start_cells columns g.cells.items h.0.cells) }, start_groups keys groups columns e h.1 (omega (arith, n)))
 
   -- ---- one more tuple
 
   abbrev There : List ℕ → Scene
   There t = scene store select.from t day
 
-  group_ok : (group : List (List ℕ)) (t : List ℕ) (old new : Group) → length group + 1 < 2 ^ 62 → IsGroupOf select store day group old → ((ts : List (List ℕ)) → old.first ≡ first_of ts → new.first ≡ first_of (ts ++ t ∷ [])) → AllZip (IsCellWith (There t) (is_none old.first)) old.cells.items new.cells.items
+  group_ok : (group : List (List ℕ)) (t : List ℕ) (old new : Group) → length group + 1 < 2 ^ 62 → IsGroupOf select store day group old → ((ts : List (List ℕ)) → old.first ≡ first_of ts → new.first ≡ first_of (ts ++ t ∷ [])) → AllZip (IsMemoWith (There t) (is_none old.first)) old.cells.items new.cells.items
       → IsGroupOf select store day (group ++ t ∷ []) new × IsTuple (IsArgumentOn select store day) IsAddingTo group t (columns_of select) None
   group_ok group t old new few h first with_ =
       let both = cells_ok select store day group t (columns_of select) old.cells.items new.cells.items (is_none old.first) (ap is_none h.first) few with_ h.cells in
       (record { first = first group h.first; cells = both.0 }, both.1)
 
-  group_err : (group : List (List ℕ)) (t : List ℕ) (old : Group) (f : PlacedFormula) → length group + 1 < 2 ^ 62 → IsGroupOf select store day group old → FailsInCells (There t) (is_none old.first) old.cells.items f → IsTuple (IsArgumentOn select store day) IsAddingTo group t (columns_of select) (Some f)
+  group_err : (group : List (List ℕ)) (t : List ℕ) (old : Group) (f : PlacedFormula) → length group + 1 < 2 ^ 62 → IsGroupOf select store day group old → FailsInMemos (There t) (is_none old.first) old.cells.items f → IsTuple (IsArgumentOn select store day) IsAddingTo group t (columns_of select) (Some f)
   group_err group t old f few h fails = cells_err select store day group t (columns_of select) old.cells.items (is_none old.first) f (ap is_none h.first) few fails h.cells
 
   -- a group has at most as many tuples as there are
@@ -120,7 +111,7 @@ module _ (select : TypedSelectParts) (store : Store) (day : ℤ) where
     more : take (i + 1) kept ≡ take i kept ++ t ∷ []
     more = take_more kept i t lt ∙ ap (λ z. take i kept ++ z ∷ []) (sym is)
 
-    pub next_grouped : (new : Group) → ((ts : List (List ℕ)) → old.first ≡ first_of ts → new.first ≡ first_of (ts ++ t ∷ [])) → AllZip (IsCellWith (There t) (is_none old.first)) old.cells.items new.cells.items → IsGroupedSoFar kept (i + 1) (set all (number_on select store day kept t) new)
+    pub next_grouped : (new : Group) → ((ts : List (List ℕ)) → old.first ≡ first_of ts → new.first ≡ first_of (ts ++ t ∷ [])) → AllZip (IsMemoWith (There t) (is_none old.first)) old.cells.items new.cells.items → IsGroupedSoFar kept (i + 1) (set all (number_on select store day kept t) new)
     next_grouped new first with_ =
         let mine = (group_there select store day (IsGroupOf select store day) (keys_on select store day kept) all (take i kept) t old (key_there kept i t lt is) so_far.held at).1 in
         let tuple = (group_ok (With select store day mine.0 (take i kept)) t old new (few_before kept i mine.0 lt few) mine.2 first with_).1 in
@@ -131,7 +122,7 @@ module _ (select : TypedSelectParts) (store : Store) (day : ℤ) where
               (none_more (IsArgumentOn select store day) IsAddingTo (same_group select store day) (columns_of select) [] (take i kept) t so_far.fits (subst (λ z. IsTuple (IsArgumentOn select store day) IsAddingTo z t (columns_of select) None) (with_earlier select store day mine.0 (take i kept) t mine.1) tuple));
         }
 
-    pub fault_grouped : (f : PlacedFormula) → FailsInCells (There t) (is_none old.first) old.cells.items f → IsGroupedFault select store day kept (Some (t, f))
+    pub fault_grouped : (f : PlacedFormula) → FailsInMemos (There t) (is_none old.first) old.cells.items f → IsGroupedFault select store day kept (Some (t, f))
     fault_grouped f fails =
         let mine = (group_there select store day (IsGroupOf select store day) (keys_on select store day kept) all (take i kept) t old (key_there kept i t lt is) so_far.held at).1 in
         let tuple = group_err (With select store day mine.0 (take i kept)) t old f (few_before kept i mine.0 lt few) mine.2 fails in
@@ -188,15 +179,15 @@ module _ (select : TypedSelectParts) (store : Store) (day : ℤ) where
   -- ---- rows
 
   -- the values of the states of a group
-  cells_made : (group : List (List ℕ)) (columns : List Column) (cells : List GroupCell) → AllZip (IsCellOf select store day group) columns cells → (values : List Value) × AllZip IsCellHeld values cells × AllZip (IsColumnValue select store day group) columns values
+  cells_made : (group : List (List ℕ)) (columns : List AnswerColumn) (cells : List GroupMemo) → AllZip (IsGroupMemoOf select store day group) columns cells → (values : List Value) × AllZip IsMemoKept values cells × AllZip (IsColumnValue select store day group) columns values
   cells_made group [] [] h = ([], tt, tt)
   cells_made group [] (c ∷ cells) h = absurd h
   cells_made group (d ∷ columns) [] h = absurd h
   cells_made group (d ∷ columns) (c ∷ cells) h =
       let rest = cells_made group columns cells h.1 in
-      (h.0.1.0 ∷ rest.0, (subst (λ z. IsHeldOf z c.state h.0.1.0) (sym h.0.0) h.0.1.1, rest.1), (h.0.1.2, rest.2))
+      (h.0.1.0 ∷ rest.0, (subst (λ z. IsKeptOf z c.state h.0.1.0) (sym h.0.0) h.0.1.1, rest.1), (h.0.1.2, rest.2))
 
-  pub values_made : (tuples : List (List ℕ)) (g : Group) → IsGroupOf select store day tuples g → (values : List Value) × AllZip IsCellHeld values g.cells.items × AllZip (IsColumnValue select store day tuples) (columns_of select) values
+  pub values_made : (tuples : List (List ℕ)) (g : Group) → IsGroupOf select store day tuples g → (values : List Value) × AllZip IsMemoKept values g.cells.items × AllZip (IsColumnValue select store day tuples) (columns_of select) values
   values_made tuples g h = cells_made tuples (columns_of select) g.cells.items h.cells
 
   pub row_made : (tuples : List (List ℕ)) (values : List Value) (row : Keyed) → AllZip (IsColumnValue select store day tuples) (columns_of select) values → row.fields ≡ map (field_text day) values → row.keys ≡ keys_from select store day tuples values 0 select.keys → IsGroupRow select store day tuples row

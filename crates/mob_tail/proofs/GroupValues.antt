@@ -1,36 +1,22 @@
 -- Tuples are in one group exactly if the columns of GROUP BY have the same values on both.
+use Rattle.std.{specs.Prelude.{if◌then◌else◌}, specs.List.{AllByRecursion}, specs.Cmp.Lexicographic.{pointwise_decides, bytes_decides}}
 use Rattle.std.proofs.Common.{◌≡◌, ◌∙◌, inl, inr, ℕ, ℤ, List, [], ◌∷◌, map, Bool, true, false, Ok, Err, refl, sym, ap, ap₂, subst, true≢false, codes}
-use Rattle.std.specs.Prelude.{if◌then◌else◌}
-use Rattle.std.specs.List.{AllByRecursion}
-use Rattle.std.specs.Cmp.Lexicographic.{pointwise_decides, bytes_decides}
 use Rattle.std.proofs.lemmas.List.{append_cancel_left, append_cancel_right}
 use Rattle.mob_ratio.specs.Ratio.{Ratio}
 use Rattle.mob_frac.specs.Fits.{Fits}
 use Rattle.mob_ast.specs.declared.types.SqlType.{SqlType}
-use Rattle.mob_ast.specs.declared.types.SqlType.TheVariants as sql
-use Rattle.mob_numeral.specs.NumberText.{number_text}
-use Rattle.mob_numeral.specs.declared.fault.ReadText.TheVariants.{NotText}
-use Rattle.mob_numeral.specs.Numbers.{numbers}
-use Rattle.mob_numeral.specs.Verdict.{Lit}
-use Rattle.mob_numeral.proofs.Again.{number_again}
-use Rattle.mob_scalar.specs.Moment.{is_year_second}
-use Rattle.mob_scalar.specs.MomentText.{far_text, moment_text, part_numerator, second_of, second_text}
-use Rattle.mob_scalar.specs.Moments.{moments}
-use Rattle.mob_scalar.proofs.FarTexts.{far_not_read}
-use Rattle.mob_scalar.proofs.MomentAgain.{moment_again}
-use Rattle.mob_scalar.proofs.OneReadings.{one_moment, one_number}
-use Rattle.mob_typed.specs.Trees.{TypedTree, type_of}
-use Rattle.mob_typed.specs.Selects.{TypedSelectParts}
+use Rattle.mob_numeral.{specs.NumberText.{number_text}, specs.declared.fault.ReadText.TheVariants.{NotText}, specs.Numbers.{numbers}, specs.Verdict.{Lit}, proofs.Again.{number_again}}
+use Rattle.mob_scalar.{specs.Moment.{is_year_second}, specs.MomentText.{far_text, moment_text, part_numerator, second_of, second_text}, specs.Moments.{moments}, proofs.FarTexts.{far_not_read}}
+use Rattle.mob_scalar.{proofs.MomentAgain.{moment_again}, proofs.OneReadings.{one_moment, one_number}}
+use Rattle.mob_typed.{specs.Trees.{TypedTree, type_of}, specs.Selects.{TypedSelectParts}}
 use Rattle.mob_clauses.specs.Keys.{is_key}
-use Rattle.mob_value.specs.declared.value.Value.{Value}
-use Rattle.mob_value.specs.declared.value.Value.TheVariants as value
-use Rattle.mob_value.specs.declared.store.Store.{Store}
+use Rattle.mob_value.{specs.declared.value.Value.{Value}, specs.declared.store.Store.{Store}}
 use Rattle.mob_literal.specs.Fields.{field_text}
 use Rattle.mob_meaning.specs.Scene.{scene}
 use Rattle.mob_catalog.specs.OwnTypes.{IsReadAs}
-use Rattle.mob_tail.specs.Groups.{column_on, group_fields}
-use Rattle.mob_tail.specs.GroupLaws.{GroupsAreOfValues, HasSameValue, IsKeyOn, IsStoredAs}
-use Rattle.mob_tail.proofs.FieldsTell.{fields_tell}
+use Rattle.mob_tail.{specs.Groups.{column_on, group_fields}, specs.GroupLaws.{GroupsAreOfValues, HasSameValue, IsKeyOn, IsStoredAs}, proofs.FieldsTell.{fields_tell}}
+use Rattle.mob_ast.specs.declared.types.SqlType.TheVariants as sql
+use Rattle.mob_value.specs.declared.value.Value.TheVariants as value
 
 -- ---- moments, also those outside the years 0001 to 9999
 

@@ -1,15 +1,9 @@
 -- The groups of keys that are references, as groups of what they refer to.
-use Rattle.std.specs.Prelude.{◌≡◌, Bool, true, false, cond, not, ℕ, ◌+◌, refl, List, [], ◌∷◌, map, filter, length, nat_eq}
-use Rattle.std.specs.List.{position_or_len}
-use Rattle.std.specs.Borrow.{Bor}
-use Rattle.std.specs.declared.vec.Vec.{Vec}
-use Rattle.std.specs.Cmp.Lexicographic.{pointwise}
-use Rattle.std.specs.Cmp.Derive.Mapped.{pointwise-map}
-use Rattle.std.proofs.Common.{ap, ap₂, sym, ◌∙◌, arith}
+use Rattle.std.{specs.Prelude.{◌≡◌, Bool, true, false, cond, not, ℕ, ◌+◌, refl, List, [], ◌∷◌, map, filter, length, nat_eq}, specs.List.{position_or_len}, specs.Borrow.{Bor}}
+use Rattle.std.{specs.declared.vec.Vec.{Vec}, specs.Cmp.Lexicographic.{pointwise}, specs.Cmp.Derive.Mapped.{pointwise-map}, proofs.Common.{ap, ap₂, sym, ◌∙◌, arith}}
 use Rattle.mob_groups.specs.Groups.{first_keys, group_number}
 use Rattle.mob_tail.specs.Groups.{same_texts}
-use Rattle.mob_arrange.specs.TextsSeen.{texts_of}
-use Rattle.mob_arrange.proofs.Seen.{same_row}
+use Rattle.mob_arrange.{specs.TextsSeen.{texts_of}, proofs.Seen.{same_row}}
 
 module _ {V K : Type 0} (one : V → V → Bool) (same : K → K → Bool) (see : V → K) (alike : (v w : V) → one v w ≡ same (see v) (see w)) where
   others_seen : (v : V) (vs : List V) → map see (filter (λ w. not (one v w)) vs) ≡ filter (λ k. not (same (see v) k)) (map see vs)

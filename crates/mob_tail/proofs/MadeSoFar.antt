@@ -1,7 +1,5 @@
 -- The invariant of a loop that takes a list apart and makes something of each entry.
-use Rattle.std.specs.Prelude.{◌≡◌, refl, List, [], ◌∷◌, ◌++◌}
-use Rattle.std.specs.List.{AllZip}
-use Rattle.std.proofs.Common.{ap, sym, ◌∙◌, subst, append_assoc, append-nil}
+use Rattle.std.{specs.Prelude.{◌≡◌, refl, List, [], ◌∷◌, ◌++◌}, specs.List.{AllZip}, proofs.Common.{ap, sym, ◌∙◌, subst, append_assoc, append-nil}}
 use Rattle.mob_tail.proofs.TupleSteps.{zip_more}
 
 module _ {A B C : Type 0} (R : A → B → Type 0) (Q : A → C → Type 0) where

@@ -1,23 +1,13 @@
 -- Kept tuples have one answer.
-use Rattle.std.proofs.Common.{◌≡◌, inl, inr, ℤ, ℕ, Bool, true, false, List, [], ◌∷◌, ◌++◌, Option, Some, None, Result, Ok, Err, sym, ap, ap₂, subst, ◌∙◌, map}
-use Rattle.std.specs.Ordering.{is_lt}
-use Rattle.mob_typed.specs.Trees.{TypedTree}
-use Rattle.mob_typed.specs.Selects.{TypedSelectParts}
+use Rattle.std.{specs.Ordering.{is_lt}, proofs.Common.{◌≡◌, inl, inr, ℤ, ℕ, Bool, true, false, List, [], ◌∷◌, ◌++◌, Option, Some, None, Result, Ok, Err, sym, ap, ap₂, subst, ◌∙◌, map}}
+use Rattle.mob_typed.{specs.Trees.{TypedTree}, specs.Selects.{TypedSelectParts}}
 use Rattle.mob_value.specs.declared.store.Store.{Store}
 use Rattle.mob_literal.specs.Fields.{field_text}
-use Rattle.mob_meaning.specs.Scene.{Scene, scene}
-use Rattle.mob_meaning.specs.Outcomes.{HasOneOutcome, IsOne}
-use Rattle.mob_meaning.specs.Evaluation.{PlacedFormula}
-use Rattle.mob_arrange.specs.Keyed.{Keyed}
-use Rattle.mob_tail.specs.IsMadeOfEach.{IsMadeOfEach}
-use Rattle.mob_arrange.specs.Order.{IsOrderedByKeys, compare_rows}
-use Rattle.mob_arrange.specs.Rows.{AreFirst, AreDistinct, AreArranged, limited}
-use Rattle.mob_tail.specs.Answers.{IsField, IsKey, IsRowOf, IsTupleRow, IsPlainAnswer, IsAnswerBy, IsAnswerOnKept}
-use Rattle.mob_tail.specs.GroupedAnswers.{IsGroupedAnswer}
-use Rattle.mob_tail.specs.Groups.{groups_on}
-use Rattle.mob_tail.proofs.OneGroup.{fault_once, rows_once}
-use Rattle.mob_arrange.proofs.Orders.{rows_ranked}
+use Rattle.mob_meaning.{specs.Scene.{Scene, scene}, specs.Outcomes.{HasOneOutcome, IsOne}, specs.Evaluation.{PlacedFormula}}
+use Rattle.mob_arrange.{specs.Keyed.{Keyed}, specs.Order.{IsOrderedByKeys, compare_rows}, specs.Rows.{AreFirst, AreDistinct, AreArranged, limited}, proofs.Orders.{rows_ranked}}
 use Rattle.mob_arrange.proofs.OneOrder.{one_order}
+use Rattle.mob_tail.{specs.IsMadeOfEach.{IsMadeOfEach}, specs.Answers.{IsField, IsKey, IsRowOf, IsTupleRow, IsPlainAnswer, IsAnswerBy, IsAnswerOnKept}, specs.GroupedAnswers.{IsGroupedAnswer}}
+use Rattle.mob_tail.{specs.Groups.{groups_on}, proofs.OneGroup.{fault_once, rows_once}}
 
 module _ {X Y F : Type 0} (R : X → Result Y F → Type 0) (once : (x : X) → IsOne (R x)) where
   one_value : (x : X) (y z : Y) → R x (Ok y) → R x (Ok z) → y ≡ z

@@ -1,40 +1,22 @@
 -- A grouped query has one first fault or none, and one row for each group.
-use Rattle.std.proofs.Common.{◌≡◌, ℕ, ℤ, Bool, true, false, List, [], ◌∷◌, Option, Some, None, Ok, refl, sym, ap, ap₂, subst, ◌∙◌, map}
-use Rattle.std.specs.Prelude.{option_map}
-use Rattle.std.specs.List.{AllZip}
-use Rattle.mob_ratio.specs.Ratio.{Ratio}
-use Rattle.mob_ratio.specs.Order.{same}
-use Rattle.mob_ratio.proofs.Order.{same_exact}
+use Rattle.std.{specs.Prelude.{option_map}, specs.List.{AllZip}, proofs.Common.{◌≡◌, ℕ, ℤ, Bool, true, false, List, [], ◌∷◌, Option, Some, None, Ok, refl, sym, ap, ap₂, subst, ◌∙◌, map}}
+use Rattle.mob_ratio.{specs.Ratio.{Ratio}, specs.Order.{same}, proofs.Order.{same_exact}}
 use Rattle.mob_span.specs.Flags.{same_bool, same_bool_exact}
-use Rattle.mob_slice.specs.CourseOf.{CourseOf, steady_course, line_course}
-use Rattle.mob_slice.specs.Entries.{IsFirst}
-use Rattle.mob_slice.specs.declared.slice.Slice.{Slice}
-use Rattle.mob_slice.specs.declared.formula.Formula.{Formula}
+use Rattle.mob_slice.{specs.CourseOf.{CourseOf, steady_course, line_course}, specs.Entries.{IsFirst}, specs.declared.slice.Slice.{Slice}, specs.declared.formula.Formula.{Formula}}
 use Rattle.mob_slice.proofs.Firsts.{one_first}
-use Rattle.mob_normal.proofs.Unique.{OneList}
+use Rattle.mob_lift.{proofs.Unique.{OneList}, proofs.ByCourse.{one_of_steps, one_of_lines}}
 use Rattle.mob_ast.specs.declared.types.SqlType.{SqlType}
-use Rattle.mob_ast.specs.declared.types.SqlType.TheVariants as sql
-use Rattle.mob_operators.specs.declared.aggregate.AggKind.{AggKind}
-use Rattle.mob_operators.specs.declared.aggregate.AggKind.TheVariants.{CountAll, Count, Sum, TCount, TSum, TAnd, TOr}
-use Rattle.mob_typed.specs.Trees.{TypedTree}
-use Rattle.mob_typed.specs.Selects.{TypedSelectParts}
-use Rattle.mob_value.specs.declared.value.Value.{Value}
-use Rattle.mob_value.specs.declared.value.Value.TheVariants.{MovingBool, MovingInt, MovingFrac}
-use Rattle.mob_value.specs.declared.store.Store.{Store}
+use Rattle.mob_operators.{specs.declared.aggregate.AggKind.{AggKind}, specs.declared.aggregate.AggKind.TheVariants.{CountAll, Count, Sum, TCount, TSum, TAnd, TOr}}
+use Rattle.mob_typed.{specs.Trees.{TypedTree}, specs.Selects.{TypedSelectParts}}
+use Rattle.mob_value.{specs.declared.value.Value.{Value}, specs.declared.value.Value.TheVariants.{MovingBool, MovingInt, MovingFrac}, specs.declared.store.Store.{Store}, specs.Moving.{or_nothing}}
 use Rattle.mob_literal.specs.Fields.{field_text}
-use Rattle.mob_value.specs.Moving.{or_nothing}
-use Rattle.mob_normal.proofs.ByCourse.{one_of_steps, one_of_lines}
-use Rattle.mob_meaning.specs.Scene.{Scene, scene}
-use Rattle.mob_meaning.specs.Outcomes.{HasOneOutcome, IsOne}
-use Rattle.mob_meaning.specs.Evaluation.{PlacedFormula}
+use Rattle.mob_meaning.{specs.Scene.{Scene, scene}, specs.Outcomes.{HasOneOutcome, IsOne}, specs.Evaluation.{PlacedFormula}}
 use Rattle.mob_eval.specs.QueryFaults.{TupleFault}
-use Rattle.mob_tagg.specs.Aggregates.{total, count, all_hold, some_holds}
-use Rattle.mob_tagg.proofs.Joining.{one_aggregate}
-use Rattle.mob_tagg.proofs.OneRow.{one_row_fault}
+use Rattle.mob_tagg.{specs.Aggregates.{total, count, all_hold, some_holds}, proofs.Joining.{one_aggregate}, proofs.OneRow.{one_row_fault}}
 use Rattle.mob_arrange.specs.Keyed.{Keyed}
-use Rattle.mob_tail.specs.Aggregated.{IsOverTime, IsAggregated, leaves_out, adding_entries, AddingPasses, one_there, step_there, line_there, truth_there}
-use Rattle.mob_tail.specs.Groups.{same_group}
-use Rattle.mob_tail.specs.GroupedAnswers.{Column, columns_of, IsArgumentOf, IsArgument, IsArgumentOn, IsAddingTo, IsColumnValue, keys_from, IsGroupRow, IsGroupedFault}
+use Rattle.mob_tail.{specs.Aggregated.{IsOverTime, IsAggregated, leaves_out, adding_entries, AddingPasses, one_there, step_there, line_there, truth_there}, specs.Groups.{same_group}}
+use Rattle.mob_tail.specs.GroupedAnswers.{AnswerColumn, columns_of, IsArgumentOf, IsArgument, IsArgumentOn, IsAddingTo, IsColumnValue, keys_from, IsGroupRow, IsGroupedFault}
+use Rattle.mob_ast.specs.declared.types.SqlType.TheVariants as sql
 
 over_once : {C B Z : Type 0} (course : CourseOf C Z) (one : OneList course) (make : List (Slice C) → Value) (f : List B → Z) (there : Value → Ratio → Option B) (vs : List Value) (v w : Value) → IsOverTime course make f there vs v → IsOverTime course make f there vs w → v ≡ w
 over_once course one make f there vs v w h k =
@@ -73,7 +55,7 @@ passes_once false kind ty vs v f g h k =
     let a = aggregated_once kind ty (v ∷ []) h.2.0 k.2.0 h.2.1 k.2.1 in
     one_first (adding_entries kind ty k.0 k.2.0) f g (subst (λ z. IsFirst (adding_entries kind ty z k.2.0) f) r (subst (λ z. IsFirst (adding_entries kind ty h.0 z) f) a h.2.2)) k.2.2
 
-adding_once : (c : Column) (vs : List Value) (v : Value) (f g : Option PlacedFormula) → IsAddingTo c vs v f → IsAddingTo c vs v g → f ≡ g
+adding_once : (c : AnswerColumn) (vs : List Value) (v : Value) (f g : Option PlacedFormula) → IsAddingTo c vs v f → IsAddingTo c vs v g → f ≡ g
 adding_once (e, None) vs v f g h k = h ∙ sym k
 adding_once (e, Some agg) vs v f g h k = h.2 ∙ ap (option_map (λ formula. (agg.place, formula))) (passes_once (leaves_out agg.kind v) agg.kind agg.ty vs v h.0 k.0 h.1 k.1) ∙ sym k.2
 
@@ -87,7 +69,7 @@ module _ (one : HasOneOutcome) where
   argument_of_once TAnd s e r q h k = one s e r q h k
   argument_of_once TOr s e r q h k = one s e r q h k
 
-  argument_once : (s : Scene) (c : Column) → IsOne (IsArgument s c)
+  argument_once : (s : Scene) (c : AnswerColumn) → IsOne (IsArgument s c)
   argument_once s (e, None) r q h k = h ∙ sym k
   argument_once s (e, Some agg) r q h k = argument_of_once agg.kind s e r q h k
 
@@ -95,7 +77,7 @@ module _ (one : HasOneOutcome) where
     pub fault_once : (kept : List (List ℕ)) (f g : Option TupleFault) → IsGroupedFault select store day kept f → IsGroupedFault select store day kept g → f ≡ g
     fault_once kept f g h k = one_row_fault (IsArgumentOn select store day) IsAddingTo (λ t c r q h k. argument_once (scene store select.from t day) c r q h k) adding_once (same_group select store day) (columns_of select) [] kept f g h k
 
-    arguments_once : (c : Column) (ts : List (List ℕ)) (vs ws : List Value) → AllZip (λ t w. IsArgumentOn select store day t c (Ok w)) ts vs → AllZip (λ t w. IsArgumentOn select store day t c (Ok w)) ts ws → vs ≡ ws
+    arguments_once : (c : AnswerColumn) (ts : List (List ℕ)) (vs ws : List Value) → AllZip (λ t w. IsArgumentOn select store day t c (Ok w)) ts vs → AllZip (λ t w. IsArgumentOn select store day t c (Ok w)) ts ws → vs ≡ ws
     arguments_once c [] [] [] h k = refl
     arguments_once c [] [] (w ∷ ws) h k = absurd k
     arguments_once c [] (v ∷ vs) ws h k = absurd h
@@ -103,11 +85,11 @@ module _ (one : HasOneOutcome) where
     arguments_once c (t ∷ ts) (v ∷ vs) [] h k = absurd k
     arguments_once c (t ∷ ts) (v ∷ vs) (w ∷ ws) h k = let e = argument_once (scene store select.from t day) c (Ok v) (Ok w) h.0 k.0 in let same : v ≡ w = cc e in ap₂ (λ a b. a ∷ b) same (arguments_once c ts vs ws h.1 k.1)
 
-    value_once : (group : List (List ℕ)) (c : Column) (v w : Value) → IsColumnValue select store day group c v → IsColumnValue select store day group c w → v ≡ w
+    value_once : (group : List (List ℕ)) (c : AnswerColumn) (v w : Value) → IsColumnValue select store day group c v → IsColumnValue select store day group c w → v ≡ w
     value_once group (e, None) v w h k = h ∙ sym k
     value_once group (e, Some agg) v w h k = aggregated_once agg.kind agg.ty k.0 v w (subst (λ z. IsAggregated agg.kind agg.ty z v) (arguments_once (e, Some agg) group h.0 k.0 h.1 k.1) h.2) k.2
 
-    values_once : (group : List (List ℕ)) (cs : List Column) (vs ws : List Value) → AllZip (IsColumnValue select store day group) cs vs → AllZip (IsColumnValue select store day group) cs ws → vs ≡ ws
+    values_once : (group : List (List ℕ)) (cs : List AnswerColumn) (vs ws : List Value) → AllZip (IsColumnValue select store day group) cs vs → AllZip (IsColumnValue select store day group) cs ws → vs ≡ ws
     values_once group [] [] [] h k = refl
     values_once group [] [] (w ∷ ws) h k = absurd k
     values_once group [] (v ∷ vs) ws h k = absurd h

@@ -1,12 +1,10 @@
 -- A walk over steps and names: each makes a line, and after the last step all lines are made.
-use Rattle.std.proofs.Common.{◌≡◌, ◌∙◌, ◌+◌, ◌<◌, sym, ap, arith, ℕ, zero, suc, List, [], ◌∷◌, ◌++◌, append-nil, append_assoc, drop, get_or, length, map, Option, Some}
 use Rattle.std.specs.Prelude.{is_some, slice_get}
+use Rattle.std.proofs.Common.{◌≡◌, ◌∙◌, ◌+◌, ◌<◌, sym, ap, arith, ℕ, zero, suc, List, [], ◌∷◌, ◌++◌, append-nil, append_assoc, drop, get_or, length, map, Option, Some}
 use Rattle.std.proofs.lemmas.List.{drop_more}
-use Rattle.mob_typed.specs.Trees.{TypedTree}
-use Rattle.mob_typed.specs.Selects.{on_of}
+use Rattle.mob_typed.{specs.Trees.{TypedTree}, specs.Selects.{on_of}}
 use Rattle.mob_catalog.specs.Catalogue.{Catalogue}
-use Rattle.mob_plan.specs.declared.steps.Step.{Step}
-use Rattle.mob_plan.specs.Plans.{step_seen}
+use Rattle.mob_plan.{specs.declared.steps.Step.{Step}, specs.Plans.{step_seen}}
 use Rattle.mob_tail.specs.PlanAnswers.{plan_line, plan_rows}
 
 -- the names from a place on, where the first exists

@@ -1,47 +1,30 @@
 -- Aggregates as groups hold them, with one more value.
 use Rattle.std.specs.Prelude.{◌≡◌, ◌↔◌, Bool, true, false, cond, IsTrue, refl, List, [], ◌∷◌, ◌++◌, Option, Some, None, MatchOption, Result, Ok, Err, OnOk, IfErr}
 use Rattle.std.proofs.Common.{ap, sym, ◌∙◌, subst}
-use Rattle.mob_ratio.specs.Ratio.{Ratio}
-use Rattle.mob_ratio.specs.Order.{same}
-use Rattle.mob_ratio.proofs.Order.{same_exact}
+use Rattle.mob_ratio.{specs.Ratio.{Ratio}, specs.Order.{same}, proofs.Order.{same_exact}}
 use Rattle.mob_arith.specs.Operations.{sum_of, both_hold, one_holds}
-use Rattle.mob_span.proofs.SpanLemmas.{some_instant}
-use Rattle.mob_span.specs.Flags.{same_bool, same_bool_exact}
-use Rattle.mob_slice.specs.CourseOf.{steady_course}
-use Rattle.mob_slice.specs.Operands.{steady_value, steady_limit}
-use Rattle.mob_slice.specs.Slices.{value_at}
-use Rattle.mob_list.specs.declared.fault.Fault.{Fault}
-use Rattle.mob_list.specs.declared.fault.Fault.TheVariants.{Because, NoMemory}
-use Rattle.mob_slice.specs.declared.steady.Steady.{Steady}
-use Rattle.mob_ast.specs.declared.types.SqlType.{SqlType}
-use Rattle.mob_operators.specs.declared.aggregate.AggKind.{AggKind}
-use Rattle.mob_operators.specs.declared.aggregate.AggKind.TheVariants.{CountAll, Count, Sum, TCount, TSum, TAnd, TOr}
-use Rattle.mob_value.specs.declared.value.Value.{Value}
-use Rattle.mob_value.specs.declared.value.Value.TheVariants.{Null, MovingBool, MovingInt}
-use Rattle.mob_value.specs.Moving.{AreNormalBy, StepSlices, or_nothing}
-use Rattle.mob_normal.proofs.ByCourse.{one_of_steps}
-use Rattle.mob_tagg.specs.Gathered.{united_all, parts_at, whole_at}
-use Rattle.mob_tagg.specs.United.{united_by}
-use Rattle.mob_tagg.specs.declared.parts.Part.{Part}
-use Rattle.mob_tagg.proofs.Unions.{normal_union}
-use Rattle.mob_tagg.specs.Aggregates.{IsAggregate, JoinsBy, count, all_hold, some_holds}
-use Rattle.mob_tagg.proofs.Joining.{count_joins, all_joins, some_joins}
-use Rattle.mob_tail.specs.declared.state.State.{State}
-use Rattle.mob_tail.specs.declared.state.State.TheVariants.{Whole, Counts, All, Any}
-use Rattle.mob_tail.specs.Aggregated.{IsOverTime, IsAggregated, IsUnion, IsAggregateWith, leaves_out, one_there, truth_there, slices_there, steps_of, truths_of}
-use Rattle.mob_tail.specs.Made.{made_in}
-use Rattle.mob_tail.specs.States.{AreTogether, AreTruthsWith, IsOneMore, is_in_parts, IsHeld, IsStartState, IsStateWith}
-use Rattle.mob_tail.proofs.Aggregating.{over_more, seen_steps, seen_truths, all_alone, some_alone, left_out_with}
-use Rattle.mob_tail.proofs.CountsFit.{count_fits}
+use Rattle.mob_span.{specs.Flags.{same_bool, same_bool_exact}, proofs.SpanLemmas.{some_instant}}
+use Rattle.mob_slice.{specs.CourseOf.{steady_course}, specs.Operands.{steady_value, steady_limit}, specs.Slices.{value_at}, specs.declared.steady.Steady.{Steady}}
 use Rattle.mob_slice.specs.declared.formula.Formula.{Formula}
+use Rattle.mob_list.{specs.declared.fault.Fault.{Fault}, specs.declared.fault.Fault.TheVariants.{Because, NoMemory}}
+use Rattle.mob_ast.specs.declared.types.SqlType.{SqlType}
+use Rattle.mob_operators.{specs.declared.aggregate.AggKind.{AggKind}, specs.declared.aggregate.AggKind.TheVariants.{CountAll, Count, Sum, TCount, TSum, TAnd, TOr}}
+use Rattle.mob_value.{specs.declared.value.Value.{Value}, specs.declared.value.Value.TheVariants.{Null, MovingBool, MovingInt}, specs.Moving.{AreNormalBy, SteadySlices, or_nothing}}
+use Rattle.mob_lift.proofs.ByCourse.{one_of_steps}
+use Rattle.mob_tagg.{specs.Gathered.{united_all, gathered_parts, whole_at}, specs.United.{united_by}, specs.declared.parts.Part.{Part}}
+use Rattle.mob_tagg.{specs.Aggregates.{IsAggregate, JoinsBy, count, all_hold, some_holds}, proofs.Unions.{normal_union}, proofs.Joining.{count_joins, all_joins, some_joins}}
+use Rattle.mob_tail.{specs.declared.state.State.{State}, specs.declared.state.State.TheVariants.{Whole, Counts, All, Any}}
+use Rattle.mob_tail.{specs.Aggregated.{IsOverTime, IsAggregated, IsUnion, IsAggregateWith, leaves_out, one_there, truth_there, slices_there, steps_of, truths_of}, specs.Made.{made_in}}
+use Rattle.mob_tail.specs.States.{AreTogether, AreTruthsWith, IsOneMore, is_in_parts, IsKeptIn, IsStartState, IsStateWith}
+use Rattle.mob_tail.{proofs.Aggregating.{over_more, seen_steps, seen_truths, all_alone, some_alone, left_out_with}, proofs.CountsFit.{count_fits}}
 
 none_some : {A R : Type 0} (x : A) → None ≡ Some x → R
 none_some x e = cc
 
 -- ---- parts that together are a value
 
-module _ {B : Type 0} (is_same : B → B → Bool) (exact : (a b : B) → IsTrue (is_same a b) ↔ (a ≡ b)) (make : StepSlices B → Value) (see : Value → Option (StepSlices B)) (seen : (r : Option (StepSlices B)) → see (or_nothing make r) ≡ r) (op : B → B → B) where
-  held_as : (parts : List (Part (Steady B) B)) (o : Option (StepSlices B)) → MatchOption o (Unit {0}) (AreNormalBy (steady_course is_same)) → ((t : Ratio) → united_all op (parts_at steady_value parts t) ≡ slices_there steady_value o t) → AreTogether is_same make see op parts (or_nothing make o)
+module _ {B : Type 0} (is_same : B → B → Bool) (exact : (a b : B) → IsTrue (is_same a b) ↔ (a ≡ b)) (make : SteadySlices B → Value) (see : Value → Option (SteadySlices B)) (seen : (r : Option (SteadySlices B)) → see (or_nothing make r) ≡ r) (op : B → B → B) where
+  held_as : (parts : List (Part (Steady B) B)) (o : Option (SteadySlices B)) → MatchOption o (Unit {0}) (AreNormalBy (steady_course is_same)) → ((t : Ratio) → united_all op (gathered_parts steady_value parts t) ≡ slices_there steady_value o t) → AreTogether is_same make see op parts (or_nothing make o)
   held_as parts o n e = record {
     seen = ap (or_nothing make) (sym (seen o));
     normal = subst (λ z. MatchOption z (Unit {0}) (AreNormalBy (steady_course is_same))) (sym (seen o)) n;
@@ -50,25 +33,25 @@ module _ {B : Type 0} (is_same : B → B → Bool) (exact : (a b : B) → IsTrue
 
   -- no parts
   pub none_together : (parts : List (Part (Steady B) B)) → parts ≡ [] → AreTogether is_same make see op parts Null
-  none_together parts e = held_as parts None tt (λ t. ap (λ z. united_all op (parts_at steady_value z t)) e)
+  none_together parts e = held_as parts None tt (λ t. ap (λ z. united_all op (gathered_parts steady_value z t)) e)
 
   -- one more value among the parts
-  held_more : (parts new : List (Part (Steady B) B)) (r : Value) (w : StepSlices B) → AreTogether is_same make see op parts r → AreNormalBy (steady_course is_same) w
-      → ((t : Ratio) → united_all op (parts_at steady_value new t) ≡ united_by op (united_all op (parts_at steady_value parts t)) (value_at steady_value w t)) → (u : Value) × AreTogether is_same make see op new u × IsUnion (steady_course is_same) make op (see r) (Some w) r u
+  held_more : (parts new : List (Part (Steady B) B)) (r : Value) (w : SteadySlices B) → AreTogether is_same make see op parts r → AreNormalBy (steady_course is_same) w
+      → ((t : Ratio) → united_all op (gathered_parts steady_value new t) ≡ united_by op (united_all op (gathered_parts steady_value parts t)) (value_at steady_value w t)) → (u : Value) × AreTogether is_same make see op new u × IsUnion (steady_course is_same) make op (see r) (Some w) r u
   held_more parts new r w h n e = by (see r) h.normal (λ t. e t ∙ ap (λ z. united_by op z (value_at steady_value w t)) (h.at_each t))
     where
-      by : (o : Option (StepSlices B)) → MatchOption o (Unit {0}) (AreNormalBy (steady_course is_same)) → ((t : Ratio) → united_all op (parts_at steady_value new t) ≡ united_by op (slices_there steady_value o t) (value_at steady_value w t))
+      by : (o : Option (SteadySlices B)) → MatchOption o (Unit {0}) (AreNormalBy (steady_course is_same)) → ((t : Ratio) → united_all op (gathered_parts steady_value new t) ≡ united_by op (slices_there steady_value o t) (value_at steady_value w t))
           → (u : Value) × AreTogether is_same make see op new u × IsUnion (steady_course is_same) make op o (Some w) r u
       by None m f = (make w, held_as new (Some w) n f, refl)
       by (Some v) m f = let x = normal_union is_same exact op v w m n in (make x.0, held_as new (Some x.0) x.1 (λ t. f t ∙ sym (x.2 t)), (x.0, refl, x.1, x.2))
 
-  union_none : (o : Option (StepSlices B)) (r : Value) → IsUnion (steady_course is_same) make op o None r r
+  union_none : (o : Option (SteadySlices B)) (r : Value) → IsUnion (steady_course is_same) make op o None r r
   union_none None r = refl
   union_none (Some t) r = refl
 
   module _ {A : Type 0} (f : List A → B) (joins : JoinsBy op f) (there : Value → Ratio → Option A) where
-    pub more_together : (parts new : List (Part (Steady B) B)) (vs : List Value) (r v : Value) (w : StepSlices B) → AreTogether is_same make see op parts r → IsOverTime (steady_course is_same) make f there vs r → IsAggregate there steady_value steady_limit steady_limit (steady_course is_same).continues f (v ∷ []) (Some w)
-        → ((t : Ratio) → united_all op (parts_at steady_value new t) ≡ united_by op (united_all op (parts_at steady_value parts t)) (value_at steady_value w t)) → (u : Value) × AreTogether is_same make see op new u × IsOverTime (steady_course is_same) make f there (vs ++ v ∷ []) u
+    pub more_together : (parts new : List (Part (Steady B) B)) (vs : List Value) (r v : Value) (w : SteadySlices B) → AreTogether is_same make see op parts r → IsOverTime (steady_course is_same) make f there vs r → IsAggregate there steady_value steady_limit steady_limit (steady_course is_same).continues f (v ∷ []) (Some w)
+        → ((t : Ratio) → united_all op (gathered_parts steady_value new t) ≡ united_by op (united_all op (gathered_parts steady_value parts t)) (value_at steady_value w t)) → (u : Value) × AreTogether is_same make see op new u × IsOverTime (steady_course is_same) make f there (vs ++ v ∷ []) u
     more_together parts new vs r v w held h one e =
         let more = held_more parts new r w held one.0 e in
         (more.0, more.1, over_more (steady_course is_same) make see seen op f joins there vs r v more.0 (Some w) h one more.2)
@@ -78,11 +61,11 @@ module _ {B : Type 0} (is_same : B → B → Bool) (exact : (a b : B) → IsTrue
 
   -- ---- the value of parts
 
-  no_value : (w : StepSlices B) → AreNormalBy (steady_course is_same) w → ((t : Ratio) → None ≡ value_at steady_value w t) → {R : Type 0} → R
+  no_value : (w : SteadySlices B) → AreNormalBy (steady_course is_same) w → ((t : Ratio) → None ≡ value_at steady_value w t) → {R : Type 0} → R
   no_value [] n e = absurd (n.some refl)
   no_value (s ∷ w) n e = let i = some_instant s.span n.chained.0.some in none_some s.course.value (e i.0 ∙ ap (λ b. cond b (Some s.course.value) (value_at steady_value w i.0)) i.1)
 
-  one_option : (o p : Option (StepSlices B)) → MatchOption o (Unit {0}) (AreNormalBy (steady_course is_same)) → MatchOption p (Unit {0}) (AreNormalBy (steady_course is_same)) → ((t : Ratio) → whole_at steady_value o t ≡ slices_there steady_value p t) → o ≡ p
+  one_option : (o p : Option (SteadySlices B)) → MatchOption o (Unit {0}) (AreNormalBy (steady_course is_same)) → MatchOption p (Unit {0}) (AreNormalBy (steady_course is_same)) → ((t : Ratio) → whole_at steady_value o t ≡ slices_there steady_value p t) → o ≡ p
   one_option None None n m e = refl
   one_option None (Some w) n m e = no_value w m e
   one_option (Some v) None n m e = no_value v n (λ t. sym (e t))
@@ -93,13 +76,13 @@ module _ {B : Type 0} (is_same : B → B → Bool) (exact : (a b : B) → IsTrue
   left_alone (Some x) = refl
 
   -- the parts together are that value
-  pub together_is : (parts : List (Part (Steady B) B)) (r : Value) (o : Option (StepSlices B)) → AreTogether is_same make see op parts r → MatchOption o (Unit {0}) (AreNormalBy (steady_course is_same))
-      → ((t : Ratio) → whole_at steady_value o t ≡ united_by op (united_all op (parts_at steady_value parts t)) None) → or_nothing make o ≡ r
-  together_is parts r o h n e = ap (or_nothing make) (one_option o (see r) n h.normal (λ t. e t ∙ left_alone (united_all op (parts_at steady_value parts t)) ∙ h.at_each t)) ∙ sym h.seen
+  pub together_is : (parts : List (Part (Steady B) B)) (r : Value) (o : Option (SteadySlices B)) → AreTogether is_same make see op parts r → MatchOption o (Unit {0}) (AreNormalBy (steady_course is_same))
+      → ((t : Ratio) → whole_at steady_value o t ≡ united_by op (united_all op (gathered_parts steady_value parts t)) None) → or_nothing make o ≡ r
+  together_is parts r o h n e = ap (or_nothing make) (one_option o (see r) n h.normal (λ t. e t ∙ left_alone (united_all op (gathered_parts steady_value parts t)) ∙ h.at_each t)) ∙ sym h.seen
 
 -- ---- an aggregate held as one value
 
-held_whole : (kind : AggKind) (v r : Value) → IsHeld kind (Whole v) r → (is_in_parts kind ≡ false) × (v ≡ r)
+held_whole : (kind : AggKind) (v r : Value) → IsKeptIn kind (Whole v) r → (is_in_parts kind ≡ false) × (v ≡ r)
 held_whole CountAll v r h = (refl, h)
 held_whole Count v r h = (refl, h)
 held_whole Sum v r h = (refl, h)
@@ -108,7 +91,7 @@ held_whole TCount v r h = absurd h
 held_whole TAnd v r h = absurd h
 held_whole TOr v r h = absurd h
 
-whole_held : (kind : AggKind) (v : Value) → is_in_parts kind ≡ false → IsHeld kind (Whole v) v
+whole_held : (kind : AggKind) (v : Value) → is_in_parts kind ≡ false → IsKeptIn kind (Whole v) v
 whole_held CountAll v h = refl
 whole_held Count v h = refl
 whole_held Sum v h = refl
@@ -117,7 +100,7 @@ whole_held TCount v h = absurd cc
 whole_held TAnd v h = absurd cc
 whole_held TOr v h = absurd cc
 
-pub whole_is : (kind : AggKind) (v r : Value) → IsHeld kind (Whole v) r → v ≡ r
+pub whole_is : (kind : AggKind) (v r : Value) → IsKeptIn kind (Whole v) r → v ≡ r
 whole_is kind v r h = (held_whole kind v r h).1
 
 pub start_whole : (kind : AggKind) (v : Value) → is_in_parts kind ≡ false → ((ty : SqlType) → IsAggregated kind ty [] v) → IsStartState kind (Whole v)
@@ -146,7 +129,7 @@ left_out_state kind ty s v e = λ r held vs h few. let both = left_out_with kind
 
 -- ---- an aggregate held in parts
 
-not_held : (left_out : Bool) (kind : AggKind) (ty : SqlType) (s : State) (v : Value) (r : Result State (Fault Formula)) → ((x : Value) → IsHeld kind s x → ⊥) → IsStateWith left_out kind ty s v r
+not_held : (left_out : Bool) (kind : AggKind) (ty : SqlType) (s : State) (v : Value) (r : Result State (Fault Formula)) → ((x : Value) → IsKeptIn kind s x → ⊥) → IsStateWith left_out kind ty s v r
 not_held left_out kind ty s v (Ok x) never = λ r held. absurd (never r held)
 not_held left_out kind ty s v (Err (Because f)) never = λ r held. absurd (never r held)
 not_held left_out kind ty s v (Err NoMemory) never = tt
@@ -157,7 +140,7 @@ CountParts = List (Part (Steady Ratio) Ratio)
 abbrev TruthParts : Type 0
 TruthParts = List (Part (Steady Bool) Bool)
 
-counts_held : (kind : AggKind) (parts : CountParts) (r : Value) → IsHeld kind (Counts parts) r → AreTogether same MovingInt steps_of sum_of parts r
+counts_held : (kind : AggKind) (parts : CountParts) (r : Value) → IsKeptIn kind (Counts parts) r → AreTogether same MovingInt steps_of sum_of parts r
 counts_held TCount parts r h = h
 counts_held CountAll parts r h = absurd h
 counts_held Count parts r h = absurd h
@@ -166,7 +149,7 @@ counts_held TSum parts r h = absurd h
 counts_held TAnd parts r h = absurd h
 counts_held TOr parts r h = absurd h
 
-all_held : (kind : AggKind) (parts : TruthParts) (r : Value) → IsHeld kind (All parts) r → AreTogether same_bool MovingBool truths_of both_hold parts r
+all_held : (kind : AggKind) (parts : TruthParts) (r : Value) → IsKeptIn kind (All parts) r → AreTogether same_bool MovingBool truths_of both_hold parts r
 all_held TAnd parts r h = h
 all_held CountAll parts r h = absurd h
 all_held Count parts r h = absurd h
@@ -175,7 +158,7 @@ all_held TSum parts r h = absurd h
 all_held TCount parts r h = absurd h
 all_held TOr parts r h = absurd h
 
-any_held : (kind : AggKind) (parts : TruthParts) (r : Value) → IsHeld kind (Any parts) r → AreTogether same_bool MovingBool truths_of one_holds parts r
+any_held : (kind : AggKind) (parts : TruthParts) (r : Value) → IsKeptIn kind (Any parts) r → AreTogether same_bool MovingBool truths_of one_holds parts r
 any_held TOr parts r h = h
 any_held CountAll parts r h = absurd h
 any_held Count parts r h = absurd h
@@ -215,10 +198,10 @@ any_at TAnd ty parts v r e h = not_held (leaves_out TAnd v) TAnd ty (Any parts) 
 -- ---- one more value
 
 -- what is counted of one value
-counted_as : (ty : SqlType) (v : Value) (o : Option (StepSlices Ratio)) → IsAggregated TCount ty (v ∷ []) (or_nothing MovingInt o) → IsAggregate one_there steady_value steady_limit steady_limit (steady_course same).continues count (v ∷ []) o
+counted_as : (ty : SqlType) (v : Value) (o : Option (SteadySlices Ratio)) → IsAggregated TCount ty (v ∷ []) (or_nothing MovingInt o) → IsAggregate one_there steady_value steady_limit steady_limit (steady_course same).continues count (v ∷ []) o
 counted_as ty v o a = subst (λ z. IsAggregate one_there steady_value steady_limit steady_limit (steady_course same).continues count (v ∷ []) z) (sym (sym (seen_steps o) ∙ ap steps_of a.2 ∙ seen_steps a.0)) a.1
 
-counts_more : (ty : SqlType) (parts new : CountParts) (v : Value) (w : StepSlices Ratio) → IsAggregated TCount ty (v ∷ []) (MovingInt w) → IsOneMore sum_of parts new w → IsStateWith false TCount ty (Counts parts) v (Ok (Counts new))
+counts_more : (ty : SqlType) (parts new : CountParts) (v : Value) (w : SteadySlices Ratio) → IsAggregated TCount ty (v ∷ []) (MovingInt w) → IsOneMore sum_of parts new w → IsStateWith false TCount ty (Counts parts) v (Ok (Counts new))
 counts_more ty parts new v w a e = λ r held vs h few.
     let more = more_together same same_exact MovingInt steps_of seen_steps sum_of count count_joins one_there parts new vs r v w held h (counted_as ty v (Some w) a) e in
     (more.0, more.1, more.2, (r, h, (MovingInt w, a, count_fits TCount ty vs v r (MovingInt w) refl few h a)))
@@ -227,7 +210,7 @@ pub counts_same : (ty : SqlType) (parts : CountParts) (v : Value) → IsAggregat
 counts_same ty parts v a = λ r held vs h few.
     (r, held, same_together same same_exact MovingInt steps_of seen_steps sum_of count count_joins one_there vs r v h (counted_as ty v None a), (r, h, (Null, a, count_fits TCount ty vs v r Null refl few h a)))
 
-all_more : (ty : SqlType) (parts new : TruthParts) (v : Value) (w : StepSlices Bool) → truths_of v ≡ Some w → AreNormalBy (steady_course same_bool) w → IsOneMore both_hold parts new w → IsStateWith false TAnd ty (All parts) v (Ok (All new))
+all_more : (ty : SqlType) (parts new : TruthParts) (v : Value) (w : SteadySlices Bool) → truths_of v ≡ Some w → AreNormalBy (steady_course same_bool) w → IsOneMore both_hold parts new w → IsStateWith false TAnd ty (All parts) v (Ok (All new))
 all_more ty parts new v w is n e = λ r held vs h few.
     let one = all_alone v (subst (λ z. MatchOption z (Unit {0}) (AreNormalBy (steady_course same_bool))) (sym is) n) in
     let more = more_together same_bool same_bool_exact MovingBool truths_of seen_truths both_hold all_hold all_joins truth_there parts new vs r v w held h (subst (λ z. IsAggregate truth_there steady_value steady_limit steady_limit (steady_course same_bool).continues all_hold (v ∷ []) z) is one) e in
@@ -238,7 +221,7 @@ all_same ty parts v is = λ r held vs h few.
     let one = all_alone v (subst (λ z. MatchOption z (Unit {0}) (AreNormalBy (steady_course same_bool))) (sym is) tt) in
     (r, held, same_together same_bool same_bool_exact MovingBool truths_of seen_truths both_hold all_hold all_joins truth_there vs r v h (subst (λ z. IsAggregate truth_there steady_value steady_limit steady_limit (steady_course same_bool).continues all_hold (v ∷ []) z) is one), (r, h, (or_nothing MovingBool (truths_of v), (truths_of v, one, refl), refl)))
 
-any_more : (ty : SqlType) (parts new : TruthParts) (v : Value) (w : StepSlices Bool) → truths_of v ≡ Some w → AreNormalBy (steady_course same_bool) w → IsOneMore one_holds parts new w → IsStateWith false TOr ty (Any parts) v (Ok (Any new))
+any_more : (ty : SqlType) (parts new : TruthParts) (v : Value) (w : SteadySlices Bool) → truths_of v ≡ Some w → AreNormalBy (steady_course same_bool) w → IsOneMore one_holds parts new w → IsStateWith false TOr ty (Any parts) v (Ok (Any new))
 any_more ty parts new v w is n e = λ r held vs h few.
     let one = some_alone v (subst (λ z. MatchOption z (Unit {0}) (AreNormalBy (steady_course same_bool))) (sym is) n) in
     let more = more_together same_bool same_bool_exact MovingBool truths_of seen_truths one_holds some_holds some_joins truth_there parts new vs r v w held h (subst (λ z. IsAggregate truth_there steady_value steady_limit steady_limit (steady_course same_bool).continues some_holds (v ∷ []) z) is one) e in
@@ -250,14 +233,14 @@ any_same ty parts v is = λ r held vs h few.
     (r, held, same_together same_bool same_bool_exact MovingBool truths_of seen_truths one_holds some_holds some_joins truth_there vs r v h (subst (λ z. IsAggregate truth_there steady_value steady_limit steady_limit (steady_course same_bool).continues some_holds (v ∷ []) z) is one), (r, h, (or_nothing MovingBool (truths_of v), (truths_of v, one, refl), refl)))
 
 -- what a step of each of these makes of the parts
-pub counts_step : (ty : SqlType) (parts new : CountParts) (v : Value) (w : StepSlices Ratio) (r : Result (Unit {0}) (Fault Formula)) → IsAggregated TCount ty (v ∷ []) (MovingInt w) → OnOk r (IsOneMore sum_of parts new w) → IfErr r (λ e. e ≡ NoMemory) → IsStateWith false TCount ty (Counts parts) v (made_in r (Counts new))
+pub counts_step : (ty : SqlType) (parts new : CountParts) (v : Value) (w : SteadySlices Ratio) (r : Result (Unit {0}) (Fault Formula)) → IsAggregated TCount ty (v ∷ []) (MovingInt w) → OnOk r (IsOneMore sum_of parts new w) → IfErr r (λ e. e ≡ NoMemory) → IsStateWith false TCount ty (Counts parts) v (made_in r (Counts new))
 counts_step ty parts new v w (Ok u) a h m = counts_more ty parts new v w a h
 counts_step ty parts new v w (Err e) a h m = subst (λ z. IsStateWith false TCount ty (Counts parts) v (Err z)) (sym m) tt
 
 pub all_step : (kind : AggKind) (ty : SqlType) (parts new : TruthParts) (v : Value) (r : Result (Unit {0}) (Fault Formula)) → false ≡ leaves_out kind v → OnOk r (AreTruthsWith both_hold parts (truths_of v) new) → IfErr r (λ e. e ≡ NoMemory) → IsStateWith (leaves_out kind v) kind ty (All parts) v (made_in r (All new))
 all_step kind ty parts new v r e h m = all_at kind ty parts v (made_in r (All new)) e (by r (truths_of v) refl h m)
   where
-    by : (r : Result (Unit {0}) (Fault Formula)) (o : Option (StepSlices Bool)) → truths_of v ≡ o → OnOk r (AreTruthsWith both_hold parts o new) → IfErr r (λ e. e ≡ NoMemory) → IsStateWith false TAnd ty (All parts) v (made_in r (All new))
+    by : (r : Result (Unit {0}) (Fault Formula)) (o : Option (SteadySlices Bool)) → truths_of v ≡ o → OnOk r (AreTruthsWith both_hold parts o new) → IfErr r (λ e. e ≡ NoMemory) → IsStateWith false TAnd ty (All parts) v (made_in r (All new))
     by (Ok u) None is h m = subst (λ z. IsStateWith false TAnd ty (All parts) v (Ok (All z))) (sym h) (all_same ty parts v is)
     by (Ok u) (Some w) is h m = all_more ty parts new v w is h.0 h.1
     by (Err e) o is h m = subst (λ z. IsStateWith false TAnd ty (All parts) v (Err z)) (sym m) tt
@@ -265,7 +248,7 @@ all_step kind ty parts new v r e h m = all_at kind ty parts v (made_in r (All ne
 pub any_step : (kind : AggKind) (ty : SqlType) (parts new : TruthParts) (v : Value) (r : Result (Unit {0}) (Fault Formula)) → false ≡ leaves_out kind v → OnOk r (AreTruthsWith one_holds parts (truths_of v) new) → IfErr r (λ e. e ≡ NoMemory) → IsStateWith (leaves_out kind v) kind ty (Any parts) v (made_in r (Any new))
 any_step kind ty parts new v r e h m = any_at kind ty parts v (made_in r (Any new)) e (by r (truths_of v) refl h m)
   where
-    by : (r : Result (Unit {0}) (Fault Formula)) (o : Option (StepSlices Bool)) → truths_of v ≡ o → OnOk r (AreTruthsWith one_holds parts o new) → IfErr r (λ e. e ≡ NoMemory) → IsStateWith false TOr ty (Any parts) v (made_in r (Any new))
+    by : (r : Result (Unit {0}) (Fault Formula)) (o : Option (SteadySlices Bool)) → truths_of v ≡ o → OnOk r (AreTruthsWith one_holds parts o new) → IfErr r (λ e. e ≡ NoMemory) → IsStateWith false TOr ty (Any parts) v (made_in r (Any new))
     by (Ok u) None is h m = subst (λ z. IsStateWith false TOr ty (Any parts) v (Ok (Any z))) (sym h) (any_same ty parts v is)
     by (Ok u) (Some w) is h m = any_more ty parts new v w is h.0 h.1
     by (Err e) o is h m = subst (λ z. IsStateWith false TOr ty (Any parts) v (Err z)) (sym m) tt
@@ -283,11 +266,11 @@ start_any parts e = λ ty. (Null, none_together same_bool same_bool_exact Moving
 
 -- ---- the value of a state
 
-pub counts_is : (kind : AggKind) (parts : CountParts) (r : Value) (o : Option (StepSlices Ratio)) → IsHeld kind (Counts parts) r → MatchOption o (Unit {0}) (AreNormalBy (steady_course same)) → ((t : Ratio) → whole_at steady_value o t ≡ united_by sum_of (united_all sum_of (parts_at steady_value parts t)) None) → or_nothing MovingInt o ≡ r
+pub counts_is : (kind : AggKind) (parts : CountParts) (r : Value) (o : Option (SteadySlices Ratio)) → IsKeptIn kind (Counts parts) r → MatchOption o (Unit {0}) (AreNormalBy (steady_course same)) → ((t : Ratio) → whole_at steady_value o t ≡ united_by sum_of (united_all sum_of (gathered_parts steady_value parts t)) None) → or_nothing MovingInt o ≡ r
 counts_is kind parts r o h n e = together_is same same_exact MovingInt steps_of seen_steps sum_of parts r o (counts_held kind parts r h) n e
 
-pub all_is : (kind : AggKind) (parts : TruthParts) (r : Value) (o : Option (StepSlices Bool)) → IsHeld kind (All parts) r → MatchOption o (Unit {0}) (AreNormalBy (steady_course same_bool)) → ((t : Ratio) → whole_at steady_value o t ≡ united_by both_hold (united_all both_hold (parts_at steady_value parts t)) None) → or_nothing MovingBool o ≡ r
+pub all_is : (kind : AggKind) (parts : TruthParts) (r : Value) (o : Option (SteadySlices Bool)) → IsKeptIn kind (All parts) r → MatchOption o (Unit {0}) (AreNormalBy (steady_course same_bool)) → ((t : Ratio) → whole_at steady_value o t ≡ united_by both_hold (united_all both_hold (gathered_parts steady_value parts t)) None) → or_nothing MovingBool o ≡ r
 all_is kind parts r o h n e = together_is same_bool same_bool_exact MovingBool truths_of seen_truths both_hold parts r o (all_held kind parts r h) n e
 
-pub any_is : (kind : AggKind) (parts : TruthParts) (r : Value) (o : Option (StepSlices Bool)) → IsHeld kind (Any parts) r → MatchOption o (Unit {0}) (AreNormalBy (steady_course same_bool)) → ((t : Ratio) → whole_at steady_value o t ≡ united_by one_holds (united_all one_holds (parts_at steady_value parts t)) None) → or_nothing MovingBool o ≡ r
+pub any_is : (kind : AggKind) (parts : TruthParts) (r : Value) (o : Option (SteadySlices Bool)) → IsKeptIn kind (Any parts) r → MatchOption o (Unit {0}) (AreNormalBy (steady_course same_bool)) → ((t : Ratio) → whole_at steady_value o t ≡ united_by one_holds (united_all one_holds (gathered_parts steady_value parts t)) None) → or_nothing MovingBool o ≡ r
 any_is kind parts r o h n e = together_is same_bool same_bool_exact MovingBool truths_of seen_truths one_holds parts r o (any_held kind parts r h) n e

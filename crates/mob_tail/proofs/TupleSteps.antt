@@ -1,25 +1,14 @@
 -- Groups with one more tuple.
-use Rattle.std.specs.Prelude.{◌≡◌, ◌<◌, ◌+◌, ◌^◌, Bool, true, false, ℕ, zero, suc, ℤ, refl, List, [], ◌∷◌, ◌++◌, Some, None, is_none, Ok, Err, length, get_or}
-use Rattle.std.specs.List.{AllZip}
-use Rattle.std.proofs.Common.{ap, ap₂, sym, ◌∙◌, subst, inl, inr, arith, take, map}
-use Rattle.std.proofs.lemmas.List.{take_more, map-append}
-use Rattle.std.proofs.lemmas.Slice.Zip.{AllZip-long}
+use Rattle.std.{specs.Prelude.{◌≡◌, ◌<◌, ◌+◌, ◌^◌, Bool, true, false, ℕ, zero, suc, ℤ, refl, List, [], ◌∷◌, ◌++◌, Some, None, is_none, Ok, Err, length, get_or}, specs.List.{AllZip}}
+use Rattle.std.{proofs.Common.{ap, ap₂, sym, ◌∙◌, subst, inl, inr, arith, take, map}, proofs.lemmas.List.{take_more, map-append}, proofs.lemmas.Slice.Zip.{AllZip-long}}
 use Rattle.mob_typed.specs.Selects.{TypedSelectParts}
-use Rattle.mob_value.specs.declared.value.Value.{Value}
-use Rattle.mob_value.specs.declared.value.Value.TheVariants.{Null}
-use Rattle.mob_value.specs.declared.store.Store.{Store}
-use Rattle.mob_meaning.specs.Scene.{Scene, scene}
-use Rattle.mob_meaning.specs.Evaluation.{PlacedFormula}
+use Rattle.mob_value.{specs.declared.value.Value.{Value}, specs.declared.value.Value.TheVariants.{Null}, specs.declared.store.Store.{Store}}
+use Rattle.mob_meaning.{specs.Scene.{Scene, scene}, specs.Evaluation.{PlacedFormula}}
 use Rattle.mob_list.proofs.Changing.{AreChanged}
 use Rattle.mob_tagg.specs.Rows.{AreValues, IsItem, IsTuple}
-use Rattle.mob_tail.specs.declared.group_cells.GroupCell.{GroupCell}
-use Rattle.mob_tail.specs.GroupedAnswers.{Column, IsArgumentOn, IsAddingTo}
-use Rattle.mob_tail.specs.declared.state.State.{State}
-use Rattle.mob_tail.specs.Groups.{column_on}
-use Rattle.mob_tail.specs.GroupSteps.{column_seen, IsColumnWith, IsCellWith, FailsInCells, first_of, IsHeldOf, IsStateOf, IsCellOf}
-use Rattle.mob_tail.specs.States.{IsHeld}
-use Rattle.mob_operators.specs.declared.aggregate.AggKind.{AggKind}
-use Rattle.mob_operators.specs.declared.aggregate.AggKind.TheVariants.{CountAll}
+use Rattle.mob_tail.{specs.declared.group_memos.GroupMemo.{GroupMemo}, specs.GroupedAnswers.{AnswerColumn, IsArgumentOn, IsAddingTo}, specs.declared.state.State.{State}, specs.Groups.{column_on}}
+use Rattle.mob_tail.{specs.GroupSteps.{column_seen, IsColumnWith, IsMemoWith, FailsInMemos, first_of, IsKeptOf, IsStateOf, IsGroupMemoOf}, specs.States.{IsKeptIn}}
+use Rattle.mob_operators.{specs.declared.aggregate.AggKind.{AggKind}, specs.declared.aggregate.AggKind.TheVariants.{CountAll}}
 
 pub zip_more : {A B : Type 0} (R : A → B → Type 0) (xs : List A) (ys : List B) (x : A) (y : B) → AllZip R xs ys → R x y → AllZip R (xs ++ x ∷ []) (ys ++ y ∷ [])
 zip_more R [] [] x y h k = (k, tt)
@@ -51,12 +40,12 @@ module _ (select : TypedSelectParts) (store : Store) (day : ℤ) where
   nulls [] = []
   nulls (t ∷ ts) = Null ∷ nulls ts
 
-  no_arguments : (group : List (List ℕ)) (c : Column) → c.1 ≡ None → AreValues (IsArgumentOn select store day) IsAddingTo group c (nulls group)
+  no_arguments : (group : List (List ℕ)) (c : AnswerColumn) → c.1 ≡ None → AreValues (IsArgumentOn select store day) IsAddingTo group c (nulls group)
   no_arguments [] (e, None) n = tt
   no_arguments (t ∷ group) (e, None) n = (refl, no_arguments group (e, None) n)
   no_arguments group (e, Some agg) n = absurd cc
 
-  column_ok : (group : List (List ℕ)) (t : List ℕ) (c : Column) (before x : State) (first : Bool) → first ≡ is_none (first_of group) → length group + 1 < 2 ^ 62 → IsColumnWith (scene store select.from t day) c before first (Ok x) → IsStateOf select store day group c before
+  column_ok : (group : List (List ℕ)) (t : List ℕ) (c : AnswerColumn) (before x : State) (first : Bool) → first ≡ is_none (first_of group) → length group + 1 < 2 ^ 62 → IsColumnWith (scene store select.from t day) c before first (Ok x) → IsStateOf select store day group c before
       → IsStateOf select store day (group ++ t ∷ []) c x × IsItem (IsArgumentOn select store day) IsAddingTo group t c None
   column_ok [] t (e, None) before x true i few h k = ((column_on (scene store select.from t day) e, h, refl), (Null, refl, ([], tt, refl)))
   column_ok [] t (e, None) before x false i few h k = absurd cc
@@ -68,13 +57,13 @@ module _ (select : TypedSelectParts) (store : Store) (day : ℤ) where
       let both = h.2 k.0 k.1 vs k.2.2 (omega (arith, few, long)) in
       ((both.0, both.1, (vs ++ h.0 ∷ [], zip_more _ group vs t h.0 k.2.1 h.1, both.2)), (h.0, h.1, (vs, k.2.1, (None, both.3, refl))))
 
-  column_err : (group : List (List ℕ)) (t : List ℕ) (c : Column) (before : State) (first : Bool) (f : PlacedFormula) → IsColumnWith (scene store select.from t day) c before first (Err f) → IsStateOf select store day group c before → IsItem (IsArgumentOn select store day) IsAddingTo group t c (Some f)
+  column_err : (group : List (List ℕ)) (t : List ℕ) (c : AnswerColumn) (before : State) (first : Bool) (f : PlacedFormula) → IsColumnWith (scene store select.from t day) c before first (Err f) → IsStateOf select store day group c before → IsItem (IsArgumentOn select store day) IsAddingTo group t c (Some f)
   column_err group t (e, None) before first f h k = absurd h
   column_err group t (e, Some agg) before first f (inl h) k = inl h
   column_err group t (e, Some agg) before first f (inr h) k = inr (h.0, h.1, (k.2.0, k.2.1, (Some f.1, h.3 k.0 k.1 k.2.0 k.2.2, ap (λ p. Some (p, f.1)) h.2)))
 
-  pub cells_ok : (group : List (List ℕ)) (t : List ℕ) (columns : List Column) (old new : List GroupCell) (first : Bool) → first ≡ is_none (first_of group) → length group + 1 < 2 ^ 62 → AllZip (IsCellWith (scene store select.from t day) first) old new → AllZip (IsCellOf select store day group) columns old
-      → AllZip (IsCellOf select store day (group ++ t ∷ [])) columns new × IsTuple (IsArgumentOn select store day) IsAddingTo group t columns None
+  pub cells_ok : (group : List (List ℕ)) (t : List ℕ) (columns : List AnswerColumn) (old new : List GroupMemo) (first : Bool) → first ≡ is_none (first_of group) → length group + 1 < 2 ^ 62 → AllZip (IsMemoWith (scene store select.from t day) first) old new → AllZip (IsGroupMemoOf select store day group) columns old
+      → AllZip (IsGroupMemoOf select store day (group ++ t ∷ [])) columns new × IsTuple (IsArgumentOn select store day) IsAddingTo group t columns None
   cells_ok group t [] [] [] first i few h k = (tt, refl)
   cells_ok group t [] [] (d ∷ new) first i few h k = absurd h
   cells_ok group t [] (c ∷ old) new first i few h k = absurd k
@@ -85,7 +74,7 @@ module _ (select : TypedSelectParts) (store : Store) (day : ℤ) where
       let rest = cells_ok group t columns old new first i few h.1 k.1 in
       (((h.0.column ∙ k.0.0, here.0), rest.0), inr (here.1, rest.1))
 
-  pub cells_err : (group : List (List ℕ)) (t : List ℕ) (columns : List Column) (old : List GroupCell) (first : Bool) (f : PlacedFormula) → first ≡ is_none (first_of group) → length group + 1 < 2 ^ 62 → FailsInCells (scene store select.from t day) first old f → AllZip (IsCellOf select store day group) columns old → IsTuple (IsArgumentOn select store day) IsAddingTo group t columns (Some f)
+  pub cells_err : (group : List (List ℕ)) (t : List ℕ) (columns : List AnswerColumn) (old : List GroupMemo) (first : Bool) (f : PlacedFormula) → first ≡ is_none (first_of group) → length group + 1 < 2 ^ 62 → FailsInMemos (scene store select.from t day) first old f → AllZip (IsGroupMemoOf select store day group) columns old → IsTuple (IsArgumentOn select store day) IsAddingTo group t columns (Some f)
   cells_err group t [] [] first f i few h k = absurd h
   cells_err group t [] (c ∷ old) first f i few h k = absurd k
   cells_err group t (column ∷ columns) [] first f i few h k = absurd k
@@ -93,8 +82,8 @@ module _ (select : TypedSelectParts) (store : Store) (day : ℤ) where
   cells_err group t (column ∷ columns) (c ∷ old) first f i few (inr h) k =
       inr ((column_ok group t column c.state h.0 first i few (subst (λ z. IsColumnWith (scene store select.from t day) z c.state first (Ok h.0)) k.0.0 h.1) k.0.1).1, cells_err group t columns old first f i few h.2 k.1)
 
--- a fault in a cell after cells that have none
-pub fails_at : (s : Scene) (first : Bool) (n : ℕ) (old now : List GroupCell) (c : GroupCell) (f : PlacedFormula) → n < length now → c ≡ get_or now n c → AreChanged (IsCellWith s first) n old now → IsColumnWith s (column_seen c.column) c.state first (Err f) → FailsInCells s first old f
+-- a fault in a memo after memos that have none
+pub fails_at : (s : Scene) (first : Bool) (n : ℕ) (old now : List GroupMemo) (c : GroupMemo) (f : PlacedFormula) → n < length now → c ≡ get_or now n c → AreChanged (IsMemoWith s first) n old now → IsColumnWith s (column_seen c.column) c.state first (Err f) → FailsInMemos s first old f
 fails_at s first n [] [] c f lt is h k = absurd (omega (arith, lt))
 fails_at s first n [] (b ∷ now) c f lt is h k = absurd h
 fails_at s first n (a ∷ old) [] c f lt is h k = absurd h
@@ -102,6 +91,6 @@ fails_at s first zero (a ∷ old) (b ∷ now) c f lt is h k = inl (subst (λ z. 
 fails_at s first (suc n) (a ∷ old) (b ∷ now) c f lt is h k = inr (b.state, h.0.state, fails_at s first n old now c f (omega (arith, lt)) is h.1 k)
 
 -- a value of the state, if it is so for each kind
-pub held_value : (c : Column) (x : State) (r : Value) → IsHeldOf c x r → (v : Value) → ((kind : AggKind) (r : Value) → IsHeld kind x r → v ≡ r) → v ≡ r
-held_value (e, None) x r h v f = f CountAll r (subst (λ z. IsHeld CountAll z r) (sym h) refl)
+pub held_value : (c : AnswerColumn) (x : State) (r : Value) → IsKeptOf c x r → (v : Value) → ((kind : AggKind) (r : Value) → IsKeptIn kind x r → v ≡ r) → v ≡ r
+held_value (e, None) x r h v f = f CountAll r (subst (λ z. IsKeptIn CountAll z r) (sym h) refl)
 held_value (e, Some agg) x r h v f = f agg.kind r h

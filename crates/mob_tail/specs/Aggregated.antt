@@ -1,62 +1,50 @@
 -- The aggregate of the values of an argument in a group, and the overflow of adding one more value.
 use Rattle.std.specs.Prelude.{◌≡◌, not, Bool, true, false, ℕ, pos, List, [], ◌∷◌, ◌++◌, filter, length, Option, Some, None, option_map, Result, Ok, Err}
-use Rattle.mob_ratio.specs.Ratio.{Ratio, whole}
-use Rattle.mob_ratio.specs.Order.{same}
+use Rattle.mob_ratio.{specs.Ratio.{Ratio, whole}, specs.Order.{same}}
 use Rattle.mob_span.specs.Flags.{same_bool}
-use Rattle.mob_slice.specs.CourseOf.{CourseOf, steady_course, line_course}
-use Rattle.mob_slice.specs.Entries.{Entry, IsFirst}
-use Rattle.mob_slice.specs.Lines.{line_value_of}
-use Rattle.mob_slice.specs.Operands.{steady_value}
-use Rattle.mob_slice.specs.Slices.{value_at}
-use Rattle.mob_slice.specs.declared.slice.Slice.{Slice}
-use Rattle.mob_slice.specs.declared.formula.Formula.{Formula}
-use Rattle.mob_list.specs.declared.fault.Fault.{Fault}
-use Rattle.mob_list.specs.declared.fault.Fault.TheVariants.{Because, NoMemory}
-use Rattle.mob_slice.specs.declared.line.Line.{Line}
+use Rattle.mob_slice.{specs.CourseOf.{CourseOf, steady_course, line_course}, specs.Entries.{Entry, IsFirst}, specs.Lines.{line_value_of}, specs.Operands.{steady_value}, specs.Slices.{value_at}}
+use Rattle.mob_slice.{specs.declared.slice.Slice.{Slice}, specs.declared.formula.Formula.{Formula}, specs.declared.line.Line.{Line}}
+use Rattle.mob_list.{specs.declared.fault.Fault.{Fault}, specs.declared.fault.Fault.TheVariants.{Because, NoMemory}}
 use Rattle.mob_ast.specs.declared.types.SqlType.{SqlType}
-use Rattle.mob_ast.specs.declared.types.SqlType.TheVariants as sql
-use Rattle.mob_operators.specs.declared.aggregate.AggKind.{AggKind}
-use Rattle.mob_operators.specs.declared.aggregate.AggKind.TheVariants.{CountAll, Count, Sum, TCount, TSum, TAnd, TOr}
+use Rattle.mob_operators.{specs.declared.aggregate.AggKind.{AggKind}, specs.declared.aggregate.AggKind.TheVariants.{CountAll, Count, Sum, TCount, TSum, TAnd, TOr}}
 use Rattle.mob_typed.specs.declared.typed.Agg.{Agg}
-use Rattle.mob_value.specs.declared.value.Value.{Value}
-use Rattle.mob_value.specs.declared.value.Value.TheVariants.{Null, Number, MovingBool, MovingInt, MovingFrac, MovingText, MovingPoint}
-use Rattle.mob_arith.specs.declared.sql.calculation.Calculation.TheVariants.{Sum as Added}
-use Rattle.mob_arith.specs.Sql.Entries.{arithmetic_entries}
-use Rattle.mob_value.specs.Moving.{AreNormalBy, StepSlices, or_nothing, step_function, line_function, plane_function}
+use Rattle.mob_value.{specs.declared.value.Value.{Value}, specs.declared.value.Value.TheVariants.{Null, Number, MovingBool, MovingInt, MovingFrac, MovingText, MovingPoint}}
+use Rattle.mob_value.specs.Moving.{AreNormalBy, SteadySlices, or_nothing, step_function, line_function, plane_function}
+use Rattle.mob_arith.{specs.declared.sql.calculation.Calculation.TheVariants.{Sum as Added}, specs.Sql.Entries.{arithmetic_entries}}
 use Rattle.mob_ordinary.specs.Ordinary.{is_null}
-use Rattle.mob_tagg.specs.United.{AreUnited}
-use Rattle.mob_tagg.specs.Aggregates.{put_there, made_of, IsAggregate, total, count, all_hold, some_holds}
+use Rattle.mob_tagg.{specs.United.{AreUnited}, specs.Aggregates.{put_there, made_of, IsAggregate, total, count, all_hold, some_holds}}
+use Rattle.mob_ast.specs.declared.types.SqlType.TheVariants as sql
 
 -- a count, as a value
-abbrev pub counted : ℕ → Value
-counted n = Number (whole (pos n))
+abbrev pub counted_values : ℕ → Value
+counted_values n = Number (whole (pos n))
 
 -- the values that are not NULL
 abbrev pub known_of : List Value → List Value
 known_of vs = filter (λ v. not (is_null v)) vs
 
 -- the number of a plain number
-abbrev pub number_in : Value → Option Ratio
-number_in (Number a) = Some a
-number_in _ = None
+abbrev pub number_of_value : Value → Option Ratio
+number_of_value (Number a) = Some a
+number_of_value _ = None
 
 -- the plain numbers among values
 abbrev pub numbers_of : List Value → List Ratio
 numbers_of [] = []
-numbers_of (v ∷ vs) = put_there (number_in v) (numbers_of vs)
+numbers_of (v ∷ vs) = put_there (number_of_value v) (numbers_of vs)
 
 -- the slices of a tbool, a tint or a tfrac
-abbrev pub truths_of : Value → Option (StepSlices Bool)
+abbrev pub truths_of : Value → Option (SteadySlices Bool)
 truths_of (MovingBool m) = Some m
 truths_of _ = None
 
-abbrev pub steps_of : Value → Option (StepSlices Ratio)
+abbrev pub steps_of : Value → Option (SteadySlices Ratio)
 steps_of (MovingInt m) = Some m
 steps_of _ = None
 
-abbrev pub lines_of : Value → Option (List (Slice Line))
-lines_of (MovingFrac m) = Some m
-lines_of _ = None
+abbrev pub aggregate_lines : Value → Option (List (Slice Line))
+aggregate_lines (MovingFrac m) = Some m
+aggregate_lines _ = None
 
 -- the value of slices at an instant, if there are slices
 abbrev pub slices_there : {C B : Type 0} → (C → Ratio → Ratio → Ratio → B) → Option (List (Slice C)) → Ratio → Option B
@@ -72,7 +60,7 @@ abbrev pub step_there : Value → Ratio → Option Ratio
 step_there v t = slices_there steady_value (steps_of v) t
 
 abbrev pub line_there : Value → Ratio → Option Ratio
-line_there v t = slices_there line_value_of (lines_of v) t
+line_there v t = slices_there line_value_of (aggregate_lines v) t
 
 -- 1 where a temporal value of any type is defined
 abbrev pub one_where : {B : Type 0} → Option B → Option Ratio
@@ -95,8 +83,8 @@ IsOverTime {C} course make f there vs v = (r : Option (List (Slice C))) × IsAgg
 -- those that are not NULL, sum their sum. At each instant tCount is how many are defined there,
 -- tSum their sum, tAnd whether all are true, and tOr whether one is.
 abbrev pub IsAggregated : AggKind → SqlType → List Value → Value → Type 0
-IsAggregated CountAll ty vs v = v ≡ counted (length vs)
-IsAggregated Count ty vs v = v ≡ counted (length (known_of vs))
+IsAggregated CountAll ty vs v = v ≡ counted_values (length vs)
+IsAggregated Count ty vs v = v ≡ counted_values (length (known_of vs))
 IsAggregated Sum ty vs v = v ≡ or_nothing Number (made_of total (numbers_of vs))
 IsAggregated TCount ty vs v = IsOverTime (steady_course same) MovingInt count one_there vs v
 IsAggregated TSum sql.TInt vs v = IsOverTime (steady_course same) MovingInt total step_there vs v

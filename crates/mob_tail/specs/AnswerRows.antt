@@ -1,8 +1,7 @@
 -- The rows of an answer before they are printed.
 use Rattle.std.specs.Prelude.{ℤ, ℕ, Bool, List, length, map}
 use Rattle.mob_typed.specs.Selects.{TypedSelectParts}
-use Rattle.mob_value.specs.declared.value.Value.{Value}
-use Rattle.mob_value.specs.declared.store.Store.{Store}
+use Rattle.mob_value.{specs.declared.value.Value.{Value}, specs.declared.store.Store.{Store}}
 use Rattle.mob_arrange.specs.Keyed.{Keyed, row_of_values}
 use Rattle.mob_tail.specs.GroupedAnswers.{IsGroupRow}
 

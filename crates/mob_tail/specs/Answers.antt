@@ -1,17 +1,12 @@
 -- The answer of a query.
 use Rattle.std.specs.Prelude.{◌≡◌, ◌⊎◌, ℤ, ℕ, List, Bool, true, false, Result, Ok, Err, map}
-use Rattle.mob_typed.specs.Trees.{TypedTree}
-use Rattle.mob_typed.specs.Selects.{TypedSelectParts}
-use Rattle.mob_value.specs.declared.value.Value.{Value}
-use Rattle.mob_value.specs.declared.store.Store.{Store}
+use Rattle.mob_typed.{specs.Trees.{TypedTree}, specs.Selects.{TypedSelectParts}}
+use Rattle.mob_value.{specs.declared.value.Value.{Value}, specs.declared.store.Store.{Store}}
 use Rattle.mob_literal.specs.Fields.{field_text}
-use Rattle.mob_meaning.specs.Scene.{Scene, scene}
-use Rattle.mob_meaning.specs.Evaluation.{PlacedFormula, TreeEvaluatesTo}
+use Rattle.mob_meaning.{specs.Scene.{Scene, scene}, specs.Evaluation.{PlacedFormula, TreeEvaluatesTo}}
 use Rattle.mob_eval.specs.QueryFaults.{TupleFault}
-use Rattle.mob_arrange.specs.Keyed.{Keyed}
-use Rattle.mob_tail.specs.IsMadeOfEach.{IsMadeOfEach}
-use Rattle.mob_tail.specs.GroupedAnswers.{IsGroupedAnswer}
-use Rattle.mob_arrange.specs.Rows.{AreArranged}
+use Rattle.mob_arrange.{specs.Keyed.{Keyed}, specs.Rows.{AreArranged}}
+use Rattle.mob_tail.{specs.IsMadeOfEach.{IsMadeOfEach}, specs.GroupedAnswers.{IsGroupedAnswer}}
 
 -- the printed field of an entry of the select list, or its fault
 abbrev pub IsField : Scene → TypedTree × List ℕ → Result (List ℕ) PlacedFormula → Type 0

@@ -2,8 +2,7 @@
 use Rattle.std.specs.Prelude.{◌≡◌, ◌⊎◌, ◌++◌, List, Result, Ok, Err}
 use Rattle.mob_typed.specs.Trees.{TypedTree}
 use Rattle.mob_value.specs.declared.value.Value.{Value}
-use Rattle.mob_meaning.specs.Scene.{Scene}
-use Rattle.mob_meaning.specs.Evaluation.{PlacedFormula, TreeEvaluatesTo}
+use Rattle.mob_meaning.{specs.Scene.{Scene}, specs.Evaluation.{PlacedFormula, TreeEvaluatesTo}}
 use Rattle.mob_tail.specs.IsMadeOfEach.{IsMadeOfEach}
 
 -- The values of the keys, then those of the items; or the first fault. The items are evaluated

@@ -1,22 +1,13 @@
 -- Groups separate different values, and no count overflows.
-use Rattle.std.specs.Prelude.{◌≡◌, ◌⊎◌, ◌↔◌, ◌+◌, ◌<◌, ◌^◌, true, ℕ, ℤ, List, Some, length}
-use Rattle.std.specs.List.{AllByRecursion}
+use Rattle.std.{specs.Prelude.{◌≡◌, ◌⊎◌, ◌↔◌, ◌+◌, ◌<◌, ◌^◌, true, ℕ, ℤ, List, Some, length}, specs.List.{AllByRecursion}}
 use Rattle.mob_ast.specs.declared.types.SqlType.{SqlType}
-use Rattle.mob_value.specs.declared.value.Value.{Value}
-use Rattle.mob_value.specs.declared.value.Value.TheVariants.{Null}
-use Rattle.mob_literal.specs.Fields.{field_text}
-use Rattle.mob_literal.specs.SqlReadable.{IsReadableAs}
-use Rattle.mob_meaning.specs.Evaluation.{PlacedFormula}
-use Rattle.mob_meaning.specs.Scene.{scene}
-use Rattle.mob_typed.specs.declared.typed.Agg.{Agg}
-use Rattle.mob_typed.specs.Trees.{TypedTree, type_of}
-use Rattle.mob_typed.specs.Selects.{TypedSelectParts}
-use Rattle.mob_value.specs.declared.store.Store.{Store}
+use Rattle.mob_value.{specs.declared.value.Value.{Value}, specs.declared.value.Value.TheVariants.{Null}, specs.declared.store.Store.{Store}}
+use Rattle.mob_literal.{specs.Fields.{field_text}, specs.SqlReadable.{IsReadableAs}}
+use Rattle.mob_meaning.{specs.Evaluation.{PlacedFormula}, specs.Scene.{scene}}
+use Rattle.mob_typed.{specs.declared.typed.Agg.{Agg}, specs.Trees.{TypedTree, type_of}, specs.Selects.{TypedSelectParts}}
 use Rattle.mob_clauses.specs.Keys.{is_key}
 use Rattle.mob_catalog.specs.OwnTypes.{IsReadAs}
-use Rattle.mob_tail.specs.Groups.{column_on, same_group}
-use Rattle.mob_tail.specs.GroupedAnswers.{AddingFails}
-use Rattle.mob_tail.specs.States.{is_count}
+use Rattle.mob_tail.{specs.Groups.{column_on, same_group}, specs.GroupedAnswers.{AddingFails}, specs.States.{is_counting}}
 
 -- a value of a type that a text can have, or NULL
 abbrev pub IsStoredAs : SqlType → ℤ → Value → Type 0
@@ -45,4 +36,4 @@ GroupsAreOfValues = (select : TypedSelectParts) (store : Store) (day : ℤ) (t u
 -- Adding to a count of fewer than 2^62 - 1 values does not overflow. So no count over tuples that
 -- fit in memory has a fault of adding, and counts may be added in any order.
 abbrev pub NoCountPasses : Type 0
-NoCountPasses = (select : TypedSelectParts) (store : Store) (day : ℤ) (before : List (List ℕ)) (tuple : List ℕ) (e : TypedTree) (agg : Agg) (f : PlacedFormula) → is_count agg.kind ≡ true → length before + 1 < 2 ^ 62 → AddingFails select store day before tuple (e, Some agg) f → ⊥
+NoCountPasses = (select : TypedSelectParts) (store : Store) (day : ℤ) (before : List (List ℕ)) (tuple : List ℕ) (e : TypedTree) (agg : Agg) (f : PlacedFormula) → is_counting agg.kind ≡ true → length before + 1 < 2 ^ 62 → AddingFails select store day before tuple (e, Some agg) f → ⊥

@@ -1,28 +1,16 @@
 -- A group with one more tuple.
-use Rattle.std.specs.Prelude.{◌≡◌, ◌⊎◌, Bool, true, false, ℕ, ℤ, List, [], ◌∷◌, Option, Some, None, Result, Ok, Err, cond, map}
-use Rattle.std.specs.List.{AllZip, position_or_len}
+use Rattle.std.{specs.Prelude.{◌≡◌, ◌⊎◌, Bool, true, false, ℕ, ℤ, List, [], ◌∷◌, Option, Some, None, Result, Ok, Err, cond, map}, specs.List.{AllZip, position_or_len}}
 use Rattle.mob_list.specs.declared.fault.Fault.TheVariants.{Because}
-use Rattle.mob_typed.specs.declared.typed.Agg.{Agg}
-use Rattle.mob_typed.specs.Selects.{TypedSelectParts}
-use Rattle.mob_typed.specs.Trees.{TypedTree, typed_of}
-use Rattle.mob_value.specs.declared.value.Value.{Value}
-use Rattle.mob_value.specs.declared.value.Value.TheVariants.{Null}
-use Rattle.mob_value.specs.declared.store.Store.{Store}
-use Rattle.mob_meaning.specs.Scene.{Scene}
-use Rattle.mob_meaning.specs.Evaluation.{PlacedFormula}
+use Rattle.mob_typed.{specs.declared.typed.Agg.{Agg}, specs.Selects.{TypedSelectParts}, specs.Trees.{TypedTree, typed_of}}
+use Rattle.mob_value.{specs.declared.value.Value.{Value}, specs.declared.value.Value.TheVariants.{Null}, specs.declared.store.Store.{Store}}
+use Rattle.mob_meaning.{specs.Scene.{Scene}, specs.Evaluation.{PlacedFormula}}
 use Rattle.mob_groups.specs.Groups.{first_keys, members}
-use Rattle.mob_tail.specs.declared.columns.Column.{Column as ColumnOf}
-use Rattle.mob_tail.specs.declared.group_cells.GroupCell.{GroupCell}
-use Rattle.mob_tail.specs.declared.group_cells.Group.{Group}
-use Rattle.mob_tail.specs.declared.state.State.{State}
-use Rattle.mob_tail.specs.declared.state.State.TheVariants.{Whole}
-use Rattle.mob_tail.specs.Aggregated.{leaves_out}
-use Rattle.mob_tail.specs.States.{IsHeld, IsStartState, IsStateWith}
-use Rattle.mob_tail.specs.Groups.{column_on, group_fields, same_texts, has_groups, under_fields}
-use Rattle.mob_tail.specs.GroupedAnswers.{Column, columns_of, IsArgumentOf, IsColumnValue}
+use Rattle.mob_tail.{specs.declared.columns.Column.{Column as ColumnOf}, specs.declared.group_memos.GroupMemo.{GroupMemo}, specs.declared.group_memos.Group.{Group}, specs.declared.state.State.{State}}
+use Rattle.mob_tail.{specs.declared.state.State.TheVariants.{Whole}, specs.Aggregated.{leaves_out}, specs.States.{IsKeptIn, IsStartState, IsStateWith}}
+use Rattle.mob_tail.{specs.Groups.{column_on, group_fields, same_texts, has_groups, under_fields}, specs.GroupedAnswers.{AnswerColumn, columns_of, IsArgumentOf, IsColumnValue}}
 
 -- a column of the answer in the program, as the definitions have it
-abbrev pub column_seen : ColumnOf → Column
+abbrev pub column_seen : ColumnOf → AnswerColumn
 column_seen c = (typed_of c.expression.now, c.agg)
 
 -- an aggregate with one more tuple, or its fault there
@@ -38,42 +26,42 @@ IsPlainOn s e false before x = x ≡ before
 
 -- a column of the answer with one more tuple, or its fault there; the fourth argument is whether
 -- the tuple is the first of its group
-abbrev pub IsColumnWith : Scene → Column → State → Bool → Result State PlacedFormula → Type 0
+abbrev pub IsColumnWith : Scene → AnswerColumn → State → Bool → Result State PlacedFormula → Type 0
 IsColumnWith s (e, Some agg) before first r = IsAggregateOn s e agg before r
 IsColumnWith s (e, None) before first (Ok x) = IsPlainOn s e first before x
 IsColumnWith s (e, None) before first (Err f) = ⊥
 
--- a cell with one more tuple
-pub record IsCellWith (s : Scene) (first : Bool) (old new : GroupCell) : Type 0 where
+-- a memo with one more tuple
+pub record IsMemoWith (s : Scene) (first : Bool) (old new : GroupMemo) : Type 0 where
   pub column : column_seen new.column ≡ column_seen old.column
   pub state : IsColumnWith s (column_seen old.column) old.state first (Ok new.state)
 
--- a fault in a cell, if those before it have none
-abbrev pub FailsInCells : Scene → Bool → List GroupCell → PlacedFormula → Type 0
-FailsInCells s first [] f = ⊥
-FailsInCells s first (c ∷ cells) f = IsColumnWith s (column_seen c.column) c.state first (Err f) ⊎ ((x : State) × IsColumnWith s (column_seen c.column) c.state first (Ok x) × FailsInCells s first cells f)
+-- a fault in a memo, if those before it have none
+abbrev pub FailsInMemos : Scene → Bool → List GroupMemo → PlacedFormula → Type 0
+FailsInMemos s first [] f = ⊥
+FailsInMemos s first (c ∷ cells) f = IsColumnWith s (column_seen c.column) c.state first (Err f) ⊎ ((x : State) × IsColumnWith s (column_seen c.column) c.state first (Ok x) × FailsInMemos s first cells f)
 
 -- the state of a column has this value
-abbrev pub IsHeldOf : Column → State → Value → Type 0
-IsHeldOf (e, None) x r = x ≡ Whole r
-IsHeldOf (e, Some agg) x r = IsHeld agg.kind x r
+abbrev pub IsKeptOf : AnswerColumn → State → Value → Type 0
+IsKeptOf (e, None) x r = x ≡ Whole r
+IsKeptOf (e, Some agg) x r = IsKeptIn agg.kind x r
 
-abbrev pub IsCellHeld : Value → GroupCell → Type 0
-IsCellHeld r cell = IsHeldOf (column_seen cell.column) cell.state r
+abbrev pub IsMemoKept : Value → GroupMemo → Type 0
+IsMemoKept r cell = IsKeptOf (column_seen cell.column) cell.state r
 
 -- the state of a column for a group without tuples
-abbrev pub IsStart : Column → State → Type 0
+abbrev pub IsStart : AnswerColumn → State → Type 0
 IsStart (e, None) x = x ≡ Whole Null
 IsStart (e, Some agg) x = IsStartState agg.kind x
 
--- a cell for a group without tuples
-abbrev pub IsStartCell : ColumnOf → GroupCell → Type 0
-IsStartCell column cell = (column_seen cell.column ≡ column_seen column) × IsStart (column_seen column) cell.state
+-- a memo for a group without tuples
+abbrev pub IsStartMemo : ColumnOf → GroupMemo → Type 0
+IsStartMemo column cell = (column_seen cell.column ≡ column_seen column) × IsStart (column_seen column) cell.state
 
 -- the program's record of a group without tuples
 pub record IsStartGroup (columns : List ColumnOf) (g : Group) : Type 0 where
   pub first : g.first ≡ None
-  pub cells : AllZip IsStartCell columns g.cells.items
+  pub cells : AllZip IsStartMemo columns g.cells.items
 
 -- the first tuple of a group
 abbrev pub first_of : List (List ℕ) → Option (List ℕ)
@@ -81,17 +69,17 @@ first_of [] = None
 first_of (t ∷ group) = Some t
 
 -- the state of a column has its value for a group
-abbrev pub IsStateOf : TypedSelectParts → Store → ℤ → List (List ℕ) → Column → State → Type 0
-IsStateOf select store day group column x = (r : Value) × IsHeldOf column x r × IsColumnValue select store day group column r
+abbrev pub IsStateOf : TypedSelectParts → Store → ℤ → List (List ℕ) → AnswerColumn → State → Type 0
+IsStateOf select store day group column x = (r : Value) × IsKeptOf column x r × IsColumnValue select store day group column r
 
--- a cell holds the value of its column for a group
-abbrev pub IsCellOf : TypedSelectParts → Store → ℤ → List (List ℕ) → Column → GroupCell → Type 0
-IsCellOf select store day group column cell = (column_seen cell.column ≡ column) × IsStateOf select store day group column cell.state
+-- a memo holds the value of its column for a group
+abbrev pub IsGroupMemoOf : TypedSelectParts → Store → ℤ → List (List ℕ) → AnswerColumn → GroupMemo → Type 0
+IsGroupMemoOf select store day group column cell = (column_seen cell.column ≡ column) × IsStateOf select store day group column cell.state
 
 -- the program's record of a group of these tuples
 pub record IsGroupOf (select : TypedSelectParts) (store : Store) (day : ℤ) (group : List (List ℕ)) (g : Group) : Type 0 where
   pub first : g.first ≡ first_of group
-  pub cells : AllZip (IsCellOf select store day group) (columns_of select) g.cells.items
+  pub cells : AllZip (IsGroupMemoOf select store day group) (columns_of select) g.cells.items
 
 -- the fields of each group: without GROUP BY there is one group, without fields
 abbrev pub keys_on : TypedSelectParts → Store → ℤ → List (List ℕ) → List (List (List ℕ))

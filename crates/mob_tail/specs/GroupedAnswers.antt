@@ -1,40 +1,30 @@
 -- The answer of a grouped query.
-use Rattle.std.specs.Prelude.{◌≡◌, ◌+◌, ℕ, ℤ, List, [], ◌∷◌, Bool, Option, Some, None, Result, Ok, Err, map, option_map, option_and_then, slice_get}
-use Rattle.std.specs.List.{AllZip}
-use Rattle.mob_operators.specs.declared.aggregate.AggKind.{AggKind}
-use Rattle.mob_operators.specs.declared.aggregate.AggKind.TheVariants.{CountAll}
+use Rattle.std.{specs.Prelude.{◌≡◌, ◌+◌, ℕ, ℤ, List, [], ◌∷◌, Bool, Option, Some, None, Result, Ok, Err, map, option_map, option_and_then, slice_get}, specs.List.{AllZip}}
+use Rattle.mob_operators.{specs.declared.aggregate.AggKind.{AggKind}, specs.declared.aggregate.AggKind.TheVariants.{CountAll}}
 use Rattle.mob_slice.specs.declared.formula.Formula.{Formula}
-use Rattle.mob_typed.specs.declared.typed.Agg.{Agg}
-use Rattle.mob_typed.specs.Trees.{TypedTree}
-use Rattle.mob_typed.specs.Selects.{Output, TypedSelectParts}
-use Rattle.mob_value.specs.declared.value.Value.{Value}
-use Rattle.mob_value.specs.declared.value.Value.TheVariants.{Null}
-use Rattle.mob_value.specs.declared.store.Store.{Store}
-use Rattle.mob_value.specs.Null.{value_or_null}
+use Rattle.mob_typed.{specs.declared.typed.Agg.{Agg}, specs.Trees.{TypedTree}, specs.Selects.{Output, TypedSelectParts}}
+use Rattle.mob_value.{specs.declared.value.Value.{Value}, specs.declared.value.Value.TheVariants.{Null}, specs.declared.store.Store.{Store}, specs.Null.{value_or_null}}
 use Rattle.mob_literal.specs.Fields.{field_text}
-use Rattle.mob_meaning.specs.Scene.{Scene, scene}
-use Rattle.mob_meaning.specs.Evaluation.{PlacedFormula, TreeEvaluatesTo}
+use Rattle.mob_meaning.{specs.Scene.{Scene, scene}, specs.Evaluation.{PlacedFormula, TreeEvaluatesTo}}
 use Rattle.mob_eval.specs.QueryFaults.{TupleFault}
 use Rattle.mob_tagg.specs.Rows.{IsRowFault, Adds}
-use Rattle.mob_arrange.specs.Keyed.{Keyed}
-use Rattle.mob_tail.specs.Aggregated.{IsAggregated, IsAdding}
-use Rattle.mob_tail.specs.Groups.{same_group, groups_on, first_value}
-use Rattle.mob_arrange.specs.Rows.{AreArranged}
+use Rattle.mob_arrange.{specs.Keyed.{Keyed}, specs.Rows.{AreArranged}}
+use Rattle.mob_tail.{specs.Aggregated.{IsAggregated, IsAdding}, specs.Groups.{same_group, groups_on, first_value}}
 
 -- a column of the answer: its expression, and the aggregate over it, if it is one
-abbrev pub Column : Type 0
-Column = TypedTree × Option Agg
+abbrev pub AnswerColumn : Type 0
+AnswerColumn = TypedTree × Option Agg
 
 -- the aggregate over the expression of this number
 abbrev pub agg_at : List (Option Agg) → ℕ → Option Agg
 agg_at aggs number = option_and_then (λ agg. agg) (slice_get aggs number)
 
 -- the columns of the answer, from the one of this number on
-abbrev pub columns_from : List (Option Agg) → ℕ → List Output → List Column
+abbrev pub columns_from : List (Option Agg) → ℕ → List Output → List AnswerColumn
 columns_from aggs number [] = []
 columns_from aggs number (o ∷ outputs) = (o.0, agg_at aggs number) ∷ columns_from aggs (number + 1) outputs
 
-abbrev pub columns_of : TypedSelectParts → List Column
+abbrev pub columns_of : TypedSelectParts → List AnswerColumn
 columns_of select = columns_from select.aggs 0 select.items
 
 -- the argument of an aggregate on a tuple, which count(*) does not evaluate; or its fault
@@ -43,18 +33,18 @@ IsArgumentOf CountAll s e r = r ≡ Ok Null
 IsArgumentOf _ s e r = TreeEvaluatesTo s e r
 
 -- the same for a column; one that is not an aggregate has no argument
-abbrev pub IsArgument : Scene → Column → Result Value PlacedFormula → Type 0
+abbrev pub IsArgument : Scene → AnswerColumn → Result Value PlacedFormula → Type 0
 IsArgument s (e, None) r = r ≡ Ok Null
 IsArgument s (e, Some agg) r = IsArgumentOf agg.kind s e r
 
 -- the fault of adding a value to those before it in a column, at the place of the aggregate; or
 -- none
-abbrev pub IsAddingTo : Column → List Value → Value → Option PlacedFormula → Type 0
+abbrev pub IsAddingTo : AnswerColumn → List Value → Value → Option PlacedFormula → Type 0
 IsAddingTo (e, None) before v f = f ≡ None
 IsAddingTo (e, Some agg) before v f = (g : Option Formula) × IsAdding agg before v g × (f ≡ option_map (λ formula. (agg.place, formula)) g)
 
 -- the argument of a column on a tuple
-abbrev pub IsArgumentOn : TypedSelectParts → Store → ℤ → List ℕ → Column → Result Value PlacedFormula → Type 0
+abbrev pub IsArgumentOn : TypedSelectParts → Store → ℤ → List ℕ → AnswerColumn → Result Value PlacedFormula → Type 0
 IsArgumentOn select store day tuple column r = IsArgument (scene store select.from tuple day) column r
 
 -- The first fault on the kept tuples, or none. On each tuple, column by column, the argument comes
@@ -64,29 +54,29 @@ IsGroupedFault select store day kept f = IsRowFault (IsArgumentOn select store d
 
 -- Adding the value of a column on this tuple, after these, overflows, whether or not it is the
 -- first fault.
-abbrev pub AddingFails : TypedSelectParts → Store → ℤ → List (List ℕ) → List ℕ → Column → PlacedFormula → Type 0
+abbrev pub AddingFails : TypedSelectParts → Store → ℤ → List (List ℕ) → List ℕ → AnswerColumn → PlacedFormula → Type 0
 AddingFails select store day before tuple column f = Adds (IsArgumentOn select store day) IsAddingTo (same_group select store day) before tuple column f
 
 -- The value of a column for a group: the aggregate of its argument over the tuples of the group in
 -- order, or the value of a column of GROUP BY on the first tuple.
-abbrev pub IsColumnValue : TypedSelectParts → Store → ℤ → List (List ℕ) → Column → Value → Type 0
+abbrev pub IsColumnValue : TypedSelectParts → Store → ℤ → List (List ℕ) → AnswerColumn → Value → Type 0
 IsColumnValue select store day group (e, None) v = v ≡ first_value select store day group e
 IsColumnValue select store day group (e, Some agg) v = (vs : List Value) × AllZip (λ t w. IsArgumentOn select store day t (e, Some agg) (Ok w)) group vs × IsAggregated agg.kind agg.ty vs v
 
 -- the value of a key for a group whose columns have these values: that of the column it refers to,
 -- or of a column of GROUP BY on the first tuple
-abbrev pub key_value : TypedSelectParts → Store → ℤ → List (List ℕ) → List Value → TypedTree → Option ℕ → Value
-key_value select store day group values e (Some n) = value_or_null (slice_get values n)
-key_value select store day group values e None = first_value select store day group e
+abbrev pub answer_key : TypedSelectParts → Store → ℤ → List (List ℕ) → List Value → TypedTree → Option ℕ → Value
+answer_key select store day group values e (Some n) = value_or_null (slice_get values n)
+answer_key select store day group values e None = first_value select store day group e
 
 -- the number of the column that a key refers to
-abbrev pub item_of : List (Option ℕ) → ℕ → Option ℕ
-item_of numbers key = option_and_then (λ n. n) (slice_get numbers key)
+abbrev pub answer_item : List (Option ℕ) → ℕ → Option ℕ
+answer_item numbers key = option_and_then (λ n. n) (slice_get numbers key)
 
 -- the values of the keys, from the one of this number on
 abbrev pub keys_from : TypedSelectParts → Store → ℤ → List (List ℕ) → List Value → ℕ → List (TypedTree × Bool) → List Value
 keys_from select store day group values number [] = []
-keys_from select store day group values number (k ∷ keys) = key_value select store day group values k.0 (item_of select.key_items number) ∷ keys_from select store day group values (number + 1) keys
+keys_from select store day group values number (k ∷ keys) = answer_key select store day group values k.0 (answer_item select.key_items number) ∷ keys_from select store day group values (number + 1) keys
 
 -- the row of a group: the printed values of its columns, and the values of its keys
 pub record IsGroupRow (select : TypedSelectParts) (store : Store) (day : ℤ) (group : List (List ℕ)) (row : Keyed) : Type 0 where

@@ -1,19 +1,15 @@
 -- The groups of the tuples that a grouped query keeps.
-use Rattle.std.specs.Prelude.{not, Bool, true, false, ℕ, ℤ, List, [], ◌∷◌, map, nat_eq}
-use Rattle.std.specs.Cmp.Lexicographic.{pointwise}
-use Rattle.mob_typed.specs.Trees.{TypedTree, typed, none, more}
-use Rattle.mob_typed.specs.Selects.{TypedSelectParts}
-use Rattle.mob_value.specs.declared.value.Value.{Value}
-use Rattle.mob_value.specs.declared.value.Value.TheVariants.{Null}
-use Rattle.mob_value.specs.declared.store.Store.{Store}
+use Rattle.std.{specs.Prelude.{not, Bool, true, false, ℕ, ℤ, List, [], ◌∷◌, map, nat_eq}, specs.Cmp.Lexicographic.{pointwise}}
+use Rattle.mob_typed.{specs.Trees.{TypedTree, typed, none, more}, specs.Selects.{TypedSelectParts}}
+use Rattle.mob_value.{specs.declared.value.Value.{Value}, specs.declared.value.Value.TheVariants.{Null}, specs.declared.store.Store.{Store}}
 use Rattle.mob_literal.specs.Fields.{field_text}
 use Rattle.mob_meaning.specs.Scene.{Scene, scene, leaf_value}
 use Rattle.mob_groups.specs.Groups.{groups_by}
 
 -- whether a list is empty
-abbrev pub is_bare : {X : Type 0} → List X → Bool
-is_bare [] = true
-is_bare (x ∷ xs) = false
+abbrev pub is_bare_column : {X : Type 0} → List X → Bool
+is_bare_column [] = true
+is_bare_column (x ∷ xs) = false
 
 -- the value of a column on a tuple; an expression with operands is not a column
 abbrev pub column_on : Scene → TypedTree → Value
@@ -39,7 +35,7 @@ under_fields select store day tuples = map (λ t. (group_fields select store day
 
 -- whether a query has GROUP BY
 abbrev pub has_groups : TypedSelectParts → Bool
-has_groups select = not (is_bare select.groups)
+has_groups select = not (is_bare_column select.groups)
 
 -- The groups of the kept tuples, in the order of their first tuples; without GROUP BY one group,
 -- even if no tuple is kept.

@@ -1,10 +1,8 @@
 -- The answer of EXPLAIN: a plan in one column, with a line for each table of FROM.
 use Rattle.std.specs.Prelude.{◌+◌, ◌++◌, ℕ, List, [], ◌∷◌, Bool, Option, codes, is_some, if◌then◌else◌}
-use Rattle.mob_typed.specs.Trees.{TypedTree}
-use Rattle.mob_typed.specs.Selects.{on_of}
+use Rattle.mob_typed.{specs.Trees.{TypedTree}, specs.Selects.{on_of}}
 use Rattle.mob_plan.specs.Plans.{PlanStep, scan, probe}
-use Rattle.mob_catalog.specs.Catalogue.{Catalogue}
-use Rattle.mob_catalog.specs.Indexes.{index_name}
+use Rattle.mob_catalog.{specs.Catalogue.{Catalogue}, specs.Indexes.{index_name}}
 
 -- the name of the column
 abbrev pub plan_names : List (List ℕ)

@@ -10,7 +10,7 @@ ghost use Rattle.mob_value.specs.declared.value.Value.TheVariants.{Number, Movin
 ghost use Rattle.mob_arith.specs.Sql.Entries.{arithmetic_entries};
 ghost use Rattle.mob_value.specs.Moving.{AreNormalBy, IsFunction, or_nothing};
 ghost use Rattle.mob_ordinary.specs.Ordinary.{is_null};
-ghost use Rattle.mob_tail.specs.Aggregated.{number_in, one_where, leaves_out, IsAggregated, IsAggregateWith, IsUnion, steps_of, lines_of};
+ghost use Rattle.mob_tail.specs.Aggregated.{number_of_value, one_where, leaves_out, IsAggregated, IsAggregateWith, IsUnion, steps_of, aggregate_lines};
 ghost use Rattle.mob_tail.specs.Made.{made_in};
 ghost use Rattle.mob_tail.specs.States.{is_in_parts};
 
@@ -46,7 +46,7 @@ pub fn leaves_out(kind: AggKind, value: &Value) -> bool
 
 // The number of a plain number.
 fn number_in(value: &Value) -> Option<Frac>
-    ensures number { result ≡ number_in value.now }
+    ensures number { result ≡ number_of_value value.now }
 {
     match value {
         Value::Number(number) => Some(*number),
@@ -65,7 +65,7 @@ fn steps_of(value: &Value) -> Option<&Moving<Steady<Frac>>>
 }
 
 fn lines_of(value: &Value) -> Option<&Moving<Line>>
-    ensures slices { option_map (λ m. m.now) result ≡ lines_of value.now }
+    ensures slices { option_map (λ m. m.now) result ≡ aggregate_lines value.now }
 {
     match value {
         Value::MovingFrac(moving) => Some(moving),
@@ -175,10 +175,10 @@ fn steps_more(alloc: Global, before: &mut Value, value: &Value) -> Result<(), Fa
 
 // Adds a tfrac to a sum of tfracs, which is NULL if there is none yet.
 fn lines_more(alloc: Global, before: &mut Value, value: &Value) -> Result<(), Fault<Formula>>
-    ensures union { IfOk (made_in result before.new) (λ r. IsUnion line_course MovingFrac sum_of (lines_of before.old) (lines_of value.now) before.old r) }
-    ensures normal { MatchOption (lines_of value.now) (Unit {0}) (AreNormalBy line_course) }
-    ensures fits { IfOk (made_in result before.new) (λ _. IsFirst (arithmetic_entries Calculation.Sum SqlType.TFrac (or_nothing MovingFrac (lines_of before.old)) (or_nothing MovingFrac (lines_of value.now))) None) }
-    ensures fault { IfErr (made_in result before.new) (OnCause (λ f. IsFirst (arithmetic_entries Calculation.Sum SqlType.TFrac (or_nothing MovingFrac (lines_of before.old)) (or_nothing MovingFrac (lines_of value.now))) (Some f))) }
+    ensures union { IfOk (made_in result before.new) (λ r. IsUnion line_course MovingFrac sum_of (aggregate_lines before.old) (aggregate_lines value.now) before.old r) }
+    ensures normal { MatchOption (aggregate_lines value.now) (Unit {0}) (AreNormalBy line_course) }
+    ensures fits { IfOk (made_in result before.new) (λ _. IsFirst (arithmetic_entries Calculation.Sum SqlType.TFrac (or_nothing MovingFrac (aggregate_lines before.old)) (or_nothing MovingFrac (aggregate_lines value.now))) None) }
+    ensures fault { IfErr (made_in result before.new) (OnCause (λ f. IsFirst (arithmetic_entries Calculation.Sum SqlType.TFrac (or_nothing MovingFrac (aggregate_lines before.old)) (or_nothing MovingFrac (aggregate_lines value.now))) (Some f))) }
 {
     let Some(moving) = lines_of(value) else {
         return Ok(());

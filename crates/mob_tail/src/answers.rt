@@ -8,7 +8,7 @@ ghost use Rattle.mob_tail.specs.AnswerTexts.{answer_names, IsAnswerText};
 ghost use Rattle.mob_tail.specs.Answers.{IsPlainAnswer, IsAnswerOnKept};
 ghost use Rattle.mob_tail.specs.GroupedAnswers.{IsGroupedAnswer};
 ghost use Rattle.mob_eval.specs.Remembered.{root_seen};
-ghost use Rattle.mob_tail.specs.Recalling.{AnswerFits, answer_recollection, item_trees, key_trees};
+ghost use Rattle.mob_tail.specs.Recalling.{AnswerFits, answer_recollection, item_trees, order_trees};
 
 use crate::evaluation::rows_on;
 use crate::grouping::grouped_rows;
@@ -80,7 +80,7 @@ fn answer_on<K: Remembering>(
     epoch: &Epoch,
     memory: &Memory<K>,
 ) -> Result<Vec<u8>, QueryFault>
-    requires roots { map root_seen roots.now ≡ item_trees (select_seen select.now) ++ key_trees (select_seen select.now) }
+    requires roots { map root_seen roots.now ≡ item_trees (select_seen select.now) ++ order_trees (select_seen select.now) }
     requires fits { AnswerFits K.recollection (select_seen select.now) store.now epoch.now }
     ensures text { IfOk result (λ text. IsAnswerText (select_seen select.now) (IsPlainAnswer (select_seen select.now) store.now epoch.now kept.now) text.items) }
     ensures fault { IfErr result (OnCause (λ f. IsPlainAnswer (select_seen select.now) store.now epoch.now kept.now (Err f))) }

@@ -5,7 +5,7 @@ ghost use Rattle.mob_typed.specs.Selects.{output_of};
 ghost use Rattle.mob_eval.specs.Views.{scene_of};
 ghost use Rattle.mob_list.specs.Faults.{OnCause};
 ghost use Rattle.mob_value.specs.Held.{held};
-ghost use Rattle.mob_tail.specs.Groups.{is_bare, column_on};
+ghost use Rattle.mob_tail.specs.Groups.{is_bare_column, column_on};
 ghost use Rattle.mob_tail.specs.GroupedAnswers.{agg_at, columns_from, IsArgumentOf};
 ghost use Rattle.mob_tail.specs.GroupSteps.{column_seen};
 
@@ -55,7 +55,7 @@ pub fn columns_of<'a>(
 
 /// Whether there are no operands.
 pub fn is_bare(operands: &[TExpr]) -> bool
-    ensures bare { result ≡ is_bare operands.now }
+    ensures bare { result ≡ is_bare_column operands.now }
 {
     match operands.first() {
         None => true,

@@ -15,7 +15,7 @@ ghost use Rattle.mob_tail.specs.AnswerRows.{answer_row};
 ghost use Rattle.mob_tail.specs.IsMadeOfEach.{IsMadeOfEach};
 ghost use Rattle.mob_tail.specs.Answers.{IsRowOf, IsTupleRow};
 ghost use Rattle.mob_tail.specs.Evaluated.{AreEvaluated};
-ghost use Rattle.mob_tail.specs.Recalling.{AnswerFits, SelectFits, item_trees, key_trees};
+ghost use Rattle.mob_tail.specs.Recalling.{AnswerFits, SelectFits, item_trees, order_trees};
 
 use mob_arrange::{Row, RowValue};
 use mob_eval::{Held, Memory, QueryFault, Remembering, View, fault_on, value_with};
@@ -130,7 +130,7 @@ fn row_of<'a, K: Remembering>(
     memory: Option<&'a Memory<K>>,
 ) -> Result<Row<'a>, EvalFault>
     requires items { map root_seen items.now ≡ item_trees (select_seen select.now) }
-    requires keys { map root_seen keys.now ≡ key_trees (select_seen select.now) }
+    requires keys { map root_seen keys.now ≡ order_trees (select_seen select.now) }
     requires fits { SelectFits K.recollection (select_seen select.now) (scene store.now select.now.from tuple.now epoch.now) }
     ensures row { IfOk result (λ row. IsRowOf (select_seen select.now) (scene store.now select.now.from tuple.now epoch.now) (Ok (answer_row (select_seen select.now) epoch.now row))) }
     ensures fault { IfErr result (OnCause (λ f. IsRowOf (select_seen select.now) (scene store.now select.now.from tuple.now epoch.now) (Err f))) }
@@ -158,7 +158,7 @@ pub fn rows_on<'a, K: Remembering>(
     memory: Option<&'a Memory<K>>,
 ) -> Result<Vec<Row<'a>>, QueryFault>
     requires items { map root_seen items.now ≡ item_trees (select_seen select.now) }
-    requires keys { map root_seen keys.now ≡ key_trees (select_seen select.now) }
+    requires keys { map root_seen keys.now ≡ order_trees (select_seen select.now) }
     requires fits { AnswerFits K.recollection (select_seen select.now) store.now epoch.now }
     ensures rows { IfOk result (λ rows. IsMadeOfEach (IsTupleRow (select_seen select.now) store.now epoch.now) kept.now (Ok (map (answer_row (select_seen select.now) epoch.now) rows.items))) }
     ensures fault { IfErr result (OnCause (λ f. IsMadeOfEach (IsTupleRow (select_seen select.now) store.now epoch.now) kept.now (Err f))) }

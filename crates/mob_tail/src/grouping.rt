@@ -9,14 +9,14 @@ ghost use Rattle.mob_eval.specs.Views.{scene_of};
 ghost use Rattle.mob_list.specs.Faults.{OnCause};
 ghost use Rattle.mob_tail.specs.Groups.{column_on, same_texts, group_fields, has_groups, groups_on, first_value};
 ghost use Rattle.mob_value.specs.Null.{value_or_null};
-ghost use Rattle.mob_tail.specs.GroupedAnswers.{columns_of, item_of, key_value, keys_from, IsColumnValue, IsGroupedFault};
+ghost use Rattle.mob_tail.specs.GroupedAnswers.{columns_of, answer_item, answer_key, keys_from, IsColumnValue, IsGroupedFault};
 ghost use Rattle.mob_tail.specs.AnswerRows.{IsGroupRowOf};
 ghost use Rattle.mob_arrange.specs.RowValues.{row_value};
 ghost use Rattle.mob_arrange.specs.TextsSeen.{texts_of};
 ghost use Rattle.mob_tail.specs.GroupSteps.{first_of, IsGroupOf, AreGroupsOf, keys_on, number_on};
 
 use crate::columns::{column_on, columns_of, is_bare};
-use crate::group_cells::{Group, group_with, no_groups, values_of};
+use crate::group_memos::{Group, group_with, no_groups, values_of};
 use mob_arrange::{Row, RowValue};
 use mob_eval::{QueryFault, View, fault_on};
 use mob_groups::{Groups, numbered};
@@ -165,7 +165,7 @@ fn row_values<'a>(alloc: Global, values: Vec<Value>) -> Result<Items<RowValue<'a
 
 // The number of the column that a key refers to, if any.
 fn item_of(numbers: &[Option<u32>], key: usize) -> Option<u32>
-    ensures item { result ≡ item_of numbers.now key }
+    ensures item { result ≡ answer_item numbers.now key }
 {
     match numbers.get(key) {
         Some(number) => *number,
@@ -217,7 +217,7 @@ fn key_value(
     key: &TExpr,
     epoch: &Epoch,
 ) -> Result<Value, AllocError>
-    ensures value { (tuples : _) → first.now ≡ first_of tuples → IfOk result (λ v. v ≡ key_value (select_seen select.now) store.now epoch.now tuples columns.now (typed_of key.now) (item_of (select_seen select.now).key_items number)) }
+    ensures value { (tuples : _) → first.now ≡ first_of tuples → IfOk result (λ v. v ≡ answer_key (select_seen select.now) store.now epoch.now tuples columns.now (typed_of key.now) (answer_item (select_seen select.now).key_items number)) }
 {
     match item_of(select.key_items.as_slice(), number) {
         Some(item) => item_value(alloc, columns, item),

@@ -5,7 +5,7 @@ mod adding;
 mod answers;
 mod columns;
 mod evaluation;
-mod group_cells;
+mod group_memos;
 mod grouping;
 pub mod laws;
 mod plans;

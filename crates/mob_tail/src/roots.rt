@@ -2,7 +2,7 @@
 ghost use Rattle.std.specs.Prelude.{◌≡◌, ◌++◌, IfOk, map};
 ghost use Rattle.mob_typed.specs.Selects.{output_of, key_seen, select_seen};
 ghost use Rattle.mob_eval.specs.Remembered.{root_seen};
-ghost use Rattle.mob_tail.specs.Recalling.{item_trees, key_trees};
+ghost use Rattle.mob_tail.specs.Recalling.{item_trees, order_trees};
 
 use mob_list::text::Text;
 use mob_typed::{TExpr, TypedSelect};
@@ -37,7 +37,7 @@ fn roots_in<'a>(
 /// The expressions of the select list, then those of the keys. The only error is a failed
 /// allocation.
 pub fn roots_of(alloc: Global, select: &TypedSelect) -> Result<Vec<&TExpr>, AllocError>
-    ensures roots { IfOk result (λ v. map root_seen v.items ≡ item_trees (select_seen select.now) ++ key_trees (select_seen select.now)) }
+    ensures roots { IfOk result (λ v. map root_seen v.items ≡ item_trees (select_seen select.now) ++ order_trees (select_seen select.now)) }
 {
     roots_in(alloc, select.items.as_slice(), select.keys.as_slice())
 }

@@ -7,7 +7,7 @@ ghost use Rattle.mob_tagg.specs.United.{united_by};
 ghost use Rattle.mob_value.specs.declared.value.Value.TheVariants.{MovingBool};
 ghost use Rattle.mob_tail.specs.Aggregated.{leaves_out, truths_of};
 ghost use Rattle.mob_tail.specs.Made.{made_in};
-ghost use Rattle.mob_tail.specs.States.{AreTruthsWith, IsHeld, IsStartState, IsStateWith};
+ghost use Rattle.mob_tail.specs.States.{AreTruthsWith, IsKeptIn, IsStartState, IsStateWith};
 
 use crate::adding::{aggregate_in, leaves_out, ones_on, put};
 use mob_frac::Frac;
@@ -147,7 +147,7 @@ pub fn state_in(
 
 /// The aggregate of a state. The only error is a failed allocation.
 pub fn value_of(alloc: Global, state: State) -> Result<Value, AllocError>
-    ensures value { (kind : _) (r : _) → IsHeld kind state r → IfOk result (λ v. v ≡ r) }
+    ensures value { (kind : _) (r : _) → IsKeptIn kind state r → IfOk result (λ v. v ≡ r) }
 {
     match state {
         State::Whole(value) => Ok(value),

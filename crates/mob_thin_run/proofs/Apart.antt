@@ -1,20 +1,12 @@
 -- A row fits or has a part that does not, and the program is exact.
-use Rattle.std.specs.Prelude.{◌≡◌, ◌∷◌, [], ℕ, List, Some, None, refl}
-use Rattle.std.specs.List.{AllByRecursion, flat_map}
-use Rattle.std.proofs.Common.{subst, inl, inr}
+use Rattle.std.{specs.Prelude.{◌≡◌, ◌∷◌, [], ℕ, List, Some, None, refl}, specs.List.{AllByRecursion, flat_map}, proofs.Common.{subst, inl, inr}}
 use Rattle.mob_list.proofs.Each.{one_of}
 use Rattle.mob_ratio.specs.Ratio.{Ratio}
-use Rattle.mob_slice.specs.Entries.{Entry, IsFirst}
-use Rattle.mob_slice.proofs.Firsts.{one_first}
-use Rattle.mob_slice.specs.declared.formula.Formula.{Formula}
-use Rattle.mob_value.specs.declared.value.Value.{Value}
-use Rattle.mob_value.specs.declared.value.Value.TheVariants.{MovingPoint}
-use Rattle.mob_simplify.proofs.OneRuns.{one_runs}
-use Rattle.mob_simplify.specs.Thinned.{tests_of_run}
+use Rattle.mob_slice.{specs.Entries.{Entry, IsFirst}, specs.declared.formula.Formula.{Formula}, proofs.Firsts.{one_first}}
+use Rattle.mob_value.{specs.declared.value.Value.{Value}, specs.declared.value.Value.TheVariants.{MovingPoint}}
+use Rattle.mob_simplify.{specs.Thinned.{tests_of_run}, proofs.OneRuns.{one_runs}}
 use Rattle.mob_trips.specs.Program.{IsTripsProgram, IsExactWith}
-use Rattle.mob_thin_run.specs.ThinProgram.{thin_program}
-use Rattle.mob_thin_run.specs.declared.settings.ThinSettings.{ThinSettings}
-use Rattle.mob_thin_run.specs.ThinRows.{OnTests, RowTestsFit, RowTestPasses, PassesFirst}
+use Rattle.mob_thin_run.{specs.ThinProgram.{thin_program}, specs.declared.settings.ThinSettings.{ThinSettings}, specs.ThinRows.{OnTests, RowTestsFit, RowTestPasses, PassesFirst}}
 use Rattle.mob_thin_run.proofs.OneSetting.{one_setting}
 
 some_none : (f : Formula) → None ≡ Some f → ⊥

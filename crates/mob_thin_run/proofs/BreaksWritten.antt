@@ -1,52 +1,23 @@
 -- The breaks of a trip that was read are at written instants and places: the instants are in the
 -- years 0001 to 9999, and all their numbers fit.
-use Rattle.std.specs.Prelude.{◌≡◌, ◌∷◌, ◌++◌, ◌^◌, [], ℤ, Bool, true, false, cond, List, map, nat_lt, nat_abs, Option, Some, None, MatchOption, Ok, refl}
-use Rattle.std.specs.List.{AllByRecursion}
-use Rattle.std.proofs.Common.{sym, ◌∙◌, subst, inl, inr}
-use Rattle.std.proofs.lemmas.Bool.{and_parts}
-use borrow.Author.Tests.{ltb-true}
+use Rattle.std.{specs.Prelude.{◌≡◌, ◌∷◌, ◌++◌, ◌^◌, [], ℤ, Bool, true, false, cond, List, map, nat_lt, nat_abs, Option, Some, None, MatchOption, Ok, refl}, specs.List.{AllByRecursion}}
+use Rattle.std.{proofs.Common.{sym, ◌∙◌, subst, inl, inr}, proofs.lemmas.Bool.{and_parts}}
 use Rattle.mob_ratio.specs.Ratio.{Ratio}
 use Rattle.mob_frac.specs.Fits.{Fits}
-use Rattle.mob_language.specs.Language.{Text, Language, Separated}
-use Rattle.mob_language.specs.Readers.{◌>>=◌}
-use Rattle.mob_language.proofs.Exact.{bind_some}
-use Rattle.mob_numeral.specs.Fitting.{fits, fitting, number_value}
-use Rattle.mob_numeral.specs.NumberValue.{numeral_value}
-use Rattle.mob_numeral.specs.Verdict.{Lit}
-use Rattle.mob_plane.specs.Points.{same_point, same_point_exact}
-use Rattle.mob_plane.specs.declared.point.Point.{Point}
+use Rattle.mob_language.{specs.Language.{Text, Language, Separated}, specs.Readers.{◌>>=◌}, proofs.Exact.{bind_some}}
+use Rattle.mob_numeral.{specs.Fitting.{fits, fitting, number_value}, specs.NumberValue.{numeral_value}, specs.Verdict.{Lit}}
+use Rattle.mob_plane.{specs.Points.{same_point, same_point_exact}, specs.declared.point.Point.{Point}}
 use Rattle.mob_points.specs.Points.{coordinates, point_value, written_point}
-use Rattle.mob_scalar.specs.Brackets.{comma}
-use Rattle.mob_scalar.specs.Moment.{instant, moment}
-use Rattle.mob_scalar.specs.MomentText.{HasDate, IsDated}
-use Rattle.mob_scalar.specs.Traverse.{traverse}
-use Rattle.mob_scalar.specs.declared.stamp.Stamp.{Stamp}
-use Rattle.mob_slice.specs.CourseOf.{plane_course}
-use Rattle.mob_slice.specs.Lines.{plane_value_of}
-use Rattle.mob_slice.specs.PlaneLaws.{plane_laws}
-use Rattle.mob_slice.specs.Slices.{value_at}
-use Rattle.mob_slice.specs.declared.line.PlaneLine.{PlaneLine}
+use Rattle.mob_scalar.{specs.Brackets.{comma}, specs.Moment.{instant, moment}, specs.MomentText.{HasDate, IsDated}, specs.Traverse.{traverse}, specs.declared.stamp.Stamp.{Stamp}}
+use Rattle.mob_slice.{specs.CourseOf.{plane_course}, specs.Lines.{plane_value_of}, specs.PlaneLaws.{plane_laws}, specs.Slices.{value_at}, specs.declared.line.PlaneLine.{PlaneLine}}
 use Rattle.mob_slice.specs.declared.slice.Slice.{Slice}
-use Rattle.mob_written.specs.Literal.{alone, literal, members, noted, sequence, temporal}
-use Rattle.mob_written.specs.Prefix.{admitted}
-use Rattle.mob_written.specs.Values.{any_value}
-use Rattle.mob_written.specs.declared.written.Literal.{Literal}
-use Rattle.mob_written.specs.declared.written.Noted.{Noted}
-use Rattle.mob_written.specs.declared.written.Prefixes.{Prefixes}
-use Rattle.mob_written.specs.declared.written.Sequence.{Sequence}
-use Rattle.mob_written.specs.declared.written.Written.{Written}
-use Rattle.mob_literal.specs.Readable.{PointFits}
-use Rattle.mob_literal.specs.Sequences.{is_step}
-use Rattle.mob_literal.specs.Slices.{slices_of, stretch}
-use Rattle.mob_literal.specs.Sound.{Defines, fitting_all, fitting_sequence, is_sound, literals, written_of}
-use Rattle.mob_literal.proofs.Drawn.{lawful}
-use Rattle.mob_literal.proofs.FlatLemmas.{flat, is_flat}
-use Rattle.mob_literal.proofs.OneReading.{one_option}
-use Rattle.mob_simplify.specs.Breaks.{start_of, end_of}
-use Rattle.mob_simplify.specs.BreaksOf.{HaveBreaks}
-use Rattle.mob_simplify.specs.declared.breaks.Break.{Break}
-use Rattle.mob_simplify.proofs.Tidied.{normal_breaks}
+use Rattle.mob_written.{specs.Literal.{alone, literal, set_members, noted, sequence, temporal}, specs.Prefix.{admitted}, specs.Values.{any_value}, specs.declared.written.Literal.{Literal}}
+use Rattle.mob_written.{specs.declared.written.Noted.{Noted}, specs.declared.written.Prefixes.{Prefixes}, specs.declared.written.Sequence.{Sequence}, specs.declared.written.Written.{Written}}
+use Rattle.mob_literal.{specs.Readable.{PointFits}, specs.Sequences.{is_step}, specs.Slices.{slices_of, stretch}, specs.Sound.{Defines, fitting_all, fitting_sequence, is_sound, literals, written_of}}
+use Rattle.mob_literal.{proofs.Drawn.{lawful}, proofs.FlatLemmas.{flat, is_flat}, proofs.OneReading.{one_option}}
+use Rattle.mob_simplify.{specs.Breaks.{start_of, end_of}, specs.BreaksOf.{HaveBreaks}, specs.declared.breaks.Break.{Break}, proofs.Tidied.{normal_breaks}}
 use Rattle.mob_thin_run.proofs.MomentsDated.{moment_dated}
+use borrow.Author.Tests.{ltb-true}
 
 -- ---- the parts of a literal
 -- each entry of each sequence satisfies P
@@ -71,7 +42,7 @@ module _ {A : Type 0} (entry : Language A) (P : A → Type 0) (each : (text : Te
   in_alone [] h = tt
   in_alone (i ∷ is) h = ((h.0, tt), in_alone is h.1)
 
-  in_members : (text : Text) (qs : List (Sequence A)) → members entry text qs → AllEntries P qs
+  in_members : (text : Text) (qs : List (Sequence A)) → set_members entry text qs → AllEntries P qs
   in_members text qs said = elim said [
     | inl s ↦ in_sequences text qs s
     | inr i ↦ subst (λ (x : List (Sequence A)). AllEntries P x) (sym i.is) (in_alone i.meant (in_list text i.meant i.said))

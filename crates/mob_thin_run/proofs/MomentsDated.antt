@@ -1,14 +1,8 @@
 -- The instant of a written moment is in the years 0001 to 9999.
-use Rattle.std.proofs.Common.{◌≡◌, sym, subst, ap, ◌∙◌, ◌*◌, ◌<◌, ℕ, ℤ, pos, negsuc, ◌+ℤ◌, ◌-ℤ◌, ◌*ℤ◌, ◌<ℤ◌, ◌≤ℤ◌, arith}
-use Rattle.std.proofs.lemmas.Int.{ints}
-use Rattle.std.specs.Int.{int_div_euclid}
-use Rattle.mob_ratio.specs.Ratio.{over, whole, ◌+ℚ◌}
-use Rattle.mob_ratio.proofs.IntRing.{add_mul, le_cancel, linear, lt_cancel, lt_times, products}
-use Rattle.mob_ratio.proofs.RatioLemmas.{den_pos, over-add, over-cross}
+use Rattle.std.{specs.Int.{int_div_euclid}, proofs.Common.{◌≡◌, sym, subst, ap, ◌∙◌, ◌*◌, ◌<◌, ℕ, ℤ, pos, negsuc, ◌+ℤ◌, ◌-ℤ◌, ◌*ℤ◌, ◌<ℤ◌, ◌≤ℤ◌, arith}, proofs.lemmas.Int.{ints}}
+use Rattle.mob_ratio.{specs.Ratio.{over, whole, ◌+ℚ◌}, proofs.IntRing.{add_mul, le_cancel, linear, lt_cancel, lt_times, products}, proofs.RatioLemmas.{den_pos, over-add, over-cross}}
 use Rattle.mob_language.specs.Language.{Text}
-use Rattle.mob_scalar.specs.declared.stamp.Stamp.{Stamp}
-use Rattle.mob_scalar.specs.Moment.{instant, is_year_second, moment, seconds}
-use Rattle.mob_scalar.specs.MomentText.{HasDate, second_of, whole_seconds}
+use Rattle.mob_scalar.{specs.declared.stamp.Stamp.{Stamp}, specs.Moment.{instant, is_year_second, moment, seconds}, specs.MomentText.{HasDate, second_of, whole_seconds}}
 use Rattle.mob_scalar.proofs.MomentBounds.{moment_small}
 
 -- ---- the greatest whole number at most this

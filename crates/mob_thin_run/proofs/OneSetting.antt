@@ -1,9 +1,7 @@
 -- The arguments of a command line give one record of settings.
 use Rattle.std.specs.Prelude.{◌≡◌, List, ℕ, codes}
-use Rattle.mob_words.specs.Arguments.{IsDistance, option_value}
-use Rattle.mob_words.proofs.Readings.{one_day, one_distance, one_required}
-use Rattle.mob_thin_run.specs.CommandLine.{ThinSays, thin_command}
-use Rattle.mob_thin_run.specs.declared.settings.ThinSettings.{ThinSettings}
+use Rattle.mob_arguments.{specs.Arguments.{IsDistance, option_value}, proofs.Readings.{one_day, one_distance, one_required}}
+use Rattle.mob_thin_run.{specs.CommandLine.{ThinSays, thin_command}, specs.declared.settings.ThinSettings.{ThinSettings}}
 
 same_settings : (a b : ThinSettings) → a.within ≡ b.within → a.epoch ≡ b.epoch → a ≡ b
 same_settings a b e f = λ i. record { within = e i; epoch = f i }

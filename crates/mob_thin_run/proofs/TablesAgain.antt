@@ -1,24 +1,16 @@
 -- The written file is read again as the table that it was written for.
-use Rattle.std.specs.Prelude.{◌≡◌, ◌≤◌, ◌∷◌, [], ℕ, ℤ, List, Ok, codes, drop, length, map, suc, true, refl}
-use Rattle.std.specs.List.{AllZip, AllByRecursion, zip}
+use Rattle.std.{specs.Prelude.{◌≡◌, ◌≤◌, ◌∷◌, [], ℕ, ℤ, List, Ok, codes, drop, length, map, suc, true, refl}, specs.List.{AllZip, AllByRecursion, zip}}
 use Rattle.std.proofs.Common.{ap, sym, ◌∙◌, subst, inl, inr, true≢false}
 use Rattle.mob_list.proofs.Each.{each_map}
 use Rattle.csv.specs.Reading.{AreRecords, default_config, strip_bom}
-use Rattle.csv.specs.declared.parser.State.TheVariants as st
-use Rattle.mob_ast.specs.declared.types.SqlType.{SqlType}
-use Rattle.mob_ast.specs.declared.types.SqlType.TheVariants.{Int, TPoint}
-use Rattle.mob_value.specs.declared.value.Value.{Value}
-use Rattle.mob_value.specs.declared.value.Value.TheVariants.{Null}
-use Rattle.mob_literal.specs.Fields.{field_text, is_null_field}
-use Rattle.mob_literal.proofs.FieldsAgain.{field_again}
-use Rattle.mob_catalog.specs.Fields.{FieldSays}
-use Rattle.mob_catalog.specs.TableFile.{IsRow, IsTable, file_limit}
-use Rattle.mob_records.specs.ReadAgain.{HasFields}
-use Rattle.mob_records.proofs.ReadAgain.{reads_again}
-use Rattle.mob_thin_run.specs.TableAgain.{ReadsTableAgain}
-use Rattle.mob_thin_run.specs.ThinRows.{HasText, IsThinValue, table_text}
-use Rattle.mob_thin_run.proofs.ThinReadable.{IsCell, IsTripRow, rows_readable}
+use Rattle.mob_ast.{specs.declared.types.SqlType.{SqlType}, specs.declared.types.SqlType.TheVariants.{Int, TPoint}}
+use Rattle.mob_value.{specs.declared.value.Value.{Value}, specs.declared.value.Value.TheVariants.{Null}}
+use Rattle.mob_literal.{specs.Fields.{field_text, is_null_field}, proofs.FieldsAgain.{field_again}}
+use Rattle.mob_catalog.{specs.Fields.{FieldSays}, specs.TableFile.{IsRow, IsTable, file_limit}}
+use Rattle.mob_records.{specs.ReadAgain.{HasFields}, proofs.ReadAgain.{reads_again}}
+use Rattle.mob_thin_run.{specs.TableAgain.{ReadsTableAgain}, specs.ThinRows.{HasText, IsThinValue, table_text}, proofs.ThinReadable.{IsReadableField, IsTripRow, rows_readable}}
 use Rattle.mob_trips.specs.Reading.{trip_columns}
+use Rattle.csv.specs.declared.parser.State.TheVariants as st
 
 -- NULL is read as NULL again in these columns
 int_null : (day : ℤ) → is_null_field Int (field_text day Null) ≡ true
@@ -27,7 +19,7 @@ int_null day = refl
 trip_null : (day : ℤ) → is_null_field TPoint (field_text day Null) ≡ true
 trip_null day = refl
 
-cell_says : (type : SqlType) (day : ℤ) (v : Value) → is_null_field type (field_text day Null) ≡ true → IsCell type day v → FieldSays type day (field_text day v) (Ok v)
+cell_says : (type : SqlType) (day : ℤ) (v : Value) → is_null_field type (field_text day Null) ≡ true → IsReadableField type day v → FieldSays type day (field_text day v) (Ok v)
 cell_says type day v null (inl e) = subst (λ z. FieldSays type day (field_text day z) (Ok z)) (sym e) (record { null = λ h. refl; text = λ h. absurd (true≢false (sym null ∙ h)) })
 cell_says type day v null (inr r) = let a = field_again type day v r in record { null = λ h. absurd (true≢false (sym h ∙ a.there)); text = λ h. a.says }
 

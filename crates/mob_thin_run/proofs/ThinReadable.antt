@@ -1,65 +1,41 @@
 -- A row with each trip simplified is read again from its text, if the row was read and its trip can
 -- be printed.
-use Rattle.std.specs.Prelude.{◌≡◌, ◌≤◌, ◌+◌, ◌∷◌, ◌⊎◌, [], ℕ, ℤ, Bool, true, false, cond, List, length, Option, Some, None, MatchOption, Result, Ok, refl}
-use Rattle.std.specs.List.{AllZip, AllByRecursion}
-use Rattle.std.proofs.Common.{arith, ap, sym, ◌∙◌, subst, inl, inr}
-use Rattle.std.proofs.lemmas.Bool.{eqb-true}
+use Rattle.std.{specs.Prelude.{◌≡◌, ◌≤◌, ◌+◌, ◌∷◌, ◌⊎◌, [], ℕ, ℤ, Bool, true, false, cond, List, length, Option, Some, None, MatchOption, Result, Ok, refl}, specs.List.{AllZip, AllByRecursion}}
+use Rattle.std.{proofs.Common.{arith, ap, sym, ◌∙◌, subst, inl, inr}, proofs.lemmas.Bool.{eqb-true}}
 use Rattle.mob_list.proofs.Entries.{each_of_all}
-use Rattle.mob_ratio.specs.Ratio.{Ratio}
-use Rattle.mob_ratio.specs.Order.{before}
+use Rattle.mob_ratio.{specs.Ratio.{Ratio}, specs.Order.{before}}
 use Rattle.mob_language.specs.Language.{Text}
-use Rattle.mob_numeral.specs.NumberValue.{numeral_value}
-use Rattle.mob_numeral.specs.Verdict.{Lit}
-use Rattle.mob_numeral.specs.declared.fault.ReadText.{ReadText}
-use Rattle.mob_ast.specs.declared.types.SqlType.{SqlType}
-use Rattle.mob_ast.specs.declared.types.SqlType.TheVariants.{Int, TPoint}
-use Rattle.mob_value.specs.declared.value.Value.{Value}
-use Rattle.mob_value.specs.declared.value.Value.TheVariants.{Null, Number, MovingPoint}
-use Rattle.mob_points.specs.PointText.{point_text}
-use Rattle.mob_points.specs.Points.{point_value}
-use Rattle.mob_slice.specs.CourseOf.{plane_course}
-use Rattle.mob_slice.specs.declared.line.PlaneLine.{PlaneLine}
-use Rattle.mob_slice.specs.declared.slice.Slice.{Slice}
-use Rattle.mob_written.specs.Printed.{Style, neighbour_groups, put_in_group, instants_of, end_text, shares_group}
-use Rattle.mob_written.specs.Style.{style_of}
-use Rattle.mob_written.specs.Values.{any_value}
-use Rattle.mob_written.specs.declared.written.Written.{Written}
-use Rattle.mob_written.specs.declared.written.Sequence.{Sequence}
-use Rattle.mob_literal.specs.Fields.{is_null_field, text_of_field}
-use Rattle.mob_literal.specs.Readable.{IsReadable, IsInt, PointFits, instants_in}
-use Rattle.mob_literal.specs.Sequences.{is_step}
-use Rattle.mob_literal.specs.Sound.{Defines, fitting_all, literals}
-use Rattle.mob_literal.specs.SqlText.{SaysAs}
-use Rattle.mob_literal.specs.SqlReadable.{IsReadableAs}
+use Rattle.mob_numeral.{specs.NumberValue.{numeral_value}, specs.Verdict.{Lit}, specs.declared.fault.ReadText.{ReadText}}
+use Rattle.mob_ast.{specs.declared.types.SqlType.{SqlType}, specs.declared.types.SqlType.TheVariants.{Int, TPoint}}
+use Rattle.mob_value.{specs.declared.value.Value.{Value}, specs.declared.value.Value.TheVariants.{Null, Number, MovingPoint}}
+use Rattle.mob_points.{specs.PointText.{point_text}, specs.Points.{point_value}}
+use Rattle.mob_slice.{specs.CourseOf.{plane_course}, specs.declared.line.PlaneLine.{PlaneLine}, specs.declared.slice.Slice.{Slice}}
+use Rattle.mob_written.{specs.Printed.{Style, neighbour_groups, put_in_group, instants_of, end_text, shares_group}, specs.Style.{style_of}, specs.Values.{any_value}}
+use Rattle.mob_written.{specs.declared.written.Written.{Written}, specs.declared.written.Sequence.{Sequence}}
+use Rattle.mob_literal.{specs.Fields.{is_null_field, text_of_field}, specs.Readable.{IsReadable, IsInt, PointFits, instants_in}, specs.Sequences.{is_step}}
+use Rattle.mob_literal.{specs.Sound.{Defines, fitting_all, literals}, specs.SqlText.{SaysAs}, specs.SqlReadable.{IsReadableAs}}
 use Rattle.mob_plane.specs.declared.point.Point.{Point}
-use Rattle.mob_catalog.specs.Fields.{FieldSays}
-use Rattle.mob_catalog.specs.TableFile.{IsRow}
+use Rattle.mob_catalog.{specs.Fields.{FieldSays}, specs.TableFile.{IsRow}, proofs.OwnTypes.{no_part}}
 use Rattle.mob_frac.proofs.Fits.{fits_unless}
-use Rattle.mob_catalog.proofs.OwnTypes.{no_part}
-use Rattle.mob_simplify.specs.Breaks.{start_of, end_of}
-use Rattle.mob_simplify.specs.BreaksOf.{HaveBreaks, followed, printed_instants}
-use Rattle.mob_simplify.specs.Thinned.{IsThin}
-use Rattle.mob_simplify.proofs.Answering.{IsNormalLines}
+use Rattle.mob_simplify.{specs.Breaks.{start_of, end_of}, specs.BreaksOf.{HaveBreaks, followed, printed_instants}, specs.Thinned.{IsThin}, proofs.Answering.{IsNormalLines}}
 use Rattle.mob_simplify.proofs.Tidied.{thin_breaks, thin_prints}
-use Rattle.mob_thin_run.specs.TableAgain.{IsPrintable}
-use Rattle.mob_thin_run.specs.ThinRows.{IsThinValue}
-use Rattle.mob_thin_run.proofs.BreaksWritten.{IsWritable, breaks_written}
+use Rattle.mob_thin_run.{specs.TableAgain.{IsPrintable}, specs.ThinRows.{IsThinValue}, proofs.BreaksWritten.{IsWritable, breaks_written}}
 use Rattle.mob_trips.specs.Reading.{trip_columns}
 
 abbrev Line : Type 0
 Line = Slice PlaneLine
 
 -- NULL, or a value of the type whose printed text is read again
-abbrev pub IsCell : SqlType → ℤ → Value → Type 0
-IsCell type day v = (v ≡ Null) ⊎ IsReadableAs type day v
+abbrev pub IsReadableField : SqlType → ℤ → Value → Type 0
+IsReadableField type day v = (v ≡ Null) ⊎ IsReadableAs type day v
 
 -- a row with an int and a trip
 pub record IsTripRow (day : ℤ) (row : List Value) : Type 0 where
   pub id : Value
   pub trip : Value
   pub is : row ≡ id ∷ trip ∷ []
-  pub id_again : IsCell Int day id
-  pub trip_again : IsCell TPoint day trip
+  pub id_again : IsReadableField Int day id
+  pub trip_again : IsReadableField TPoint day trip
 
 -- ---- how many instants are printed
 -- the first group begins with the first slice
@@ -170,7 +146,7 @@ module _ (day : ℤ) where
       let number : IsInt value = record { fits = fits_unless value h.2.3; is_whole = eqb-true value.den 1 (no_part value h.2.4) } in
       subst (IsReadableAs Int day) (sym h.1) (subst IsInt (sym h.2.5) number)
 
-  id_field : (field : Text) (v : Value) (b : Bool) → is_null_field Int field ≡ b → FieldSays Int day field (Ok v) → IsCell Int day v
+  id_field : (field : Text) (v : Value) (b : Bool) → is_null_field Int field ≡ b → FieldSays Int day field (Ok v) → IsReadableField Int day v
   id_field field v true e h = inl (ok_same v Null (h.null e))
   id_field field v false e h = inr (id_said (text_of_field Int field) v (h.text e))
 
@@ -182,11 +158,11 @@ module _ (day : ℤ) where
   id_by d (Number q) w h k = subst (IsReadableAs Int day) (sym k) h
   id_by d v w h k = absurd h
 
-  id_again : (d : Ratio) (v w : Value) → IsCell Int day v → IsThinValue d v w → IsCell Int day w
+  id_again : (d : Ratio) (v w : Value) → IsReadableField Int day v → IsThinValue d v w → IsReadableField Int day w
   id_again d v w (inl e) k = inl (null_stays d v w e k)
   id_again d v w (inr r) k = inr (id_by d v w r k)
 
-  trip_again : (d : Ratio) (v w : Value) → IsTripCell v → IsThinValue d v w → IsCell TPoint day w
+  trip_again : (d : Ratio) (v w : Value) → IsTripCell v → IsThinValue d v w → IsReadableField TPoint day w
   trip_again d (MovingPoint slices) (MovingPoint thin) h k = inr (thin_readable d slices thin h k)
   trip_again d (MovingPoint slices) w h k = absurd k
   trip_again d v w h k = inl (null_stays d v w h k)

@@ -1,19 +1,13 @@
 -- Rows that are made one by one, and the first that fails.
-use Rattle.std.specs.Prelude.{◌≡◌, ℕ, ℤ, codes, map, List, [], ◌∷◌, ◌++◌, length, get_or, ◌<◌, IsUtf8, Some, refl, slice_get, suc, zero}
-use Rattle.std.specs.List.{AllZip, AllByRecursion, concat}
-use Rattle.std.proofs.Common.{arith, ap, sym, ◌∙◌, subst, inl, inr, take, drop, ◌+◌}
-use Rattle.std.proofs.lemmas.List.{map-append, take_more, take-append-drop, length-take-le}
+use Rattle.std.{specs.Prelude.{◌≡◌, ℕ, ℤ, codes, map, List, [], ◌∷◌, ◌++◌, length, get_or, ◌<◌, IsUtf8, Some, refl, slice_get, suc, zero}, specs.List.{AllZip, AllByRecursion, concat}}
+use Rattle.std.{proofs.Common.{arith, ap, sym, ◌∙◌, subst, inl, inr, take, drop, ◌+◌}, proofs.lemmas.List.{map-append, take_more, take-append-drop, length-take-le}}
 use Rattle.std.proofs.lemmas.Option.{none-some, same_Some}
 use Rattle.csv.specs.Records.{AllText}
-use Rattle.mob_list.proofs.Each.{each_both}
+use Rattle.mob_list.{specs.Faults.{OnCause, fault_at}, specs.declared.fault.Fault.{Fault}, specs.declared.fault.Fault.TheVariants.{Because, NoMemory}, proofs.Each.{each_both}}
 use Rattle.mob_list.proofs.Entries.{drop_read}
 use Rattle.mob_ratio.specs.Ratio.{Ratio}
-use Rattle.mob_list.specs.Faults.{OnCause, fault_at}
-use Rattle.mob_slice.specs.Entries.{IsFirst}
-use Rattle.mob_slice.specs.declared.formula.Formula.{Formula}
+use Rattle.mob_slice.{specs.Entries.{IsFirst}, specs.declared.formula.Formula.{Formula}}
 use Rattle.mob_value.specs.declared.value.Value.{Value}
-use Rattle.mob_list.specs.declared.fault.Fault.{Fault}
-use Rattle.mob_list.specs.declared.fault.Fault.TheVariants.{Because, NoMemory}
 use Rattle.mob_literal.specs.Fields.{field_text}
 use Rattle.mob_records.specs.AnswerText.{record_line}
 use Rattle.mob_thin_run.specs.ThinRows.{HasText, IsThinRecord, IsThinText, AreThinRows, OnTests, RowTestsFit, RowTestPasses, PassesFirst}

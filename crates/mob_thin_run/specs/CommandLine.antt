@@ -1,7 +1,7 @@
 -- The command line of mobthin: two options that take one value each, no help and no version.
 use Rattle.std.specs.Prelude.{◌∷◌, [], List, codes}
 use Rattle.clap.specs.Words.{App, Text}
-use Rattle.mob_words.specs.Arguments.{IsDistance, IsEpoch, IsRequired, Takes, command_of, option_value}
+use Rattle.mob_arguments.specs.Arguments.{IsDistance, IsEpoch, IsRequired, Takes, command_of, option_value}
 use Rattle.mob_thin_run.specs.declared.settings.ThinSettings.{ThinSettings}
 
 -- `mobthin --within D [--epoch DATE]`

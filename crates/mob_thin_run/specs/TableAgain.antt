@@ -1,9 +1,7 @@
 -- When the written file is read again as the table with each trip simplified.
-use Rattle.std.specs.Prelude.{◌≤◌, ℕ, ℤ, List, length}
-use Rattle.std.specs.List.{AllByRecursion}
+use Rattle.std.{specs.Prelude.{◌≤◌, ℕ, ℤ, List, length}, specs.List.{AllByRecursion}}
 use Rattle.mob_ratio.specs.Ratio.{Ratio}
-use Rattle.mob_value.specs.declared.value.Value.{Value}
-use Rattle.mob_value.specs.declared.value.Value.TheVariants.{MovingPoint}
+use Rattle.mob_value.{specs.declared.value.Value.{Value}, specs.declared.value.Value.TheVariants.{MovingPoint}}
 use Rattle.mob_catalog.specs.TableFile.{IsTable, file_limit}
 use Rattle.mob_simplify.specs.BreaksOf.{printed_instants}
 use Rattle.mob_thin_run.specs.ThinRows.{AreThinRows, IsThinText}

@@ -1,10 +1,7 @@
 -- The program mobthin.
-use Rattle.std.specs.Prelude.{◌≡◌, ◌∷◌, [], ℕ, List, codes}
-use Rattle.std.specs.List.{AllByRecursion}
+use Rattle.std.{specs.Prelude.{◌≡◌, ◌∷◌, [], ℕ, List, codes}, specs.List.{AllByRecursion}}
 use Rattle.mob_trips.specs.Program.{ProgramOf}
-use Rattle.mob_thin_run.specs.CommandLine.{ThinSays}
-use Rattle.mob_thin_run.specs.ThinRows.{IsThinText, PassesFirst, RowTestsFit}
-use Rattle.mob_thin_run.specs.declared.settings.ThinSettings.{ThinSettings}
+use Rattle.mob_thin_run.{specs.CommandLine.{ThinSays}, specs.ThinRows.{IsThinText, PassesFirst, RowTestsFit}, specs.declared.settings.ThinSettings.{ThinSettings}}
 
 -- It writes the table with each trip simplified, if all parts of all tests fit; the first row with
 -- one that does not fit stops it; no row exceeds a limit.

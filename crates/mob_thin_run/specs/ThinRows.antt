@@ -1,13 +1,10 @@
 -- The rows of a table with each trip simplified, their first fault, and the file that is written
 -- for them.
-use Rattle.std.specs.Prelude.{◌≡◌, ◌⊎◌, ℕ, ℤ, List, [], ◌∷◌, ◌++◌, length, map, codes, Some, None}
-use Rattle.std.specs.List.{AllZip, AllByRecursion, concat, flat_map}
+use Rattle.std.{specs.Prelude.{◌≡◌, ◌⊎◌, ℕ, ℤ, List, [], ◌∷◌, ◌++◌, length, map, codes, Some, None}, specs.List.{AllZip, AllByRecursion, concat, flat_map}}
 use Rattle.csv.specs.Records.{AllText}
 use Rattle.mob_ratio.specs.Ratio.{Ratio}
-use Rattle.mob_value.specs.declared.value.Value.{Value}
-use Rattle.mob_value.specs.declared.value.Value.TheVariants.{MovingPoint}
-use Rattle.mob_slice.specs.Entries.{Entry, IsFirst}
-use Rattle.mob_slice.specs.declared.formula.Formula.{Formula}
+use Rattle.mob_value.{specs.declared.value.Value.{Value}, specs.declared.value.Value.TheVariants.{MovingPoint}}
+use Rattle.mob_slice.{specs.Entries.{Entry, IsFirst}, specs.declared.formula.Formula.{Formula}}
 use Rattle.mob_literal.specs.Fields.{field_text}
 use Rattle.mob_records.specs.AnswerText.{record_line}
 use Rattle.mob_simplify.specs.Thinned.{IsThin, OnRuns, tests_of_run}

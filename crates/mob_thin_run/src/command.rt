@@ -1,13 +1,13 @@
 //! Reads the settings of mobthin from the arguments.
 ghost use Rattle.std.specs.Prelude.{◌≡◌, IfOk, IfSome, IsNone, codes, map, option_map, string_bytes};
 ghost use Rattle.mob_ratio.specs.Ratio.{Ratio};
-ghost use Rattle.mob_words.specs.Arguments.{IsDistance, IsRequired, Takes, option_value};
+ghost use Rattle.mob_arguments.specs.Arguments.{IsDistance, IsRequired, Takes, option_value};
 ghost use Rattle.mob_thin_run.specs.CommandLine.{ThinSays, thin_command};
 ghost use Rattle.mob_thin_run.specs.declared.settings.ThinSettings.{ThinSettings as SettingsSeen};
 
 use crate::settings::ThinSettings;
+use mob_arguments::{distance_in, epoch_of, given};
 use mob_frac::Frac;
-use mob_words::{distance_in, epoch_of, given};
 use std::alloc::{AllocError, Global};
 
 /// The values of the options, borrowed from the arguments.

@@ -10,20 +10,20 @@ use crate::command::settings;
 use crate::rows::{RowFault, thin_text};
 use mob_list::fault::Fault;
 use mob_outside::{Sink, Source};
-use mob_trips::{Ending, put_text, read_trips};
+use mob_trips::{TripsEnding, put_text, read_trips};
 use mob_tuples::Tuple;
 use std::alloc::Global;
 
 // The ending for a fault of a row.
-fn ending_of(fault: RowFault) -> Ending
+fn ending_of(fault: RowFault) -> TripsEnding
     ensures ending { EndsWith fault result }
 {
     match fault {
-        Fault::Because((row, formula)) => Ending::Overflow {
+        Fault::Because((row, formula)) => TripsEnding::Overflow {
             rows: Tuple::new().with(row),
             formula,
         },
-        Fault::NoMemory => Ending::NoMemory,
+        Fault::NoMemory => TripsEnding::NoMemory,
     }
 }
 
@@ -34,13 +34,13 @@ pub fn decide<S: Source, K: Sink>(
     words: &[String],
     table: &mut S,
     out: &mut K,
-) -> Ending
+) -> TripsEnding
     ensures ends { IsTripsEnding thin_program result (trips_seen (map string_bytes words.now) (stream_seen S.left S.faults table.old table.new) (stream_seen K.held K.faults out.old out.new)) }
 {
     let settings = match settings(alloc, words) {
         Ok(Some(settings)) => settings,
-        Ok(None) => return Ending::Usage,
-        Err(_) => return Ending::NoMemory,
+        Ok(None) => return TripsEnding::Usage,
+        Err(_) => return TripsEnding::NoMemory,
     };
     let rows = match read_trips(alloc, table, &settings.epoch) {
         Ok(rows) => rows,

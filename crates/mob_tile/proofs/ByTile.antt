@@ -1,58 +1,43 @@
 -- The groups of sorted pieces are the pieces tile by tile, and their values are the split.
-use Rattle.std.specs.Prelude.{Option, Some, None}
+use Rattle.std.{specs.Prelude.{Option, Some, None}, specs.List.{filter, AllByRecursion}, specs.List.Sorted.{IsStableBy, ties}, specs.Ordering.{is_lt, ordering_reverse}}
+use Rattle.std.specs.declared.cmp.Ordering.TheVariants.{Less}
 use Rattle.std.proofs.Common.{◌≡◌, ◌≢◌, inl, inr, Bool, true, false, true≢false, List, [], ◌∷◌, ◌++◌, refl, sym, ap, subst, ◌∙◌, cond, append_assoc, append-nil}
 use Rattle.std.proofs.lemmas.Bool.{false_from_ne_true}
-use Rattle.std.specs.List.{filter, AllByRecursion}
-use Rattle.std.specs.List.Sorted.{IsStableBy, ties}
-use Rattle.std.specs.Ordering.{is_lt, ordering_reverse}
-use Rattle.std.specs.declared.cmp.Ordering.TheVariants.{Less}
 use Rattle.mob_list.proofs.Each.{one_of}
-use Rattle.mob_ratio.specs.Ratio.{Ratio}
-use Rattle.mob_ratio.specs.Sign.{nil}
-use Rattle.mob_span.specs.Span.{SpanOf, has}
-use Rattle.mob_span.specs.Chained.{Chained, OfHead}
-use Rattle.mob_span.proofs.Shared.{AreAllClear, all_after}
-use Rattle.mob_span.proofs.Insides.{clear_has}
+use Rattle.mob_ratio.{specs.Ratio.{Ratio}, specs.Sign.{nil}}
+use Rattle.mob_span.{specs.Span.{SpanOf, has}, specs.Chained.{Chained, OfHead}, proofs.Shared.{AreAllClear, all_after}, proofs.Insides.{clear_has}}
 use Rattle.mob_plane.specs.declared.point.Point.{Point}
-use Rattle.mob_slice.specs.Slices.{value_at, IsOrdered, IsClearOf}
-use Rattle.mob_slice.specs.Cut.{slice_value}
-use Rattle.mob_slice.specs.Lines.{plane_value_of}
-use Rattle.mob_slice.specs.declared.slice.Slice.{Slice}
-use Rattle.mob_slice.specs.declared.line.PlaneLine.{PlaneLine}
-use Rattle.mob_slice.proofs.Orders.{ordered-clear}
+use Rattle.mob_slice.{specs.Slices.{value_at, IsRisingInTime, IsClearOf}, specs.Cut.{slice_value}, specs.Lines.{plane_value_of}, specs.declared.slice.Slice.{Slice}}
+use Rattle.mob_slice.{specs.declared.line.PlaneLine.{PlaneLine}, proofs.Orders.{ordered-clear}}
 use Rattle.mob_cells.specs.Restricted.{where_wanted, kept_value}
-use Rattle.mob_grid.specs.Tiles.{GridOf, IsGrid, InTile, in_tile, tile_of, compare_tiles}
-use Rattle.mob_grid.specs.declared.tile.Tile.{Tile}
-use Rattle.mob_grid.proofs.Ranges.{tile_has, tile_is, in_tile_exact}
+use Rattle.mob_grid.{specs.Tiles.{GridOf, IsGrid, InTile, in_tile, tile_of, compare_tiles}, specs.declared.tile.Tile.{Tile}, proofs.Ranges.{tile_has, tile_is, in_tile_exact}}
 use Rattle.mob_grid.proofs.TileOrder.{tile_itself, tiles_total}
-use Rattle.mob_tile.specs.declared.pieces.Piece.{Piece}
-use Rattle.mob_tile.specs.Pieces.{slices_of, IsInItsTile, ArePieces}
+use Rattle.mob_tile.{specs.declared.pieces.TilePiece.{TilePiece}, specs.Pieces.{piece_slices, IsInItsTile, AreTilePieces}}
 use Rattle.mob_tile.specs.Groups.{piece_before, same_tile, IsByTile, group_with, tile_groups, IsTileGroup, IsPartOfGroup, IsPartPushed, AreParts, IsGrouping}
-use Rattle.mob_tile.specs.Split.{IsTilePart, IsSplit, HasTile}
+use Rattle.mob_tile.{specs.Split.{IsTilePart, IsSplit, HasTile}, proofs.TileOrder.{same_is, same_self, less_differs, less_differs_back, then_less, less_trans, ties_same, rises_sorted}}
 use Rattle.mob_tile.proofs.TileOrder as order
-use Rattle.mob_tile.proofs.TileOrder.{same_is, same_self, less_differs, less_differs_back, then_less, less_trans, ties_same, rises_sorted}
 
-abbrev tile_in : Piece → Tile
+abbrev tile_in : TilePiece → Tile
 tile_in q = q.tile
 
 -- no piece has a tile before a, and the tiles of pieces are sorted
-abbrev Leads : Tile → List Piece → Type 0
+abbrev Leads : Tile → List TilePiece → Type 0
 Leads a qs = order.Leads tile_in a qs
 
-abbrev pub Rises : List Piece → Type 0
+abbrev pub Rises : List TilePiece → Type 0
 Rises qs = order.Rises tile_in qs
 
 abbrev Value : Type 0
 Value = List (Slice PlaneLine)
 
 -- the slices of one tile
-abbrev pub of_tile : Tile → List Piece → Value
-of_tile a qs = slices_of (filter (λ q. same_tile a q.tile) qs)
+abbrev pub of_tile : Tile → List TilePiece → Value
+of_tile a qs = piece_slices (filter (λ q. same_tile a q.tile) qs)
 
-passes : (a : Tile) (q : Piece) (qs : List Piece) → same_tile a q.tile ≡ true → of_tile a (q ∷ qs) ≡ q.slice ∷ of_tile a qs
+passes : (a : Tile) (q : TilePiece) (qs : List TilePiece) → same_tile a q.tile ≡ true → of_tile a (q ∷ qs) ≡ q.slice ∷ of_tile a qs
 passes a q qs h = rw h refl
 
-fails : (a : Tile) (q : Piece) (qs : List Piece) → same_tile a q.tile ≡ false → of_tile a (q ∷ qs) ≡ of_tile a qs
+fails : (a : Tile) (q : TilePiece) (qs : List TilePiece) → same_tile a q.tile ≡ false → of_tile a (q ∷ qs) ≡ of_tile a qs
 fails a q qs h = rw h refl
 
 -- ---- the groups of a list are its slices by tile
@@ -62,7 +47,7 @@ AreOf src gs = AllByRecursion (λ (g : Tile × Value). (g.1 ≡ src g.0) × (g.1
 abbrev Rise : List (Tile × Value) → Type 0
 Rise gs = Chained (λ (p : Tile × Value). Unit {0}) (λ p q. compare_tiles p.0 q.0 ≡ Less) gs
 
-none_later : (a b : Tile) (qs : List Piece) → compare_tiles a b ≡ Less → Leads b qs → of_tile a qs ≡ []
+none_later : (a b : Tile) (qs : List TilePiece) → compare_tiles a b ≡ Less → Leads b qs → of_tile a qs ≡ []
 none_later a b [] h l = refl
 none_later a b (q ∷ qs) h l = fails a q qs (less_differs a q.tile (less_trans a b q.tile h l.0)) ∙ none_later a b qs h l.1
 
@@ -71,7 +56,7 @@ not_empty [] x h = absurd cc
 not_empty (y ∷ xs) x h = absurd cc
 
 -- the first group has the tile that is taken
-group_head : (P : Tile → Type 0) (a : Tile) (taken : Value) (qs : List Piece) → P a → OfHead (λ (p q : Tile × Value). P q.0) (a, taken) (group_with a taken qs)
+group_head : (P : Tile → Type 0) (a : Tile) (taken : Value) (qs : List TilePiece) → P a → OfHead (λ (p q : Tile × Value). P q.0) (a, taken) (group_with a taken qs)
 group_head P a taken [] p = p
 group_head P a taken (q ∷ qs) p = by (same_tile a q.tile) (group_head P a (taken ++ q.slice ∷ []) qs p)
   where
@@ -84,7 +69,7 @@ group_head P a taken (q ∷ qs) p = by (same_tile a q.tile) (group_head P a (tak
     by false r = p
 
 module _ (src : Tile → Value) where
-  made_of : (a : Tile) (taken : Value) (qs : List Piece) → taken ≢ [] → Leads a qs → Rises qs → src a ≡ taken ++ of_tile a qs → ((b : Tile) → compare_tiles a b ≡ Less → src b ≡ of_tile b qs) → AreOf src (group_with a taken qs)
+  made_of : (a : Tile) (taken : Value) (qs : List TilePiece) → taken ≢ [] → Leads a qs → Rises qs → src a ≡ taken ++ of_tile a qs → ((b : Tile) → compare_tiles a b ≡ Less → src b ≡ of_tile b qs) → AreOf src (group_with a taken qs)
   made_of a taken [] some l up e f = ((sym (append-nil taken) ∙ sym e, some), tt)
   made_of a taken (q ∷ qs) some l up e f = by (same_tile a q.tile) refl (λ e' f'. made_of a (taken ++ q.slice ∷ []) qs (not_empty taken q.slice) l.1 up.1 e' f') (λ e' f'. made_of q.tile (q.slice ∷ []) qs (λ z. absurd cc) up.0 up.1 e' f')
     where
@@ -107,7 +92,7 @@ module _ (src : Tile → Value) where
                 (λ b k. f b (less_trans a q.tile b next (not_back q.tile b k)) ∙ fails b q qs (less_differs_back q.tile b k)),
           )
 
-rise_of : (a : Tile) (taken : Value) (qs : List Piece) → Leads a qs → Rises qs → Rise (group_with a taken qs)
+rise_of : (a : Tile) (taken : Value) (qs : List TilePiece) → Leads a qs → Rises qs → Rise (group_with a taken qs)
 rise_of a taken [] l up = (tt, tt, tt)
 rise_of a taken (q ∷ qs) l up = by (same_tile a q.tile) refl (rise_of a (taken ++ q.slice ∷ []) qs l.1 up.1) (rise_of q.tile (q.slice ∷ []) qs up.0 up.1)
   where
@@ -123,7 +108,7 @@ rise_of a taken (q ∷ qs) l up = by (same_tile a q.tile) refl (rise_of a (taken
 abbrev IsThere : Tile → List (Tile × Value) → Type 0
 IsThere b gs = HasTile b gs
 
-own_there : (a : Tile) (taken : Value) (qs : List Piece) → IsThere a (group_with a taken qs)
+own_there : (a : Tile) (taken : Value) (qs : List TilePiece) → IsThere a (group_with a taken qs)
 own_there a taken [] = inl refl
 own_there a taken (q ∷ qs) = by (same_tile a q.tile) (own_there a (taken ++ q.slice ∷ []) qs)
   where
@@ -131,7 +116,7 @@ own_there a taken (q ∷ qs) = by (same_tile a q.tile) (own_there a (taken ++ q.
     by true r = r
     by false r = inl refl
 
-group_there : (b a : Tile) (taken : Value) (qs : List Piece) → of_tile b qs ≢ [] → IsThere b (group_with a taken qs)
+group_there : (b a : Tile) (taken : Value) (qs : List TilePiece) → of_tile b qs ≢ [] → IsThere b (group_with a taken qs)
 group_there b a taken [] some = absurd (some refl)
 group_there b a taken (q ∷ qs) some = by (same_tile b q.tile) refl (same_tile a q.tile) refl (λ k. group_there b a (taken ++ q.slice ∷ []) qs k) (λ k. group_there b q.tile (q.slice ∷ []) qs k)
   where
@@ -142,12 +127,12 @@ group_there b a taken (q ∷ qs) some = by (same_tile b q.tile) refl (same_tile 
     by false h false k r o = inr (o (λ e. some (fails b q qs h ∙ e)))
 
 -- the properties of the groups of sorted pieces
-pub record AreGroups (qs : List Piece) (gs : List (Tile × Value)) : Type 0 where
+pub record AreGroups (qs : List TilePiece) (gs : List (Tile × Value)) : Type 0 where
   pub rise : Rise gs
   pub each : AllByRecursion (λ (g : Tile × Value). (g.1 ≡ of_tile g.0 qs) × (g.1 ≢ [])) gs
   pub there : (b : Tile) → of_tile b qs ≢ [] → HasTile b gs
 
-pub groups_are : (qs : List Piece) → Rises qs → AreGroups qs (tile_groups qs)
+pub groups_are : (qs : List TilePiece) → Rises qs → AreGroups qs (tile_groups qs)
 groups_are [] up = record { rise = tt; each = tt; there = λ b some. absurd (some refl) }
 groups_are (q ∷ qs) up = record {
   rise = rise_of q.tile (q.slice ∷ []) qs up.0 up.1;
@@ -160,17 +145,17 @@ groups_are (q ∷ qs) up = record {
     start b some false h = group_there b q.tile (q.slice ∷ []) qs (λ e. some (fails b q qs h ∙ e))
 
 -- ---- sorted or not, the slices of a tile are the same
-filter_same : (f g : Piece → Bool) → ((q : Piece) → f q ≡ g q) → (qs : List Piece) → filter f qs ≡ filter g qs
-filter_same f g e qs = ap (λ (h : Piece → Bool). filter h qs) (λ i q. e q i)
+filter_same : (f g : TilePiece → Bool) → ((q : TilePiece) → f q ≡ g q) → (qs : List TilePiece) → filter f qs ≡ filter g qs
+filter_same f g e qs = ap (λ (h : TilePiece → Bool). filter h qs) (λ i q. e q i)
 
-abbrev some_piece : Tile → Piece
+abbrev some_piece : Tile → TilePiece
 some_piece a = record { tile = a; slice = record { span = record { lower = nil; upper = nil; lower_inc = true; upper_inc = true }; course = record { from = record { x = nil; y = nil }; to = record { x = nil; y = nil } } } }
 
-pub stays : (a : Tile) (pieces ordered : List Piece) → IsStableBy piece_before pieces ordered → of_tile a ordered ≡ of_tile a pieces
+pub stays : (a : Tile) (pieces ordered : List TilePiece) → IsStableBy piece_before pieces ordered → of_tile a ordered ≡ of_tile a pieces
 stays a pieces ordered h =
     let q = some_piece a in
-    let tie : (r : Piece) → same_tile a r.tile ≡ ties piece_before q r = λ r. sym (ties_same tile_in q r) in
-    ap slices_of (filter_same (λ r. same_tile a r.tile) (ties piece_before q) tie ordered ∙ h q ∙ sym (filter_same (λ r. same_tile a r.tile) (ties piece_before q) tie pieces))
+    let tie : (r : TilePiece) → same_tile a r.tile ≡ ties piece_before q r = λ r. sym (ties_same tile_in q r) in
+    ap piece_slices (filter_same (λ r. same_tile a r.tile) (ties piece_before q) tie ordered ∙ h q ∙ sym (filter_same (λ r. same_tile a r.tile) (ties piece_before q) tie pieces))
 
 -- ---- in order of time
 abbrev start : PlaneLine → Point
@@ -179,11 +164,11 @@ start c = c.from
 abbrev end : PlaneLine → Point
 end c = c.to
 
-filter_clear : (s : SpanOf) (a : Tile) (qs : List Piece) → AreAllClear (λ (r : Slice PlaneLine). r.span) s (slices_of qs) → AreAllClear (λ (r : Slice PlaneLine). r.span) s (of_tile a qs)
+filter_clear : (s : SpanOf) (a : Tile) (qs : List TilePiece) → AreAllClear (λ (r : Slice PlaneLine). r.span) s (piece_slices qs) → AreAllClear (λ (r : Slice PlaneLine). r.span) s (of_tile a qs)
 filter_clear s a [] h = tt
 filter_clear s a (q ∷ qs) h = by (same_tile a q.tile) (filter_clear s a qs h.1)
   where
-    by : (b : Bool) → AreAllClear (λ (r : Slice PlaneLine). r.span) s (of_tile a qs) → AreAllClear (λ (r : Slice PlaneLine). r.span) s (slices_of (cond b (q ∷ filter (λ r. same_tile a r.tile) qs) (filter (λ r. same_tile a r.tile) qs)))
+    by : (b : Bool) → AreAllClear (λ (r : Slice PlaneLine). r.span) s (of_tile a qs) → AreAllClear (λ (r : Slice PlaneLine). r.span) s (piece_slices (cond b (q ∷ filter (λ r. same_tile a r.tile) qs) (filter (λ r. same_tile a r.tile) qs)))
     by true r = (h.0, r)
     by false r = r
 
@@ -191,12 +176,12 @@ clear_head : (s : Slice PlaneLine) (v : Value) → AreAllClear (λ (r : Slice Pl
 clear_head s [] h = tt
 clear_head s (r ∷ v) h = h.0
 
-pub of_tile_ordered : (a : Tile) (qs : List Piece) → IsOrdered start end (slices_of qs) → IsOrdered start end (of_tile a qs)
+pub of_tile_ordered : (a : Tile) (qs : List TilePiece) → IsRisingInTime start end (piece_slices qs) → IsRisingInTime start end (of_tile a qs)
 of_tile_ordered a [] h = tt
 of_tile_ordered a (q ∷ qs) h = by (same_tile a q.tile) (of_tile_ordered a qs h.2)
   where
-    by : (b : Bool) → IsOrdered start end (of_tile a qs) → IsOrdered start end (slices_of (cond b (q ∷ filter (λ r. same_tile a r.tile) qs) (filter (λ r. same_tile a r.tile) qs)))
-    by true r = (h.0, clear_head q.slice (of_tile a qs) (filter_clear q.slice.span a qs (all_after (λ (r : Slice PlaneLine). r.span) q.slice (slices_of qs) (ordered-clear start end (q.slice ∷ slices_of qs) h))), r)
+    by : (b : Bool) → IsRisingInTime start end (of_tile a qs) → IsRisingInTime start end (piece_slices (cond b (q ∷ filter (λ r. same_tile a r.tile) qs) (filter (λ r. same_tile a r.tile) qs)))
+    by true r = (h.0, clear_head q.slice (of_tile a qs) (filter_clear q.slice.span a qs (all_after (λ (r : Slice PlaneLine). r.span) q.slice (piece_slices qs) (ordered-clear start end (q.slice ∷ piece_slices qs) h))), r)
     by false r = r
 
 -- ---- the value in a tile
@@ -204,14 +189,14 @@ none_past : (s : SpanOf) (v : Value) (t : Ratio) → AreAllClear (λ (r : Slice 
 none_past s [] t h k = refl
 none_past s (r ∷ v) t h k = rw (clear_has s r.span t h.0 k) (none_past s v t h.1 k)
 
-abbrev at_piece : Piece → Ratio → Point
+abbrev at_piece : TilePiece → Ratio → Point
 at_piece q t = slice_value plane_value_of q.slice t
 
 module _ (g : GridOf) (ok : IsGrid g) (a : Tile) where
   abbrev Wanted : Value → Ratio → Option Point
   Wanted v t = where_wanted true (in_tile g a t) (value_at plane_value_of v t)
 
-  in_same : (q : Piece) (t : Ratio) → IsInItsTile g q → has q.slice.span t ≡ true → same_tile a q.tile ≡ in_tile g a t (slice_value plane_value_of q.slice t)
+  in_same : (q : TilePiece) (t : Ratio) → IsInItsTile g q → has q.slice.span t ≡ true → same_tile a q.tile ≡ in_tile g a t (slice_value plane_value_of q.slice t)
   in_same q t own h = by (same_tile a q.tile) refl
     where
       by : (b : Bool) → same_tile a q.tile ≡ b → b ≡ in_tile g a t (at_piece q t)
@@ -220,15 +205,15 @@ module _ (g : GridOf) (ok : IsGrid g) (a : Tile) where
           let one : a ≡ q.tile = tile_is g a t (at_piece q t) ok ((in_tile_exact g a t (at_piece q t)).0 k) ∙ sym (tile_is g q.tile t (at_piece q t) ok (own t h)) in
           true≢false (sym (same_self q.tile) ∙ ap (λ z. same_tile z q.tile) (sym one) ∙ e)))
 
-  pub value_in : (qs : List Piece) (t : Ratio) → IsOrdered start end (slices_of qs) → AllByRecursion (IsInItsTile g) qs → value_at plane_value_of (of_tile a qs) t ≡ Wanted (slices_of qs) t
+  pub value_in : (qs : List TilePiece) (t : Ratio) → IsRisingInTime start end (piece_slices qs) → AllByRecursion (IsInItsTile g) qs → value_at plane_value_of (of_tile a qs) t ≡ Wanted (piece_slices qs) t
   value_in [] t o h = refl
   value_in (q ∷ qs) t o h = by (value_in qs t o.2 h.1) (has q.slice.span t) refl (same_tile a q.tile) refl
     where
-      by : value_at plane_value_of (of_tile a qs) t ≡ Wanted (slices_of qs) t → (b : Bool) → has q.slice.span t ≡ b → (c : Bool) → same_tile a q.tile ≡ c → value_at plane_value_of (slices_of (cond c (q ∷ filter (λ r. same_tile a r.tile) qs) (filter (λ r. same_tile a r.tile) qs))) t ≡ where_wanted true (in_tile g a t) (cond b (Some (at_piece q t)) (value_at plane_value_of (slices_of qs) t))
+      by : value_at plane_value_of (of_tile a qs) t ≡ Wanted (piece_slices qs) t → (b : Bool) → has q.slice.span t ≡ b → (c : Bool) → same_tile a q.tile ≡ c → value_at plane_value_of (piece_slices (cond c (q ∷ filter (λ r. same_tile a r.tile) qs) (filter (λ r. same_tile a r.tile) qs))) t ≡ where_wanted true (in_tile g a t) (cond b (Some (at_piece q t)) (value_at plane_value_of (piece_slices qs) t))
       by later true e true k = rw e (ap (λ z. kept_value true z (at_piece q t)) (sym k ∙ in_same q t h.0 e))
       by later true e false k =
-          let clear = all_after (λ (r : Slice PlaneLine). r.span) q.slice (slices_of qs) (ordered-clear start end (q.slice ∷ slices_of qs) o) in
-          later ∙ ap (λ z. where_wanted true (in_tile g a t) z) (none_past q.slice.span (slices_of qs) t clear e) ∙ ap (λ z. kept_value true z (at_piece q t)) (sym k ∙ in_same q t h.0 e)
+          let clear = all_after (λ (r : Slice PlaneLine). r.span) q.slice (piece_slices qs) (ordered-clear start end (q.slice ∷ piece_slices qs) o) in
+          later ∙ ap (λ z. where_wanted true (in_tile g a t) z) (none_past q.slice.span (piece_slices qs) t clear e) ∙ ap (λ z. kept_value true z (at_piece q t)) (sym k ∙ in_same q t h.0 e)
       by later false e true k = rw e later
       by later false e false k = later
 
@@ -237,14 +222,14 @@ where_all : (o : Option Point) → where_wanted true (λ p. true) o ≡ o
 where_all None = refl
 where_all (Some p) = refl
 
-pub groups_fit : (g : GridOf) (a : Value) (pieces ordered : List Piece) → ArePieces g a pieces → IsByTile pieces ordered → AllByRecursion IsTileGroup (tile_groups ordered)
+pub groups_fit : (g : GridOf) (a : Value) (pieces ordered : List TilePiece) → AreTilePieces g a pieces → IsByTile pieces ordered → AllByRecursion IsTileGroup (tile_groups ordered)
 groups_fit g a pieces ordered h s = each (tile_groups ordered) (groups_are ordered (rises_sorted tile_in ordered s.sorted)).each
   where
     each : (gs : List (Tile × Value)) → AllByRecursion (λ (z : Tile × Value). (z.1 ≡ of_tile z.0 ordered) × (z.1 ≢ [])) gs → AllByRecursion IsTileGroup gs
     each [] k = tt
-    each (z ∷ gs) k = (record { some = k.0.1; ordered = subst (IsOrdered start end) (sym (k.0.0 ∙ stays z.0 pieces ordered s.stable)) (of_tile_ordered z.0 pieces h.kept.ordered) }, each gs k.1)
+    each (z ∷ gs) k = (record { some = k.0.1; ordered = subst (IsRisingInTime start end) (sym (k.0.0 ∙ stays z.0 pieces ordered s.stable)) (of_tile_ordered z.0 pieces h.kept.ordered) }, each gs k.1)
 
-pub split_is : (g : GridOf) (a : Value) (pieces ordered : List Piece) (parts : List (Tile × Value)) → IsGrid g → ArePieces g a pieces → IsByTile pieces ordered → AreParts (tile_groups ordered) parts → IsSplit g a parts
+pub split_is : (g : GridOf) (a : Value) (pieces ordered : List TilePiece) (parts : List (Tile × Value)) → IsGrid g → AreTilePieces g a pieces → IsByTile pieces ordered → AreParts (tile_groups ordered) parts → IsSplit g a parts
 split_is g a pieces ordered parts ok h s m =
     let gs = groups_are ordered (rises_sorted tile_in ordered s.sorted) in
     record {
@@ -293,7 +278,7 @@ split_is g a pieces ordered parts ok h s m =
     found b (z ∷ gs) (w ∷ ps) y m = elim y [ inl e ↦ inl (m.0.tile ∙ e) | inr k ↦ inr (found b gs ps k m.1) ]
 
 -- ---- the loop over sorted pieces
-pub grouping_same : (all rest later : List Piece) (q : Piece) (a : Tile) (taken taken' : Value) (parts : List (Tile × Value)) → rest ≡ q ∷ later → same_tile a q.tile ≡ true → taken' ≡ taken ++ q.slice ∷ [] → IsGrouping all rest a taken parts → IsGrouping all later a taken' parts
+pub grouping_same : (all rest later : List TilePiece) (q : TilePiece) (a : Tile) (taken taken' : Value) (parts : List (Tile × Value)) → rest ≡ q ∷ later → same_tile a q.tile ≡ true → taken' ≡ taken ++ q.slice ∷ [] → IsGrouping all rest a taken parts → IsGrouping all later a taken' parts
 grouping_same all rest later q a taken taken' parts e h n m = record {
   done = m.done;
   made = ap (λ z. m.done ++ group_with a z later) n ∙ ap (λ b. m.done ++ cond b (group_with a (taken ++ q.slice ∷ []) later) ((a, taken) ∷ group_with q.tile (q.slice ∷ []) later)) (sym h) ∙ ap (λ z. m.done ++ group_with a taken z) (sym e) ∙ m.made;
@@ -306,7 +291,7 @@ snoc_parts (z ∷ gs) (w ∷ ps) x p m o = (m.0, snoc_parts gs ps x p m.1 o)
 snoc_parts [] (w ∷ ps) x p m o = absurd m
 snoc_parts (z ∷ gs) [] x p m o = absurd m
 
-pub grouping_next : (all rest later : List Piece) (q : Piece) (a : Tile) (taken : Value) (parts parts' : List (Tile × Value)) → rest ≡ q ∷ later → same_tile a q.tile ≡ false → IsPartPushed (a, taken) parts parts' → IsGrouping all rest a taken parts → IsGrouping all later q.tile (q.slice ∷ []) parts'
+pub grouping_next : (all rest later : List TilePiece) (q : TilePiece) (a : Tile) (taken : Value) (parts parts' : List (Tile × Value)) → rest ≡ q ∷ later → same_tile a q.tile ≡ false → IsPartPushed (a, taken) parts parts' → IsGrouping all rest a taken parts → IsGrouping all later q.tile (q.slice ∷ []) parts'
 grouping_next all rest later q a taken parts parts' e h n m = record {
   done = m.done ++ (a, taken) ∷ [];
   made = append_assoc m.done ((a, taken) ∷ []) (group_with q.tile (q.slice ∷ []) later) ∙ ap (λ b. m.done ++ cond b (group_with a (taken ++ q.slice ∷ []) later) ((a, taken) ∷ group_with q.tile (q.slice ∷ []) later)) (sym h) ∙ ap (λ z. m.done ++ group_with a taken z) (sym e) ∙ m.made;
@@ -314,14 +299,14 @@ grouping_next all rest later q a taken parts parts' e h n m = record {
 }
 
 -- what is taken before another tile, or at the end, is a group
-pub group_taken : (all rest later : List Piece) (q : Piece) (a : Tile) (taken : Value) (parts : List (Tile × Value)) → rest ≡ q ∷ later → same_tile a q.tile ≡ false → IsGrouping all rest a taken parts → AllByRecursion IsTileGroup (tile_groups all) → IsTileGroup (a, taken)
+pub group_taken : (all rest later : List TilePiece) (q : TilePiece) (a : Tile) (taken : Value) (parts : List (Tile × Value)) → rest ≡ q ∷ later → same_tile a q.tile ≡ false → IsGrouping all rest a taken parts → AllByRecursion IsTileGroup (tile_groups all) → IsTileGroup (a, taken)
 group_taken all rest later q a taken parts e h m k =
     let made : m.done ++ (a, taken) ∷ group_with q.tile (q.slice ∷ []) later ≡ tile_groups all = ap (λ b. m.done ++ cond b (group_with a (taken ++ q.slice ∷ []) later) ((a, taken) ∷ group_with q.tile (q.slice ∷ []) later)) (sym h) ∙ ap (λ z. m.done ++ group_with a taken z) (sym e) ∙ m.made in
     one_of IsTileGroup m.done (group_with q.tile (q.slice ∷ []) later) (a, taken) (subst (AllByRecursion IsTileGroup) (sym made) k)
 
-pub group_last : (all rest : List Piece) (a : Tile) (taken : Value) (parts : List (Tile × Value)) → rest ≡ [] → IsGrouping all rest a taken parts → AllByRecursion IsTileGroup (tile_groups all) → IsTileGroup (a, taken)
+pub group_last : (all rest : List TilePiece) (a : Tile) (taken : Value) (parts : List (Tile × Value)) → rest ≡ [] → IsGrouping all rest a taken parts → AllByRecursion IsTileGroup (tile_groups all) → IsTileGroup (a, taken)
 group_last all rest a taken parts e m k = one_of IsTileGroup m.done [] (a, taken) (subst (AllByRecursion IsTileGroup) (sym (ap (λ z. m.done ++ group_with a taken z) (sym e) ∙ m.made)) k)
 
-pub grouping_end : (all rest : List Piece) (a : Tile) (taken : Value) (parts parts' : List (Tile × Value)) → rest ≡ [] → IsPartPushed (a, taken) parts parts' → IsGrouping all rest a taken parts → AreParts (tile_groups all) parts'
+pub grouping_end : (all rest : List TilePiece) (a : Tile) (taken : Value) (parts parts' : List (Tile × Value)) → rest ≡ [] → IsPartPushed (a, taken) parts parts' → IsGrouping all rest a taken parts → AreParts (tile_groups all) parts'
 grouping_end all rest a taken parts parts' e n m =
     subst (λ z. AreParts z parts') (ap (λ z. m.done ++ group_with a taken z) (sym e) ∙ m.made) (subst (AreParts (m.done ++ (a, taken) ∷ [])) (sym n.is) (snoc_parts m.done parts (a, taken) n.part m.are n.of))

@@ -1,26 +1,15 @@
 -- The tiles of the corners of a slice and of its pieces are in the range.
-use Rattle.std.proofs.Common.{◌≡◌, Bool, true, false, arith, refl, sym, subst, ◌&&◌, ◌||◌, not}
-use Rattle.std.proofs.lemmas.Bool.{and_parts}
-use Rattle.mob_ratio.specs.Ratio.{Ratio, ◌≤ℚ◌}
-use Rattle.mob_ratio.specs.Order.{before, up_to, smaller, greater}
-use Rattle.mob_ratio.specs.Line.{line_at}
-use Rattle.mob_ratio.proofs.Order.{before-back, not-up_to-le, smaller_left, smaller_right, up_to-self, up_to-trans, greater_left, greater_right}
-use Rattle.mob_ratio.proofs.LineAt.{line_at-short}
+use Rattle.std.{proofs.Common.{◌≡◌, Bool, true, false, arith, refl, sym, subst, ◌&&◌, ◌||◌, not}, proofs.lemmas.Bool.{and_parts}}
+use Rattle.mob_ratio.{specs.Ratio.{Ratio, ◌≤ℚ◌}, specs.Order.{before, up_to, smaller, greater}, specs.Line.{line_at}}
+use Rattle.mob_ratio.{proofs.Order.{before-back, not-up_to-le, smaller_left, smaller_right, up_to-self, up_to-trans, greater_left, greater_right}, proofs.LineAt.{line_at-short}}
 use Rattle.mob_ratio.proofs.Between.{within}
-use Rattle.mob_span.specs.Span.{SpanOf, has_instant}
-use Rattle.mob_span.specs.Neighbours.{is_inside}
-use Rattle.mob_span.proofs.SpanLemmas.{some_upto}
+use Rattle.mob_span.{specs.Span.{SpanOf, has_instant}, specs.Neighbours.{is_inside}, proofs.SpanLemmas.{some_upto}}
 use Rattle.mob_plane.specs.declared.point.Point.{Point}
 use Rattle.mob_stbox.specs.Areas.{InArea, area_between}
-use Rattle.mob_slice.specs.Slices.{IsSound}
-use Rattle.mob_slice.specs.Cut.{slice_value}
-use Rattle.mob_slice.specs.Sides.{HasValues}
-use Rattle.mob_slice.specs.Lines.{plane_value_of}
-use Rattle.mob_slice.specs.declared.slice.Slice.{Slice}
+use Rattle.mob_slice.{specs.Slices.{IsSound}, specs.Cut.{slice_value}, specs.Sides.{HasValues}, specs.Lines.{plane_value_of}, specs.declared.slice.Slice.{Slice}}
 use Rattle.mob_slice.specs.declared.line.PlaneLine.{PlaneLine}
 use Rattle.mob_cells.proofs.Keeps.{upto_of}
-use Rattle.mob_grid.specs.Tiles.{GridOf, InRange, tile_of}
-use Rattle.mob_grid.specs.declared.tile.TileRange.{TileRange}
+use Rattle.mob_grid.{specs.Tiles.{GridOf, InRange, tile_of}, specs.declared.tile.TileRange.{TileRange}}
 use Rattle.mob_tile.specs.Pieces.{Reaches, least_of, greatest_of}
 
 -- between the lesser and the greater of two

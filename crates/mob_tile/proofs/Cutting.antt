@@ -1,39 +1,19 @@
 -- The cells of a slice that is cut at all its edges: each is in one tile.
-use Rattle.std.specs.Prelude.{map}
-use Rattle.std.proofs.Common.{◌≡◌, ◌⊎◌, inl, inr, ℕ, Bool, true, false, ℤ, pos, ◌+ℤ◌, ◌≤ℤ◌, ◌<ℤ◌, List, [], ◌∷◌, ◌++◌, arith, refl, sym, ap, subst, ◌∙◌, cond, ◌&&◌, ◌<◌, ◌+◌, suc, zero, append_assoc, ◌-ℤ◌}
-use Rattle.std.proofs.lemmas.Int.{ints}
-use Rattle.std.proofs.lemmas.Bool.{and_parts}
-use Rattle.std.proofs.lemmas.List.Elements.{Contains-append_left, Contains-append_right}
-use Rattle.std.specs.List.{AllByRecursion}
-use Rattle.std.specs.declared.cmp.Ordering.TheVariants.{Less, Equal, Greater}
-use Rattle.mob_ratio.specs.Ratio.{Ratio, ◌-ℚ◌, ◌<ℚ◌, ◌≤ℚ◌}
-use Rattle.mob_ratio.specs.Order.{before, smaller, greater}
-use Rattle.mob_ratio.specs.Sign.{nil, opposite, root_at}
-use Rattle.mob_ratio.proofs.Order.{before-lt, not-up_to-le, smaller_left, smaller_right, le-test, greater_left, greater_right}
-use Rattle.mob_ratio.proofs.Field.{le_of_lt, le_trans, lt_trans, cases_lt, le_lt, lt_le}
+use Rattle.std.{specs.Prelude.{map, Contains}, specs.List.{AllByRecursion}, specs.declared.cmp.Ordering.TheVariants.{Less, Equal, Greater}}
+use Rattle.std.proofs.Common.{◌≡◌, ◌⊎◌, inl, inr, ℕ, Bool, true, false, ℤ, pos, ◌+ℤ◌, ◌≤ℤ◌, ◌<ℤ◌, List, [], ◌∷◌, ◌++◌, arith, refl, sym, ap, subst, ◌∙◌, cond, ◌&&◌, ◌<◌, ◌+◌, suc, zero, append_assoc}
+use Rattle.std.{proofs.Common.{◌-ℤ◌}, proofs.lemmas.Int.{ints}, proofs.lemmas.Bool.{and_parts}, proofs.lemmas.List.Elements.{Contains-append_left, Contains-append_right}}
+use Rattle.mob_ratio.{specs.Ratio.{Ratio, ◌-ℚ◌, ◌<ℚ◌, ◌≤ℚ◌}, specs.Order.{before, smaller, greater}, specs.Sign.{nil, opposite, root_at}}
+use Rattle.mob_ratio.{proofs.Order.{before-lt, not-up_to-le, smaller_left, smaller_right, le-test, greater_left, greater_right}, proofs.Field.{le_of_lt, le_trans, lt_trans, cases_lt, le_lt, lt_le}}
 use Rattle.mob_ratio.proofs.Signs.{sign-diff, opposite_cases, sign_below, sign_above}
-use Rattle.std.specs.Prelude.{Contains}
-use Rattle.mob_list.proofs.Each.{each_both}
-use Rattle.mob_list.proofs.Entries.{all_by_each, each_of_all, first_in, map-Contains, flat-Contains}
-use Rattle.mob_span.specs.Span.{SpanOf}
-use Rattle.mob_span.proofs.SpanLemmas.{some_upto}
+use Rattle.mob_list.{proofs.Each.{each_both}, proofs.Entries.{all_by_each, each_of_all, first_in, map-Contains, flat-Contains}}
+use Rattle.mob_span.{specs.Span.{SpanOf}, proofs.SpanLemmas.{some_upto}}
 use Rattle.mob_plane.specs.declared.point.Point.{Point}
-use Rattle.mob_slice.specs.Slices.{IsSound}
-use Rattle.mob_slice.specs.declared.slice.Slice.{Slice}
-use Rattle.mob_slice.specs.declared.line.PlaneLine.{PlaneLine}
-use Rattle.mob_cells.specs.declared.linear.Ends.{Ends}
-use Rattle.mob_cells.specs.Roots.{IsLevel, root_of, roots, as_list}
-use Rattle.mob_cells.specs.Cells.{AreSplit, IsSomeEnd, NoneWithin, is_cell_of, start_cells, split_all}
-use Rattle.mob_cells.proofs.Splits.{start_are}
-use Rattle.mob_cells.proofs.Walking.{all_split, all_self, end_or_cut, only_cuts}
-use Rattle.mob_cells.proofs.Rising.{IsBetween, roots_between}
-use Rattle.mob_grid.specs.Bands.{band_of}
-use Rattle.mob_grid.specs.Tiles.{GridOf, IsGrid}
-use Rattle.mob_grid.proofs.BandNumbers.{band_has, bands_rise, edges_lt, next_le}
-use Rattle.mob_tile.specs.Edges.{count_up, natural, numbers_between, edge_of, edge_ends, edges_between, x_edges, y_edges, t_edges, differences, cuts_of}
-use Rattle.mob_tile.specs.Pieces.{HasOneTile, AreTileCells}
-use Rattle.mob_tile.proofs.Numbers.{number_there, natural_is}
-use Rattle.mob_tile.proofs.EdgeBands.{IsInOrder, in_order, one_band_on, one_time_on}
+use Rattle.mob_slice.{specs.Slices.{IsSound}, specs.declared.slice.Slice.{Slice}, specs.declared.line.PlaneLine.{PlaneLine}}
+use Rattle.mob_cells.{specs.declared.linear.Ends.{Ends}, specs.Roots.{IsLevel, root_of, roots, as_list}, specs.Cells.{AreSplit, IsSomeEnd, NoneWithin, is_cell_of, start_cells, split_all}}
+use Rattle.mob_cells.{proofs.Splits.{start_are}, proofs.Walking.{all_split, all_self, end_or_cut, only_cuts}, proofs.Rising.{IsBetween, roots_between}}
+use Rattle.mob_grid.{specs.Bands.{band_of}, specs.Tiles.{GridOf, IsGrid}, proofs.BandNumbers.{band_has, bands_rise, edges_lt, next_le}}
+use Rattle.mob_tile.specs.Edges.{count_up, natural, numbers_between, edge_of, tile_edge_ends, edges_between, x_edges, y_edges, t_edges, differences, tile_cuts_of}
+use Rattle.mob_tile.{specs.Pieces.{HasOneTile, AreTileCells}, proofs.Numbers.{number_there, natural_is}, proofs.EdgeBands.{IsInOrder, in_order, one_band_on, one_time_on}}
 
 -- ---- a crossed edge is among the edges of a slice
 sign_less : (x e : Ratio) → before (x -ℚ e) nil ≡ true → x <ℚ e
@@ -69,10 +49,10 @@ crossed_there c x y n p h =
 root_listed : (s : SpanOf) (f : Ends) → opposite f.at_lower f.at_upper ≡ true → Contains (as_list (root_of s f)) (root_at f.at_lower f.at_upper s.lower s.upper)
 root_listed s f h = rw h (first_in _ [])
 
-root_there : (c x y : Ratio) (s : SpanOf) (n : ℤ) → nil <ℚ c → opposite (x -ℚ edge_of c n) (y -ℚ edge_of c n) ≡ true → Contains (roots s (map (edge_ends c x y) (edges_between c x y))) (root_at (x -ℚ edge_of c n) (y -ℚ edge_of c n) s.lower s.upper)
+root_there : (c x y : Ratio) (s : SpanOf) (n : ℤ) → nil <ℚ c → opposite (x -ℚ edge_of c n) (y -ℚ edge_of c n) ≡ true → Contains (roots s (map (tile_edge_ends c x y) (edges_between c x y))) (root_at (x -ℚ edge_of c n) (y -ℚ edge_of c n) s.lower s.upper)
 root_there c x y s n p h =
-    flat-Contains (λ f. as_list (root_of s f)) (map (edge_ends c x y) (edges_between c x y)) (edge_ends c x y n) (root_at (x -ℚ edge_of c n) (y -ℚ edge_of c n) s.lower s.upper)
-    (map-Contains (edge_ends c x y) (edges_between c x y) n (crossed_there c x y n p h)) (root_listed s (edge_ends c x y n) h)
+    flat-Contains (λ f. as_list (root_of s f)) (map (tile_edge_ends c x y) (edges_between c x y)) (tile_edge_ends c x y n) (root_at (x -ℚ edge_of c n) (y -ℚ edge_of c n) s.lower s.upper)
+    (map-Contains (tile_edge_ends c x y) (edges_between c x y) n (crossed_there c x y n p h)) (root_listed s (tile_edge_ends c x y n) h)
 
 roots_both : (s : SpanOf) (fs gs : List Ends) → roots s (fs ++ gs) ≡ roots s fs ++ roots s gs
 roots_both s [] gs = refl
@@ -89,28 +69,28 @@ up_one n m h = omega (arith, ints)
 
 module _ (g : GridOf) (s : Slice PlaneLine) (ok : IsGrid g) where
   abbrev functions_x : List Ends
-  functions_x = map (edge_ends g.size s.course.from.x s.course.to.x) (x_edges g s)
+  functions_x = map (tile_edge_ends g.size s.course.from.x s.course.to.x) (x_edges g s)
 
   abbrev functions_y : List Ends
-  functions_y = map (edge_ends g.size s.course.from.y s.course.to.y) (y_edges g s)
+  functions_y = map (tile_edge_ends g.size s.course.from.y s.course.to.y) (y_edges g s)
 
-  x_there : (n : ℤ) → opposite (s.course.from.x -ℚ edge_of g.size n) (s.course.to.x -ℚ edge_of g.size n) ≡ true → Contains (cuts_of g s) (root_at (s.course.from.x -ℚ edge_of g.size n) (s.course.to.x -ℚ edge_of g.size n) s.span.lower s.span.upper)
+  x_there : (n : ℤ) → opposite (s.course.from.x -ℚ edge_of g.size n) (s.course.to.x -ℚ edge_of g.size n) ≡ true → Contains (tile_cuts_of g s) (root_at (s.course.from.x -ℚ edge_of g.size n) (s.course.to.x -ℚ edge_of g.size n) s.span.lower s.span.upper)
   x_there n h =
       let r = root_at (s.course.from.x -ℚ edge_of g.size n) (s.course.to.x -ℚ edge_of g.size n) s.span.lower s.span.upper in
       let own = root_there g.size s.course.from.x s.course.to.x s.span n ok.some_size h in
       Contains-append_left (roots s.span (differences g s)) (map (edge_of g.width) (t_edges g s)) r (subst (λ l. Contains l r) (sym (roots_both s.span functions_x functions_y)) (Contains-append_left (roots s.span functions_x) (roots s.span functions_y) r own))
 
-  y_there : (n : ℤ) → opposite (s.course.from.y -ℚ edge_of g.size n) (s.course.to.y -ℚ edge_of g.size n) ≡ true → Contains (cuts_of g s) (root_at (s.course.from.y -ℚ edge_of g.size n) (s.course.to.y -ℚ edge_of g.size n) s.span.lower s.span.upper)
+  y_there : (n : ℤ) → opposite (s.course.from.y -ℚ edge_of g.size n) (s.course.to.y -ℚ edge_of g.size n) ≡ true → Contains (tile_cuts_of g s) (root_at (s.course.from.y -ℚ edge_of g.size n) (s.course.to.y -ℚ edge_of g.size n) s.span.lower s.span.upper)
   y_there n h =
       let r = root_at (s.course.from.y -ℚ edge_of g.size n) (s.course.to.y -ℚ edge_of g.size n) s.span.lower s.span.upper in
       let own = root_there g.size s.course.from.y s.course.to.y s.span n ok.some_size h in
       Contains-append_left (roots s.span (differences g s)) (map (edge_of g.width) (t_edges g s)) r (subst (λ l. Contains l r) (sym (roots_both s.span functions_x functions_y)) (Contains-append_right (roots s.span functions_x) (roots s.span functions_y) r own))
 
-  t_there : (n : ℤ) → s.span.lower <ℚ edge_of g.width n → edge_of g.width n <ℚ s.span.upper → Contains (cuts_of g s) (edge_of g.width n)
+  t_there : (n : ℤ) → s.span.lower <ℚ edge_of g.width n → edge_of g.width n <ℚ s.span.upper → Contains (tile_cuts_of g s) (edge_of g.width n)
   t_there n h k = Contains-append_right (roots s.span (differences g s)) (map (edge_of g.width) (t_edges g s)) (edge_of g.width n) (map-Contains (edge_of g.width) (t_edges g s) n (between_there g.width s.span.lower s.span.upper n ok.some_width h k))
 
   -- a cell with no cut strictly inside lies in one tile
-  one_tile_on : (d : SpanOf) → IsSound (λ c. c.from) (λ c. c.to) s → is_cell_of s.span d ≡ true → ((r : Ratio) → Contains (cuts_of g s) r → NoneWithin r d) → HasOneTile g s d
+  one_tile_on : (d : SpanOf) → IsSound (λ c. c.from) (λ c. c.to) s → is_cell_of s.span d ≡ true → ((r : Ratio) → Contains (tile_cuts_of g s) r → NoneWithin r d) → HasOneTile g s d
   one_tile_on d sound i none t h = record {
     in_x = one_band_on g.size s.course.from.x s.course.to.x s.span d (λ z. ap (λ (p : Point). p.x) (sound.level z)) i ok.some_size (λ n k. none _ (x_there n k)) t h;
     in_y = one_band_on g.size s.course.from.y s.course.to.y s.span d (λ z. ap (λ (p : Point). p.y) (sound.level z)) i ok.some_size (λ n k. none _ (y_there n k)) t h;
@@ -131,11 +111,11 @@ module _ (g : GridOf) (s : Slice PlaneLine) (ok : IsGrid g) where
               (le_lt s.span.lower d.lower (edge_of g.width n) (not-up_to-le s.span.lower d.lower o.low) (before-lt d.lower (edge_of g.width n) w.0))
               (lt_le (edge_of g.width n) d.upper s.span.upper (before-lt (edge_of g.width n) d.upper w.1) (not-up_to-le d.upper s.span.upper o.high)))
 
-  each_cell : (cells : List SpanOf) → AllByRecursion (λ c. is_cell_of s.span c ≡ true) cells → ((r : Ratio) → Contains (cuts_of g s) r → AllByRecursion (NoneWithin r) cells) → IsSound (λ c. c.from) (λ c. c.to) s → AllByRecursion (HasOneTile g s) cells
+  each_cell : (cells : List SpanOf) → AllByRecursion (λ c. is_cell_of s.span c ≡ true) cells → ((r : Ratio) → Contains (tile_cuts_of g s) r → AllByRecursion (NoneWithin r) cells) → IsSound (λ c. c.from) (λ c. c.to) s → AllByRecursion (HasOneTile g s) cells
   each_cell [] a f sound = tt
   each_cell (d ∷ cells) a f sound = (one_tile_on d sound a.0 (λ r k. (f r k).0), each_cell cells a.1 (λ r k. (f r k).1) sound)
 
-  level_map : (c x y : Ratio) (ns : List ℤ) → (before s.span.lower s.span.upper ≡ false → x ≡ y) → AllByRecursion (IsLevel s.span) (map (edge_ends c x y) ns)
+  level_map : (c x y : Ratio) (ns : List ℤ) → (before s.span.lower s.span.upper ≡ false → x ≡ y) → AllByRecursion (IsLevel s.span) (map (tile_edge_ends c x y) ns)
   level_map c x y [] f = tt
   level_map c x y (n ∷ ns) f = ((λ h. ap (λ z. z -ℚ edge_of c n) (f h)), level_map c x y ns f)
 
@@ -163,21 +143,21 @@ module _ (g : GridOf) (s : Slice PlaneLine) (ok : IsGrid g) where
       fits : (l u : ℤ) → l ≤ℤ u → ((l +ℤ pos 1) +ℤ pos (natural (u -ℤ l))) ≤ℤ (u +ℤ pos 1)
       fits l u h = subst (λ z. ((l +ℤ pos 1) +ℤ z) ≤ℤ (u +ℤ pos 1)) (sym (natural_is (u -ℤ l) (omega (arith, ints)))) (omega (arith, ints))
 
-  pub cuts_between : IsSound (λ c. c.from) (λ c. c.to) s → AllByRecursion (IsBetween s.span) (cuts_of g s)
+  pub cuts_between : IsSound (λ c. c.from) (λ c. c.to) s → AllByRecursion (IsBetween s.span) (tile_cuts_of g s)
   cuts_between sound = each_both (IsBetween s.span) (roots s.span (differences g s)) (map (edge_of g.width) (t_edges g s)) (roots_between s.span (differences g s) (level_all sound))
       (times_between (bands_rise g.width s.span.lower s.span.upper ok.some_width (not-up_to-le s.span.lower s.span.upper (some_upto s.span sound.some))))
 
   -- the cells of a slice, cut at its cuts in any order
-  pub cells_good : (sorted : List Ratio) → IsSound (λ c. c.from) (λ c. c.to) s → ((r : Ratio) → Contains (cuts_of g s) r → Contains sorted r) → ((r : Ratio) → Contains sorted r → Contains (cuts_of g s) r) → AreTileCells g s (cuts_of g s) (split_all sorted (start_cells s.span))
+  pub cells_good : (sorted : List Ratio) → IsSound (λ c. c.from) (λ c. c.to) s → ((r : Ratio) → Contains (tile_cuts_of g s) r → Contains sorted r) → ((r : Ratio) → Contains sorted r → Contains (tile_cuts_of g s) r) → AreTileCells g s (tile_cuts_of g s) (split_all sorted (start_cells s.span))
   cells_good sorted sound f b =
       let cells = split_all sorted (start_cells s.span) in
       let split : AreSplit s.span cells = all_split s.span sorted (start_cells s.span) (start_are s.span sound.some) in
-      let out : (r : Ratio) → Contains (cuts_of g s) r → AllByRecursion (NoneWithin r) cells = λ r k. all_self r sorted (start_cells s.span) (f r k) in
+      let out : (r : Ratio) → Contains (tile_cuts_of g s) r → AllByRecursion (NoneWithin r) cells = λ r k. all_self r sorted (start_cells s.span) (f r k) in
       record {
         split = split;
         cut = record {
-          each = all_by_each (λ r. (r ≡ s.span.lower) ⊎ ((r ≡ s.span.upper) ⊎ IsSomeEnd r cells)) (cuts_of g s) (λ r k. let w = each_of_all (IsBetween s.span) (cuts_of g s) (cuts_between sound) r k in end_or_cut s.span r cells split (out r k) w.0 w.1);
-          only = only_cuts s.span (cuts_of g s) sorted b;
+          each = all_by_each (λ r. (r ≡ s.span.lower) ⊎ ((r ≡ s.span.upper) ⊎ IsSomeEnd r cells)) (tile_cuts_of g s) (λ r k. let w = each_of_all (IsBetween s.span) (tile_cuts_of g s) (cuts_between sound) r k in end_or_cut s.span r cells split (out r k) w.0 w.1);
+          only = only_cuts s.span (tile_cuts_of g s) sorted b;
         };
         tiles = each_cell cells split.are out sound;
       }

@@ -1,23 +1,13 @@
 -- A slice on a cell that no edge divides is in one band.
-use Rattle.std.proofs.Common.{◌≡◌, ◌⊎◌, inl, inr, Bool, true, false, ℤ, pos, ◌+ℤ◌, arith, refl, sym, ap, subst, ◌∙◌, ◌&&◌, ◌||◌, not, cond}
-use Rattle.std.proofs.lemmas.Bool.{and_parts}
 use Rattle.std.specs.declared.cmp.Ordering.TheVariants.{Less, Equal, Greater}
-use Rattle.mob_ratio.specs.Ratio.{Ratio, ◌-ℚ◌, ◌<ℚ◌}
-use Rattle.mob_ratio.specs.Order.{before, up_to, smaller}
-use Rattle.mob_ratio.specs.Line.{line_at}
-use Rattle.mob_ratio.specs.Sign.{nil, opposite, root_at, sign_of}
+use Rattle.std.{proofs.Common.{◌≡◌, ◌⊎◌, inl, inr, Bool, true, false, ℤ, pos, ◌+ℤ◌, arith, refl, sym, ap, subst, ◌∙◌, ◌&&◌, ◌||◌, not, cond}, proofs.lemmas.Bool.{and_parts}}
+use Rattle.mob_ratio.{specs.Ratio.{Ratio, ◌-ℚ◌, ◌<ℚ◌}, specs.Order.{before, up_to, smaller}, specs.Line.{line_at}, specs.Sign.{nil, opposite, root_at, sign_of}}
 use Rattle.mob_ratio.proofs.Order.{before-lt, lt-before, before-back, before-trans, before-neither, up_to-le, not-up_to-le, smaller_left, smaller_right, before-within}
-use Rattle.mob_ratio.proofs.Field.{le_of_lt, le_trans, lt_le}
-use Rattle.mob_ratio.proofs.LineAt.{line_at-level, line_at-part}
-use Rattle.mob_ratio.proofs.Signs.{line_at-diff, sign-diff, compared}
+use Rattle.mob_ratio.{proofs.Field.{le_of_lt, le_trans, lt_le}, proofs.LineAt.{line_at-level, line_at-part}, proofs.Signs.{line_at-diff, sign-diff, compared}}
 use Rattle.mob_ratio.proofs.Between.{within, IsWithin, start_below, end_below, HasBelow}
-use Rattle.mob_span.specs.Span.{SpanOf, has}
-use Rattle.mob_span.specs.Neighbours.{is_inside}
-use Rattle.mob_span.proofs.Insides.{inner_has}
-use Rattle.mob_cells.specs.Cells.{NoneWithin, is_cell, is_cell_of}
-use Rattle.mob_cells.proofs.Keeps.{kept, upto_of, open_has, point_has}
-use Rattle.mob_grid.specs.Bands.{InBand, band_of}
-use Rattle.mob_grid.proofs.BandNumbers.{band_has}
+use Rattle.mob_span.{specs.Span.{SpanOf, has}, specs.Neighbours.{is_inside}, proofs.Insides.{inner_has}}
+use Rattle.mob_cells.{specs.Cells.{NoneWithin, is_cell, is_cell_of}, proofs.Keeps.{kept, upto_of, open_has, point_has}}
+use Rattle.mob_grid.{specs.Bands.{InBand, band_of}, proofs.BandNumbers.{band_has}}
 use Rattle.mob_tile.specs.Edges.{edge_of}
 
 -- ---- the ends of a cell

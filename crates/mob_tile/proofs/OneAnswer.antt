@@ -1,20 +1,11 @@
 -- The split of a value has one answer, apart from out of memory.
-use Rattle.std.proofs.Common.{◌≡◌, ◌≢◌, inl, inr, List, refl, sym, ap, subst, ◌∙◌, Some, None, Result, Ok, Err}
-use Rattle.std.proofs.lemmas.Option.{same_Some, none-some}
-use Rattle.std.specs.List.{flat_map}
+use Rattle.std.{specs.List.{flat_map}, proofs.Common.{◌≡◌, ◌≢◌, inl, inr, List, refl, sym, ap, subst, ◌∙◌, Some, None, Result, Ok, Err}, proofs.lemmas.Option.{same_Some, none-some}}
 use Rattle.mob_ratio.specs.Ratio.{Ratio}
-use Rattle.mob_slice.specs.declared.slice.Slice.{Slice}
-use Rattle.mob_slice.specs.declared.line.PlaneLine.{PlaneLine}
-use Rattle.mob_slice.proofs.Firsts.{one_first}
-use Rattle.mob_tile.specs.Edges.{entries_of_slice}
-use Rattle.mob_tile.specs.Split.{OnRange, SplitAnswer}
-use Rattle.mob_grid.specs.Tiles.{GridOf, range_of, range_parts}
-use Rattle.mob_grid.specs.declared.tile.TileRange.{TileRange}
-use Rattle.mob_list.specs.declared.fault.Fault.{Fault}
-use Rattle.mob_tile.specs.declared.splitting.SplitCause.{SplitCause}
-use Rattle.mob_tile.specs.declared.splitting.SplitCause.TheVariants.{Passed, Limit}
-use Rattle.mob_tile.proofs.Limits.{one_area, one_time}
-use Rattle.mob_list.specs.declared.fault.Fault.TheVariants.{Because, NoMemory}
+use Rattle.mob_slice.{specs.declared.slice.Slice.{Slice}, specs.declared.line.PlaneLine.{PlaneLine}, proofs.Firsts.{one_first}}
+use Rattle.mob_tile.{specs.Edges.{entries_of_slice}, specs.Split.{OnRange, SplitAnswer}, specs.declared.splitting.SplitCause.{SplitCause}}
+use Rattle.mob_tile.{specs.declared.splitting.SplitCause.TheVariants.{Passed, Limit}, proofs.Limits.{one_area, one_time}}
+use Rattle.mob_grid.{specs.Tiles.{GridOf, range_of, range_parts}, specs.declared.tile.TileRange.{TileRange}}
+use Rattle.mob_list.{specs.declared.fault.Fault.{Fault}, specs.declared.fault.Fault.TheVariants.{Because, NoMemory}}
 
 -- two facts about the range of the box of a value are facts about one range
 pub both_hold : (g : GridOf) (a : List (Slice PlaneLine)) (P Q : List Ratio → TileRange → Type 0) → OnRange g a P → OnRange g a Q → (quotients : List Ratio) × (range : TileRange) × P quotients range × Q quotients range

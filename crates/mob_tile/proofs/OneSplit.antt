@@ -1,23 +1,14 @@
 -- A value has one split.
-use Rattle.std.proofs.Common.{◌≡◌, inl, inr, true, List, [], ◌∷◌, refl, sym, ap, subst, ◌∙◌, Some}
-use Rattle.std.specs.List.{AllByRecursion}
-use Rattle.std.specs.declared.cmp.Ordering.TheVariants.{Less}
+use Rattle.std.{specs.List.{AllByRecursion}, specs.declared.cmp.Ordering.TheVariants.{Less}, proofs.Common.{◌≡◌, inl, inr, true, List, [], ◌∷◌, refl, sym, ap, subst, ◌∙◌, Some}}
 use Rattle.mob_ratio.specs.Ratio.{Ratio}
 use Rattle.mob_span.specs.Chained.{Chained}
 use Rattle.mob_plane.specs.declared.point.Point.{Point}
-use Rattle.mob_slice.specs.Slices.{value_at}
-use Rattle.mob_slice.specs.Lines.{plane_value_of}
-use Rattle.mob_slice.specs.PlaneLaws.{plane_laws}
-use Rattle.mob_slice.specs.declared.slice.Slice.{Slice}
-use Rattle.mob_slice.specs.declared.line.PlaneLine.{PlaneLine}
+use Rattle.mob_slice.{specs.Slices.{value_at}, specs.Lines.{plane_value_of}, specs.PlaneLaws.{plane_laws}, specs.declared.slice.Slice.{Slice}, specs.declared.line.PlaneLine.{PlaneLine}}
 use Rattle.mob_slice.proofs.LookUps.{some_value}
-use Rattle.mob_normal.proofs.Unique.{unique}
+use Rattle.mob_lift.proofs.Unique.{unique}
 use Rattle.mob_cells.specs.Restricted.{where_wanted}
-use Rattle.mob_grid.specs.Tiles.{GridOf, IsGrid, in_tile, tile_of, compare_tiles}
-use Rattle.mob_grid.specs.declared.tile.Tile.{Tile}
-use Rattle.mob_grid.proofs.TileOrder.{never-less, tiles_total}
-use Rattle.mob_tile.specs.Split.{IsTilePart, IsSplit, HasTile}
-use Rattle.mob_tile.proofs.Parts.{only}
+use Rattle.mob_grid.{specs.Tiles.{GridOf, IsGrid, in_tile, tile_of, compare_tiles}, specs.declared.tile.Tile.{Tile}, proofs.TileOrder.{never-less, tiles_total}}
+use Rattle.mob_tile.{specs.Split.{IsTilePart, IsSplit, HasTile}, proofs.Parts.{only}}
 
 abbrev Rising : List (Tile × List (Slice PlaneLine)) → Type 0
 Rising ps = Chained (λ p. Unit {0}) (λ p q. compare_tiles p.0 q.0 ≡ Less) ps

@@ -1,16 +1,10 @@
 -- At each instant one part of a split is defined.
-use Rattle.std.proofs.Common.{◌≡◌, inl, inr, Bool, true, false, List, [], ◌∷◌, refl, sym, ap, subst, ◌∙◌, cond, Option, Some, None}
-use Rattle.std.specs.List.{AllByRecursion}
+use Rattle.std.{specs.List.{AllByRecursion}, proofs.Common.{◌≡◌, inl, inr, Bool, true, false, List, [], ◌∷◌, refl, sym, ap, subst, ◌∙◌, cond, Option, Some, None}}
 use Rattle.mob_ratio.specs.Ratio.{Ratio}
 use Rattle.mob_plane.specs.declared.point.Point.{Point}
-use Rattle.mob_slice.specs.Slices.{value_at}
-use Rattle.mob_slice.specs.Lines.{plane_value_of}
-use Rattle.mob_slice.specs.declared.slice.Slice.{Slice}
-use Rattle.mob_slice.specs.declared.line.PlaneLine.{PlaneLine}
+use Rattle.mob_slice.{specs.Slices.{value_at}, specs.Lines.{plane_value_of}, specs.declared.slice.Slice.{Slice}, specs.declared.line.PlaneLine.{PlaneLine}}
 use Rattle.mob_cells.specs.Restricted.{where_wanted, kept_value}
-use Rattle.mob_grid.specs.Tiles.{GridOf, IsGrid, InTile, in_tile, tile_of}
-use Rattle.mob_grid.specs.declared.tile.Tile.{Tile}
-use Rattle.mob_grid.proofs.Ranges.{tile_has, tile_is, in_tile_exact}
+use Rattle.mob_grid.{specs.Tiles.{GridOf, IsGrid, InTile, in_tile, tile_of}, specs.declared.tile.Tile.{Tile}, proofs.Ranges.{tile_has, tile_is, in_tile_exact}}
 use Rattle.mob_tile.specs.Split.{IsTilePart, IsSplit, HasTile, HasPartAt}
 
 module _ (g : GridOf) (a : List (Slice PlaneLine)) (t : Ratio) (p : Point) (ok : IsGrid g) where

@@ -1,18 +1,10 @@
 -- The edges of tiles that a slice crosses, and their formulas.
-use Rattle.std.specs.Prelude.{ℕ, zero, suc, ℤ, pos, negsuc, ◌+ℤ◌, ◌-ℤ◌, List, [], ◌∷◌, ◌++◌, map}
-use Rattle.std.specs.List.{flat_map}
-use Rattle.mob_ratio.specs.Ratio.{Ratio, whole, ◌-ℚ◌, ◌*ℚ◌}
-use Rattle.mob_ratio.specs.Order.{smaller, greater}
-use Rattle.mob_slice.specs.Cut.{slice_parts}
-use Rattle.mob_slice.specs.Entries.{Entry}
-use Rattle.mob_slice.specs.Lines.{plane_parts_of}
-use Rattle.mob_slice.specs.declared.slice.Slice.{Slice}
-use Rattle.mob_slice.specs.declared.line.PlaneLine.{PlaneLine}
+use Rattle.std.{specs.Prelude.{ℕ, zero, suc, ℤ, pos, negsuc, ◌+ℤ◌, ◌-ℤ◌, List, [], ◌∷◌, ◌++◌, map}, specs.List.{flat_map}}
+use Rattle.mob_ratio.{specs.Ratio.{Ratio, whole, ◌-ℚ◌, ◌*ℚ◌}, specs.Order.{smaller, greater}}
+use Rattle.mob_slice.{specs.Cut.{slice_parts}, specs.Entries.{Entry}, specs.Lines.{plane_parts_of}, specs.declared.slice.Slice.{Slice}, specs.declared.line.PlaneLine.{PlaneLine}}
 use Rattle.mob_slice.specs.declared.formula.Formula.TheVariants.{F1, F2, F3}
-use Rattle.mob_cells.specs.declared.linear.Ends.{Ends}
-use Rattle.mob_cells.specs.Roots.{roots, roots_parts}
-use Rattle.mob_grid.specs.Bands.{band_of}
-use Rattle.mob_grid.specs.Tiles.{GridOf}
+use Rattle.mob_cells.{specs.declared.linear.Ends.{Ends}, specs.Roots.{roots, roots_parts}}
+use Rattle.mob_grid.{specs.Bands.{band_of}, specs.Tiles.{GridOf}}
 
 -- k whole numbers from n on
 abbrev pub count_up : ℤ → ℕ → List ℤ
@@ -37,12 +29,12 @@ abbrev pub edges_between : Ratio → Ratio → Ratio → List ℤ
 edges_between c x y = numbers_between (band_of c (smaller x y)) (band_of c (greater x y))
 
 -- F2: an edge, and the differences to it at the two ends of a slice
-abbrev pub edge_parts : Ratio → Ratio → Ratio → ℤ → List Ratio
-edge_parts c x y n = edge_of c n ∷ (x -ℚ edge_of c n) ∷ (y -ℚ edge_of c n) ∷ []
+abbrev pub tile_edge_parts : Ratio → Ratio → Ratio → ℤ → List Ratio
+tile_edge_parts c x y n = edge_of c n ∷ (x -ℚ edge_of c n) ∷ (y -ℚ edge_of c n) ∷ []
 
 -- the difference to it as a linear function
-abbrev pub edge_ends : Ratio → Ratio → Ratio → ℤ → Ends
-edge_ends c x y n = record { at_lower = x -ℚ edge_of c n; at_upper = y -ℚ edge_of c n }
+abbrev pub tile_edge_ends : Ratio → Ratio → Ratio → ℤ → Ends
+tile_edge_ends c x y n = record { at_lower = x -ℚ edge_of c n; at_upper = y -ℚ edge_of c n }
 
 -- F2: an edge of time
 abbrev pub time_parts : Ratio → ℤ → List Ratio
@@ -60,21 +52,21 @@ module _ (g : GridOf) (s : Slice PlaneLine) where
 
   -- the differences to all edges, in x and then in y
   abbrev pub differences : List Ends
-  differences = map (edge_ends g.size s.course.from.x s.course.to.x) x_edges ++ map (edge_ends g.size s.course.from.y s.course.to.y) y_edges
+  differences = map (tile_edge_ends g.size s.course.from.x s.course.to.x) x_edges ++ map (tile_edge_ends g.size s.course.from.y s.course.to.y) y_edges
 
   -- the instants at which the slice is cut: the roots of these, and the edges of time
-  abbrev pub cuts_of : List Ratio
-  cuts_of = roots s.span differences ++ map (edge_of g.width) t_edges
+  abbrev pub tile_cuts_of : List Ratio
+  tile_cuts_of = roots s.span differences ++ map (edge_of g.width) t_edges
 
   -- F2: the edges in x and y with the differences to them, and those of time
-  abbrev pub edges_parts : List Ratio
-  edges_parts = flat_map (edge_parts g.size s.course.from.x s.course.to.x) x_edges ++ (flat_map (edge_parts g.size s.course.from.y s.course.to.y) y_edges ++ flat_map (time_parts g.width) t_edges)
+  abbrev pub tile_edges_parts : List Ratio
+  tile_edges_parts = flat_map (tile_edge_parts g.size s.course.from.x s.course.to.x) x_edges ++ (flat_map (tile_edge_parts g.size s.course.from.y s.course.to.y) y_edges ++ flat_map (time_parts g.width) t_edges)
 
   -- F1: the values of the slice at all cuts
   abbrev pub entry_of_values : Entry
-  entry_of_values = record { formula = F1; parts = flat_map (slice_parts plane_parts_of s) cuts_of }
+  entry_of_values = record { formula = F1; parts = flat_map (slice_parts plane_parts_of s) tile_cuts_of }
 
   -- The entries of one slice: the edges, then F3, the roots of the differences to them, then the
   -- values at the cuts.
   abbrev pub entries_of_slice : List Entry
-  entries_of_slice = record { formula = F2; parts = edges_parts } ∷ record { formula = F3; parts = roots_parts s.span differences } ∷ entry_of_values ∷ []
+  entries_of_slice = record { formula = F2; parts = tile_edges_parts } ∷ record { formula = F3; parts = roots_parts s.span differences } ∷ entry_of_values ∷ []

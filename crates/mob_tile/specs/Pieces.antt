@@ -1,23 +1,14 @@
 -- Pieces of a moving point, each in one tile.
-use Rattle.std.specs.Prelude.{◌≡◌, ◌⊎◌, true, List, [], ◌∷◌, ◌++◌, map, Some}
-use Rattle.std.specs.List.{AllByRecursion}
-use Rattle.mob_ratio.specs.Ratio.{Ratio, ◌≤ℚ◌}
-use Rattle.mob_ratio.specs.Order.{smaller, greater}
+use Rattle.std.{specs.Prelude.{◌≡◌, ◌⊎◌, true, List, [], ◌∷◌, ◌++◌, map, Some}, specs.List.{AllByRecursion}}
+use Rattle.mob_ratio.{specs.Ratio.{Ratio, ◌≤ℚ◌}, specs.Order.{smaller, greater}}
 use Rattle.mob_span.specs.Span.{SpanOf, has}
 use Rattle.mob_plane.specs.declared.point.Point.{Point}
 use Rattle.mob_stbox.specs.Areas.{InArea, area_between}
-use Rattle.mob_slice.specs.Cut.{slice_value}
-use Rattle.mob_slice.specs.Sides.{HasValues}
-use Rattle.mob_slice.specs.Lines.{plane_value_of}
-use Rattle.mob_slice.specs.declared.slice.Slice.{Slice}
-use Rattle.mob_slice.specs.declared.line.PlaneLine.{PlaneLine}
-use Rattle.mob_cells.specs.Cells.{AreSplit, IsCut, IsSomeEnd}
-use Rattle.mob_lifted.specs.OnPiece.{AreKeptOn}
-use Rattle.mob_cells.specs.Restricted.{AreRestricted}
-use Rattle.mob_grid.specs.Tiles.{GridOf, InTile, InRange, tile_of}
-use Rattle.mob_grid.specs.declared.tile.Tile.{Tile}
-use Rattle.mob_grid.specs.declared.tile.TileRange.{TileRange}
-use Rattle.mob_tile.specs.declared.pieces.Piece.{Piece}
+use Rattle.mob_slice.{specs.Cut.{slice_value}, specs.Sides.{HasValues}, specs.Lines.{plane_value_of}, specs.declared.slice.Slice.{Slice}, specs.declared.line.PlaneLine.{PlaneLine}}
+use Rattle.mob_slice.specs.OnPiece.{AreKeptOn}
+use Rattle.mob_cells.{specs.Cells.{AreSplit, IsCut, IsSomeEnd}, specs.Restricted.{AreRestricted}}
+use Rattle.mob_grid.{specs.Tiles.{GridOf, InTile, InRange, tile_of}, specs.declared.tile.Tile.{Tile}, specs.declared.tile.TileRange.{TileRange}}
+use Rattle.mob_tile.specs.declared.pieces.TilePiece.{TilePiece}
 
 -- the least corner of the bounding rectangle of two points, and the greatest
 abbrev pub least_of : Point → Point → Point
@@ -40,20 +31,20 @@ abbrev pub Reaches : GridOf → TileRange → Slice PlaneLine → Type 0
 Reaches g r s = (t : Ratio) (p : Point) → InArea (area_between s.course.from s.course.to) p → s.span.lower ≤ℚ t → t ≤ℚ s.span.upper → InRange r (tile_of g t p)
 
 -- the piece lies in its tile
-abbrev pub IsInItsTile : GridOf → Piece → Type 0
+abbrev pub IsInItsTile : GridOf → TilePiece → Type 0
 IsInItsTile g q = (t : Ratio) → has q.slice.span t ≡ true → InTile g q.tile t (slice_value plane_value_of q.slice t)
 
-abbrev pub slices_of : List Piece → List (Slice PlaneLine)
-slices_of pieces = map (λ q. q.slice) pieces
+abbrev pub piece_slices : List TilePiece → List (Slice PlaneLine)
+piece_slices pieces = map (λ q. q.slice) pieces
 
 -- the pieces of the slice s: they have its values on its span, and each lies in its tile
-pub record ArePiecesOf (g : GridOf) (s : Slice PlaneLine) (pieces : List Piece) : Type 0 where
-  pub kept : AreKeptOn plane_value_of (λ c. c.from) (λ c. c.to) (λ t. Some (slice_value plane_value_of s t)) s.span (slices_of pieces)
+pub record ArePiecesOf (g : GridOf) (s : Slice PlaneLine) (pieces : List TilePiece) : Type 0 where
+  pub kept : AreKeptOn plane_value_of (λ c. c.from) (λ c. c.to) (λ t. Some (slice_value plane_value_of s t)) s.span (piece_slices pieces)
   pub tiles : AllByRecursion (IsInItsTile g) pieces
 
 -- the pieces of the value a, in order of time: they have its values, and each lies in its tile
-pub record ArePieces (g : GridOf) (a : List (Slice PlaneLine)) (pieces : List Piece) : Type 0 where
-  pub kept : AreRestricted plane_value_of (λ c. c.from) (λ c. c.to) true (λ t p. true) a (slices_of pieces)
+pub record AreTilePieces (g : GridOf) (a : List (Slice PlaneLine)) (pieces : List TilePiece) : Type 0 where
+  pub kept : AreRestricted plane_value_of (λ c. c.from) (λ c. c.to) true (λ t p. true) a (piece_slices pieces)
   pub tiles : AllByRecursion (IsInItsTile g) pieces
 
 -- Each cut is an end of the span or of a cell, and each end of a cell is an end of the span or a
@@ -69,8 +60,8 @@ pub record AreTileCells (g : GridOf) (s : Slice PlaneLine) (cuts : List Ratio) (
   pub tiles : AllByRecursion (HasOneTile g s) cells
 
 -- a piece with the values of the slice s on the cell c, in its tile, is appended
-pub record IsPushed (g : GridOf) (s : Slice PlaneLine) (c : SpanOf) (old new : List Piece) : Type 0 where
-  pub piece : Piece
+pub record IsPushed (g : GridOf) (s : Slice PlaneLine) (c : SpanOf) (old new : List TilePiece) : Type 0 where
+  pub piece : TilePiece
   pub is : new ≡ old ++ piece ∷ []
   pub values : HasValues plane_value_of (λ c. c.from) (λ c. c.to) (slice_value plane_value_of s) c piece.slice
   pub tile : IsInItsTile g piece

@@ -1,29 +1,17 @@
 -- The split of a moving point by tiles.
-use Rattle.std.specs.Prelude.{◌≡◌, ◌⊎◌, true, List, [], ◌∷◌, Some, None, Result, Ok, Err}
-use Rattle.std.specs.List.{AllByRecursion, flat_map}
-use Rattle.std.specs.declared.cmp.Ordering.TheVariants.{Less}
+use Rattle.std.{specs.Prelude.{◌≡◌, ◌⊎◌, true, List, [], ◌∷◌, Some, None, Result, Ok, Err}, specs.List.{AllByRecursion, flat_map}, specs.declared.cmp.Ordering.TheVariants.{Less}}
 use Rattle.mob_ratio.specs.Ratio.{Ratio}
 use Rattle.mob_frac.specs.Formula.{AllFit}
-use Rattle.mob_span.specs.Chained.{Chained}
-use Rattle.mob_span.specs.Span.{SpanOf}
+use Rattle.mob_span.{specs.Chained.{Chained}, specs.Span.{SpanOf}}
 use Rattle.mob_plane.specs.declared.point.Point.{Point}
-use Rattle.mob_slice.specs.Slices.{value_at, IsNormal}
-use Rattle.mob_slice.specs.Lines.{plane_value_of, plane_continued}
-use Rattle.mob_slice.specs.Entries.{IsFirst}
-use Rattle.mob_slice.specs.declared.slice.Slice.{Slice}
-use Rattle.mob_slice.specs.declared.line.PlaneLine.{PlaneLine}
-use Rattle.mob_slice.specs.declared.formula.Formula.TheVariants.{F2}
+use Rattle.mob_slice.{specs.Slices.{value_at, IsNormal}, specs.Lines.{plane_value_of, plane_continued}, specs.Entries.{IsFirst}, specs.declared.slice.Slice.{Slice}}
+use Rattle.mob_slice.{specs.declared.line.PlaneLine.{PlaneLine}, specs.declared.formula.Formula.TheVariants.{F2}}
 use Rattle.mob_cells.specs.Restricted.{where_wanted}
 use Rattle.mob_stbox.specs.declared.area.Area.{Area}
 use Rattle.mob_value.specs.ValueBoxes.{IsBoxOf}
-use Rattle.mob_grid.specs.Tiles.{GridOf, in_tile, tile_of, compare_tiles, range_of, range_parts, HasMany}
-use Rattle.mob_grid.specs.declared.tile.Tile.{Tile}
-use Rattle.mob_grid.specs.declared.tile.TileRange.{TileRange}
-use Rattle.mob_list.specs.declared.fault.Fault.{Fault}
-use Rattle.mob_tile.specs.declared.splitting.SplitCause.{SplitCause}
-use Rattle.mob_tile.specs.declared.splitting.SplitCause.TheVariants.{Passed, Limit}
-use Rattle.mob_tile.specs.Edges.{entries_of_slice}
-use Rattle.mob_list.specs.declared.fault.Fault.TheVariants.{Because, NoMemory}
+use Rattle.mob_grid.{specs.Tiles.{GridOf, in_tile, tile_of, compare_tiles, range_of, range_parts, HasMany}, specs.declared.tile.Tile.{Tile}, specs.declared.tile.TileRange.{TileRange}}
+use Rattle.mob_list.{specs.declared.fault.Fault.{Fault}, specs.declared.fault.Fault.TheVariants.{Because, NoMemory}}
+use Rattle.mob_tile.{specs.declared.splitting.SplitCause.{SplitCause}, specs.declared.splitting.SplitCause.TheVariants.{Passed, Limit}, specs.Edges.{entries_of_slice}}
 
 -- The part of the value a in a tile: it is normal, and has the value of a at each instant at which
 -- a is in the tile, and none elsewhere.

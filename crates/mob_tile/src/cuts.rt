@@ -5,7 +5,7 @@ ghost use Rattle.std.specs.List.{flat_map, AllByRecursion};
 ghost use Rattle.mob_frac.specs.Formula.{IsFormula};
 ghost use Rattle.mob_slice.specs.declared.formula.Formula.TheVariants.{F2, F3};
 ghost use Rattle.mob_cells.specs.Roots.{IsLevel, roots, roots_parts, root_of, root_parts, as_list};
-ghost use Rattle.mob_tile.specs.Edges.{numbers_between, edge_of, edge_parts, edge_ends, time_parts};
+ghost use Rattle.mob_tile.specs.Edges.{numbers_between, edge_of, tile_edge_parts, tile_edge_ends, time_parts};
 
 use mob_cells::{Ends, root};
 use mob_frac::{Frac, Overflow};
@@ -17,7 +17,7 @@ use std::alloc::Global;
 
 // The difference to an edge, from `x` to `y`.
 fn difference(c: &Frac, x: &Frac, y: &Frac, n: i64) -> Result<Ends, Overflow>
-    ensures value { IsFormula (edge_parts c.now x.now y.now n) (edge_ends c.now x.now y.now n) result }
+    ensures value { IsFormula (tile_edge_parts c.now x.now y.now n) (tile_edge_ends c.now x.now y.now n) result }
 {
     let at = edge(c, n)?;
     let at_lower = x.sub(&at)?;
@@ -34,7 +34,7 @@ pub fn differences(
     low: i64,
     high: i64,
 ) -> Result<Vec<Ends>, Fault<Formula>>
-    ensures made { IsMadeBy F2 (flat_map (edge_parts c.now x.now y.now) (numbers_between low high)) (λ v. v.items ≡ map (edge_ends c.now x.now y.now) (numbers_between low high)) result }
+    ensures made { IsMadeBy F2 (flat_map (tile_edge_parts c.now x.now y.now) (numbers_between low high)) (λ v. v.items ≡ map (tile_edge_ends c.now x.now y.now) (numbers_between low high)) result }
 {
     let mut out = Vec::new(alloc);
     for m in low..high {

@@ -2,15 +2,15 @@
 ghost use Rattle.std.specs.Prelude.{◌≡◌, true, [], ◌∷◌, ◌++◌, map, OnOk, IfOk};
 ghost use Rattle.std.specs.List.{flat_map, AllByRecursion};
 ghost use Rattle.mob_span.specs.Neighbours.{is_inside};
-ghost use Rattle.mob_slice.specs.Slices.{IsSound, IsOrdered};
+ghost use Rattle.mob_slice.specs.Slices.{IsSound, IsRisingInTime};
 ghost use Rattle.mob_slice.specs.Cut.{slice_value, slice_parts};
 ghost use Rattle.mob_slice.specs.Sides.{at_ends, HasValues};
 ghost use Rattle.mob_slice.specs.Lines.{plane_value_of, plane_parts_of};
 ghost use Rattle.mob_slice.specs.Entries.{IsJudged, IsMadeBy, IsMadeByAll};
 ghost use Rattle.mob_slice.specs.declared.formula.Formula.TheVariants.{F1, F2, F3};
 ghost use Rattle.mob_cells.specs.Roots.{IsLevel, roots, roots_parts};
-ghost use Rattle.mob_tile.specs.Edges.{t_edges, differences, cuts_of, edge_of, edges_parts, entry_of_values, entries_of_slice};
-ghost use Rattle.mob_tile.specs.Pieces.{least_of, greatest_of, HasOneTile, Reaches, IsInItsTile, ArePiecesOf, ArePieces, AreTileCells, IsPushed};
+ghost use Rattle.mob_tile.specs.Edges.{t_edges, differences, tile_cuts_of, edge_of, tile_edges_parts, entry_of_values, entries_of_slice};
+ghost use Rattle.mob_tile.specs.Pieces.{least_of, greatest_of, HasOneTile, Reaches, IsInItsTile, ArePiecesOf, AreTilePieces, AreTileCells, IsPushed};
 
 use crate::cuts::{differences, roots_of, times};
 use crate::grid::Grid;
@@ -25,7 +25,7 @@ use std::alloc::{AllocError, Global};
 
 /// A piece of a moving point, with its tile.
 #[derive(Drop)]
-pub struct Piece {
+pub struct TilePiece {
     /// The tile in which all of it lies.
     pub tile: Tile,
     /// The piece.
@@ -67,7 +67,7 @@ fn edges_of(
 ) -> Result<Edges, Fault<Formula>>
     requires sound { IsSound (λ c. c.from) (λ c. c.to) slice.now }
     requires reaches { Reaches grid.now range.now slice.now }
-    ensures made { IsMadeBy F2 (edges_parts grid.now slice.now) (λ e. (e.functions.items ≡ differences grid.now slice.now) × (e.times.items ≡ map (edge_of grid.now.width) (t_edges grid.now slice.now))) result }
+    ensures made { IsMadeBy F2 (tile_edges_parts grid.now slice.now) (λ e. (e.functions.items ≡ differences grid.now slice.now) × (e.times.items ≡ map (edge_of grid.now.width) (t_edges grid.now slice.now))) result }
 {
     let from = &slice.course.from;
     let to = &slice.course.to;
@@ -114,8 +114,8 @@ fn cells_of(
     cuts: Vec<Frac>,
 ) -> Result<Vec<Span>, AllocError>
     requires sound { IsSound (λ c. c.from) (λ c. c.to) slice.now }
-    requires cuts { cuts.items ≡ cuts_of grid.now slice.now }
-    ensures cells { IfOk result (λ v. AreTileCells grid.now slice.now (cuts_of grid.now slice.now) v.items) }
+    requires cuts { cuts.items ≡ tile_cuts_of grid.now slice.now }
+    ensures cells { IfOk result (λ v. AreTileCells grid.now slice.now (tile_cuts_of grid.now slice.now) v.items) }
 {
     // The clauses of these two calls say that the sides of a tile are positive.
     let _size = grid.size();
@@ -135,7 +135,7 @@ fn piece_on(
     range: &TileRange,
     slice: &Slice<PlaneLine>,
     cell: &Span,
-) -> Result<Piece, Fault<Formula>>
+) -> Result<TilePiece, Fault<Formula>>
     requires holds { IsSound (λ c. c.from) (λ c. c.to) slice.now × (is_inside slice.now.span cell.now ≡ true) }
     requires reaches { Reaches grid.now range.now slice.now }
     requires one { HasOneTile grid.now slice.now cell.now }
@@ -150,13 +150,13 @@ fn piece_on(
         &least(&part.course.from, &part.course.to),
         cell.lower(),
     );
-    Ok(Piece { tile, slice: part })
+    Ok(TilePiece { tile, slice: part })
 }
 
 // Adds a piece.
 fn push_piece(
     alloc: Global,
-    out: &mut Vec<Piece>,
+    out: &mut Vec<TilePiece>,
     grid: &Grid,
     range: &TileRange,
     slice: &Slice<PlaneLine>,
@@ -179,10 +179,10 @@ fn pieces_at(
     range: &TileRange,
     slice: &Slice<PlaneLine>,
     cells: &[Span],
-) -> Result<Vec<Piece>, Fault<Formula>>
+) -> Result<Vec<TilePiece>, Fault<Formula>>
     requires sound { IsSound (λ c. c.from) (λ c. c.to) slice.now }
     requires reaches { Reaches grid.now range.now slice.now }
-    requires cells { AreTileCells grid.now slice.now (cuts_of grid.now slice.now) cells.now }
+    requires cells { AreTileCells grid.now slice.now (tile_cuts_of grid.now slice.now) cells.now }
     ensures pieces { IsMadeByAll (entry_of_values grid.now slice.now ∷ []) (λ v. ArePiecesOf grid.now slice.now v.items) result }
 {
     let mut out = Vec::new(alloc);
@@ -201,7 +201,7 @@ fn on_slice(
     grid: &Grid,
     range: &TileRange,
     slice: &Slice<PlaneLine>,
-) -> Result<Vec<Piece>, Fault<Formula>>
+) -> Result<Vec<TilePiece>, Fault<Formula>>
     requires sound { IsSound (λ c. c.from) (λ c. c.to) slice.now }
     requires reaches { Reaches grid.now range.now slice.now }
     ensures pieces { IsMadeByAll (entries_of_slice grid.now slice.now) (λ v. ArePiecesOf grid.now slice.now v.items) result }
@@ -222,10 +222,10 @@ pub fn pieces_of(
     grid: &Grid,
     range: &TileRange,
     slices: &[Slice<PlaneLine>],
-) -> Result<Vec<Piece>, Fault<Formula>>
-    requires ordered { IsOrdered (λ c. c.from) (λ c. c.to) slices.now }
+) -> Result<Vec<TilePiece>, Fault<Formula>>
+    requires ordered { IsRisingInTime (λ c. c.from) (λ c. c.to) slices.now }
     requires reach { AllByRecursion (Reaches grid.now range.now) slices.now }
-    ensures pieces { IfOk result (λ v. ArePieces grid.now slices.now v.items) }
+    ensures pieces { IfOk result (λ v. AreTilePieces grid.now slices.now v.items) }
     ensures first { IsJudged (flat_map (entries_of_slice grid.now) slices.now) result }
 {
     let mut out = Vec::new(alloc);

@@ -1,12 +1,8 @@
 -- A text has one side.
-use Rattle.std.specs.Prelude.{◌≡◌, ◌↔◌, Bool, true, false, List, ℕ, Option, Some, None, Ok}
-use Rattle.std.proofs.Common.{sym, ◌∙◌, subst, true≢false}
-use Rattle.mob_ratio.specs.Ratio.{Ratio, ◌<ℚ◌}
-use Rattle.mob_ratio.specs.Sign.{nil}
-use Rattle.mob_numeral.specs.Numbers.{numbers}
-use Rattle.mob_numeral.specs.Verdict.{Lit}
-use Rattle.mob_words.specs.Arguments.{IsRequired}
-use Rattle.mob_words.proofs.Readings.{one_ratio}
+use Rattle.std.{specs.Prelude.{◌≡◌, ◌↔◌, Bool, true, false, List, ℕ, Option, Some, None, Ok}, proofs.Common.{sym, ◌∙◌, subst, true≢false}}
+use Rattle.mob_ratio.{specs.Ratio.{Ratio, ◌<ℚ◌}, specs.Sign.{nil}}
+use Rattle.mob_numeral.{specs.Numbers.{numbers}, specs.Verdict.{Lit}}
+use Rattle.mob_arguments.{specs.Arguments.{IsRequired}, proofs.Readings.{one_ratio}}
 use Rattle.mob_tile_run.specs.CommandLine.{IsSide}
 
 -- a number that is not positive is not a side

@@ -1,23 +1,15 @@
 -- Settings that differ only in the number of workers ask for one answer.
-use Rattle.std.specs.Prelude.{map}
-use Rattle.std.proofs.Common.{◌≡◌, ◌≢◌, ℕ, List, [], ◌∷◌, refl, sym, ap, ap₂, subst, ◌∙◌, Option, Some, None}
-use Rattle.std.specs.List.{AllZip}
+use Rattle.std.{specs.Prelude.{map}, specs.List.{AllZip}, proofs.Common.{◌≡◌, ◌≢◌, ℕ, List, [], ◌∷◌, refl, sym, ap, ap₂, subst, ◌∙◌, Option, Some, None}}
 use Rattle.mob_ratio.specs.Ratio.{Ratio}
 use Rattle.mob_value.specs.declared.value.Value.{Value}
 use Rattle.mob_grid.specs.Tiles.{GridOf, IsGrid}
 use Rattle.mob_tile.proofs.OneSplit.{one_split}
-use Rattle.mob_list.specs.declared.fault.Fault.{Fault}
-use Rattle.mob_pairs.specs.declared.fault.PairCause.{PairCause}
-use Rattle.mob_pairs.specs.Faults.{IsPairsFault}
-use Rattle.mob_pairs.proofs.OneAnswer.{one_list}
+use Rattle.mob_list.{specs.declared.fault.Fault.{Fault}, specs.declared.fault.Fault.TheVariants.{NoMemory}}
+use Rattle.mob_pairs.{specs.declared.fault.PairCause.{PairCause}, specs.Faults.{IsPairsFault}, proofs.OneAnswer.{one_list}}
 use Rattle.mob_records.specs.AnswerText.{answer_text}
 use Rattle.mob_trips.specs.Rows.{Trip}
-use Rattle.mob_tile_run.specs.TileAnswers.{AreSameButWorkers, TileFailsBy, PairsText, TileFails, TileWrites, TileWritesBy}
-use Rattle.mob_tile_run.specs.TileParts.{IsFirstSplitFault, IsSplitOf, PartsText, records_from}
-use Rattle.mob_tile_run.specs.TileTexts.{pair_fields, pair_names, part_names}
-use Rattle.mob_tile_run.specs.declared.settings.TileSettings.{TileSettings}
-use Rattle.mob_tile_run.proofs.OneFault.{Parts, one_answer_fault, text_or_fault}
-use Rattle.mob_list.specs.declared.fault.Fault.TheVariants.{NoMemory}
+use Rattle.mob_tile_run.{specs.TileAnswers.{AreSameButWorkers, TileFailsBy, PairsText, TileFails, TileWrites, TileWritesBy}, specs.TileParts.{IsFirstSplitFault, IsSplitOf, PartsText, records_from}}
+use Rattle.mob_tile_run.{specs.TileTexts.{pair_fields, pair_names, part_names}, specs.declared.settings.TileSettings.{TileSettings}, proofs.OneFault.{Parts, one_answer_fault, text_or_fault}}
 
 module _ (g : GridOf) (ok : IsGrid g) where
   same_parts : (t : Option Trip) (ps qs : Parts) → IsSplitOf g t ps → IsSplitOf g t qs → ps ≡ qs

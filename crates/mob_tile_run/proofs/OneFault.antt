@@ -1,25 +1,16 @@
 -- Rows never have two of a text, a limit and a formula.
-use Rattle.std.specs.Prelude.{length, map}
-use Rattle.std.proofs.Common.{◌≡◌, ◌≢◌, ℕ, suc, ◌+◌, List, [], ◌∷◌, ◌++◌, arith, ap, ap₂, sym, subst, ◌∙◌, refl, Option, Some, None}
-use Rattle.std.specs.List.{AllZip}
+use Rattle.std.{specs.Prelude.{length, map}, specs.List.{AllZip}, proofs.Common.{◌≡◌, ◌≢◌, ℕ, suc, ◌+◌, List, [], ◌∷◌, ◌++◌, arith, ap, ap₂, sym, subst, ◌∙◌, refl, Option, Some, None}}
 use Rattle.mob_ratio.specs.Ratio.{Ratio}
 use Rattle.mob_slice.specs.declared.formula.Formula.{Formula}
 use Rattle.mob_value.specs.declared.value.Value.{Value}
 use Rattle.mob_tile.proofs.OneAnswer.{answer_apart, one_fault}
-use Rattle.mob_grid.specs.Tiles.{GridOf}
-use Rattle.mob_tile.specs.declared.splitting.SplitCause.TheVariants as split
-use Rattle.mob_grid.specs.declared.tile.Tile.{Tile}
-use Rattle.mob_list.specs.declared.fault.Fault.{Fault}
-use Rattle.mob_pairs.specs.declared.fault.PairCause.{PairCause}
-use Rattle.mob_pairs.specs.declared.fault.PairCause.TheVariants.{Passed, Limit}
-use Rattle.mob_pairs.proofs.OneFault.{one_pairs_fault, fit_or_pairs_fault}
-use Rattle.mob_trips.specs.Program.{IsExactWith}
-use Rattle.mob_trips.specs.Rows.{Trip, id_of, trips_in}
-use Rattle.mob_tile_run.specs.TileAnswers.{TileWritesBy, TileFailsBy}
-use Rattle.mob_tile_run.specs.TileParts.{IsSplitOf, IsSplitFault, IsSomeSplitFault, IsFirstSplitFault}
-use Rattle.mob_tile_run.specs.TileProgram.{tile_program}
+use Rattle.mob_grid.{specs.Tiles.{GridOf}, specs.declared.tile.Tile.{Tile}}
+use Rattle.mob_list.{specs.declared.fault.Fault.{Fault}, specs.declared.fault.Fault.TheVariants.{Because, NoMemory}}
+use Rattle.mob_pairs.{specs.declared.fault.PairCause.{PairCause}, specs.declared.fault.PairCause.TheVariants.{Passed, Limit}, proofs.OneFault.{one_pairs_fault, fit_or_pairs_fault}}
+use Rattle.mob_trips.{specs.Program.{IsExactWith}, specs.Rows.{Trip, id_of, trips_in}}
+use Rattle.mob_tile_run.{specs.TileAnswers.{TileWritesBy, TileFailsBy}, specs.TileParts.{IsSplitOf, IsSplitFault, IsSomeSplitFault, IsFirstSplitFault}, specs.TileProgram.{tile_program}}
 use Rattle.mob_tile_run.specs.declared.settings.TileSettings.{TileSettings}
-use Rattle.mob_list.specs.declared.fault.Fault.TheVariants.{Because, NoMemory}
+use Rattle.mob_tile.specs.declared.splitting.SplitCause.TheVariants as split
 
 abbrev pub Parts : Type 0
 Parts = List (Tile × Trip)

@@ -1,12 +1,9 @@
 -- The arguments of a command line give one record of settings.
-use Rattle.std.specs.Prelude.{◌≡◌, List, ℕ, Option, codes}
-use Rattle.std.proofs.Common.{refl}
+use Rattle.std.{specs.Prelude.{◌≡◌, List, ℕ, Option, codes}, proofs.Common.{refl}}
 use Rattle.mob_ratio.specs.Ratio.{Ratio}
-use Rattle.mob_words.specs.Arguments.{IsDistance, IsRequired, option_value}
-use Rattle.mob_words.proofs.Readings.{one_day, one_distance, one_optional, one_ratio, one_required, one_workers}
+use Rattle.mob_arguments.{specs.Arguments.{IsDistance, IsRequired, option_value}, proofs.Readings.{one_day, one_distance, one_optional, one_ratio, one_required, one_workers}}
 use Rattle.mob_grid.specs.Tiles.{GridOf}
-use Rattle.mob_tile_run.specs.CommandLine.{TileSays, IsNear, IsSide, IsSides, tile_command}
-use Rattle.mob_tile_run.specs.declared.settings.TileSettings.{TileSettings}
+use Rattle.mob_tile_run.{specs.CommandLine.{TileSays, IsNear, IsSide, IsSides, tile_command}, specs.declared.settings.TileSettings.{TileSettings}}
 
 one_side : (value : Option (List ℕ)) (a b : Ratio) → IsRequired IsSide value a → IsRequired IsSide value b → a ≡ b
 one_side = one_required IsSide (λ text a b h k. one_ratio text a b h.0 k.0)

@@ -1,19 +1,14 @@
 -- The splits of all rows, one after another.
-use Rattle.std.specs.Prelude.{length, map}
+use Rattle.std.{specs.Prelude.{length, map}, specs.List.{AllZip}}
 use Rattle.std.proofs.Common.{◌≡◌, ℕ, suc, ◌+◌, ℤ, List, [], ◌∷◌, ◌++◌, arith, refl, sym, ap, subst, ◌∙◌, append_assoc, append-nil, length-append, Option, Some, Err}
-use Rattle.std.specs.List.{AllZip}
 use Rattle.mob_value.specs.declared.value.Value.{Value}
-use Rattle.mob_tile.specs.Split.{OnRange, SplitAnswer}
-use Rattle.mob_grid.specs.Tiles.{GridOf}
-use Rattle.mob_list.specs.declared.fault.Fault.{Fault}
-use Rattle.mob_tile.specs.declared.splitting.SplitCause.{SplitCause}
-use Rattle.mob_tile.specs.declared.splitting.SplitCause.TheVariants as split
-use Rattle.mob_grid.specs.declared.tile.Tile.{Tile}
+use Rattle.mob_tile.{specs.Split.{OnRange, SplitAnswer}, specs.declared.splitting.SplitCause.{SplitCause}}
+use Rattle.mob_grid.{specs.Tiles.{GridOf}, specs.declared.tile.Tile.{Tile}}
+use Rattle.mob_list.{specs.declared.fault.Fault.{Fault}, specs.declared.fault.Fault.TheVariants.{Because, NoMemory}}
 use Rattle.mob_pairs.specs.declared.fault.PairCause.{PairCause}
 use Rattle.mob_trips.specs.Rows.{Trip}
-use Rattle.mob_tile_run.specs.TileTexts.{part_fields}
-use Rattle.mob_tile_run.specs.TileParts.{IsSplitOf, IsSplitFault, IsSomeSplitFault, IsFirstSplitFault, row_fault, records_from}
-use Rattle.mob_list.specs.declared.fault.Fault.TheVariants.{Because, NoMemory}
+use Rattle.mob_tile_run.{specs.TileTexts.{part_fields}, specs.TileParts.{IsSplitOf, IsSplitFault, IsSomeSplitFault, IsFirstSplitFault, row_fault, records_from}}
+use Rattle.mob_tile.specs.declared.splitting.SplitCause.TheVariants as split
 
 -- the rows so far are split, and their parts have their records
 pub record IsTiling (g : GridOf) (day : ℤ) (ids : List Value) (all rest : List (Option Trip)) (records : List (List (List ℕ))) (row : ℕ) : Type 0 where

@@ -1,13 +1,8 @@
 -- The settings of accepted arguments are usable.
-use Rattle.std.specs.Prelude.{◌≡◌, ◌≤◌, List, ℕ, Option, Some, None, IfSome, codes, true}
-use Rattle.std.proofs.Common.{arith, sym, subst}
-use Rattle.mob_ratio.specs.Ratio.{Ratio}
-use Rattle.mob_ratio.specs.Order.{up_to}
-use Rattle.mob_ratio.specs.Sign.{nil}
-use Rattle.mob_words.specs.Arguments.{IsWorkers, option_value}
-use Rattle.mob_tile_run.specs.CommandLine.{TileSays, IsNear, tile_command}
-use Rattle.mob_tile_run.specs.TileAnswers.{IsUsable}
-use Rattle.mob_tile_run.specs.declared.settings.TileSettings.{TileSettings}
+use Rattle.std.{specs.Prelude.{◌≡◌, ◌≤◌, List, ℕ, Option, Some, None, IfSome, codes, true}, proofs.Common.{arith, sym, subst}}
+use Rattle.mob_ratio.{specs.Ratio.{Ratio}, specs.Order.{up_to}, specs.Sign.{nil}}
+use Rattle.mob_arguments.specs.Arguments.{IsWorkers, option_value}
+use Rattle.mob_tile_run.{specs.CommandLine.{TileSays, IsNear, tile_command}, specs.TileAnswers.{IsUsable}, specs.declared.settings.TileSettings.{TileSettings}}
 
 near_usable : (value : Option (List ℕ)) (near : Option Ratio) → IsNear value near → IfSome near (λ d. up_to nil d ≡ true)
 near_usable None near h = subst (λ n. IfSome n (λ d. up_to nil d ≡ true)) (sym h) tt

@@ -1,12 +1,10 @@
 -- The command line of mobtile: five options that take one value each, no help and no version.
 use Rattle.std.specs.Prelude.{◌∷◌, [], List, Option, Ok, codes}
 use Rattle.clap.specs.Words.{App, Text}
-use Rattle.mob_ratio.specs.Ratio.{Ratio, ◌<ℚ◌}
-use Rattle.mob_ratio.specs.Sign.{nil}
-use Rattle.mob_numeral.specs.Numbers.{numbers}
-use Rattle.mob_numeral.specs.Verdict.{Lit}
+use Rattle.mob_ratio.{specs.Ratio.{Ratio, ◌<ℚ◌}, specs.Sign.{nil}}
+use Rattle.mob_numeral.{specs.Numbers.{numbers}, specs.Verdict.{Lit}}
 use Rattle.mob_grid.specs.Tiles.{GridOf}
-use Rattle.mob_words.specs.Arguments.{IsDistance, IsEpoch, IsOptional, IsRequired, IsWorkers, Takes, command_of, option_value}
+use Rattle.mob_arguments.specs.Arguments.{IsDistance, IsEpoch, IsOptional, IsRequired, IsWorkers, Takes, command_of, option_value}
 use Rattle.mob_tile_run.specs.declared.settings.TileSettings.{TileSettings}
 
 -- `mobtile --size S --width W [--near D] [--workers N] [--epoch DATE]`

@@ -1,19 +1,13 @@
 -- The answer of mobtile on the rows of a table of trips, and why it may have none.
 use Rattle.std.specs.Prelude.{◌≡◌, ◌≤◌, ℕ, ℤ, List, Option, Some, None, map, true, IfSome}
-use Rattle.mob_ratio.specs.Ratio.{Ratio}
-use Rattle.mob_ratio.specs.Order.{up_to}
-use Rattle.mob_ratio.specs.Sign.{nil}
+use Rattle.mob_ratio.{specs.Ratio.{Ratio}, specs.Order.{up_to}, specs.Sign.{nil}}
 use Rattle.mob_value.specs.declared.value.Value.{Value}
 use Rattle.mob_grid.specs.Tiles.{GridOf}
-use Rattle.mob_pairs.specs.Faults.{PairsFit, IsPairsFault}
-use Rattle.mob_pairs.specs.Pairs.{ArePairs}
+use Rattle.mob_pairs.{specs.Faults.{PairsFit, IsPairsFault}, specs.Pairs.{ArePairs}, specs.declared.fault.PairCause.{PairCause}}
 use Rattle.mob_list.specs.declared.fault.Fault.{Fault}
-use Rattle.mob_pairs.specs.declared.fault.PairCause.{PairCause}
 use Rattle.mob_records.specs.AnswerText.{answer_text}
 use Rattle.mob_trips.specs.Rows.{Trip}
-use Rattle.mob_tile_run.specs.TileTexts.{pair_fields, pair_names}
-use Rattle.mob_tile_run.specs.TileParts.{PartsText, IsFirstSplitFault}
-use Rattle.mob_tile_run.specs.declared.settings.TileSettings.{TileSettings}
+use Rattle.mob_tile_run.{specs.TileTexts.{pair_fields, pair_names}, specs.TileParts.{PartsText, IsFirstSplitFault}, specs.declared.settings.TileSettings.{TileSettings}}
 
 -- the distance is not negative, and there are 1 to 64 workers
 pub record IsUsable (settings : TileSettings) : Type 0 where

@@ -1,22 +1,16 @@
 -- The parts of the trips of a table, and the first row without a split.
-use Rattle.std.specs.Prelude.{◌≡◌, ◌∷◌, ◌++◌, ◌+◌, ℕ, ℤ, List, [], Option, Some, None, Err, map, length}
-use Rattle.std.specs.List.{AllZip, flat_map}
+use Rattle.std.{specs.Prelude.{◌≡◌, ◌∷◌, ◌++◌, ◌+◌, ℕ, ℤ, List, [], Option, Some, None, Err, map, length}, specs.List.{AllZip, flat_map}}
 use Rattle.mob_frac.specs.Formula.{AllFit}
 use Rattle.mob_slice.specs.Entries.{IsFirst}
 use Rattle.mob_value.specs.declared.value.Value.{Value}
-use Rattle.mob_tile.specs.Edges.{entries_of_slice}
-use Rattle.mob_tile.specs.Split.{IsSplit, OnRange, SplitAnswer}
-use Rattle.mob_grid.specs.Tiles.{GridOf, HasMany}
-use Rattle.mob_list.specs.declared.fault.Fault.{Fault}
-use Rattle.mob_tile.specs.declared.splitting.SplitCause.{SplitCause}
-use Rattle.mob_tile.specs.declared.splitting.SplitCause.TheVariants as split
-use Rattle.mob_grid.specs.declared.tile.Tile.{Tile}
-use Rattle.mob_pairs.specs.declared.fault.PairCause.{PairCause}
-use Rattle.mob_pairs.specs.declared.fault.PairCause.TheVariants.{Passed, Limit}
+use Rattle.mob_tile.{specs.Edges.{entries_of_slice}, specs.Split.{IsSplit, OnRange, SplitAnswer}, specs.declared.splitting.SplitCause.{SplitCause}}
+use Rattle.mob_grid.{specs.Tiles.{GridOf, HasMany}, specs.declared.tile.Tile.{Tile}}
+use Rattle.mob_list.{specs.declared.fault.Fault.{Fault}, specs.declared.fault.Fault.TheVariants.{Because, NoMemory}}
+use Rattle.mob_pairs.{specs.declared.fault.PairCause.{PairCause}, specs.declared.fault.PairCause.TheVariants.{Passed, Limit}}
 use Rattle.mob_records.specs.AnswerText.{answer_text}
 use Rattle.mob_trips.specs.Rows.{Trip}
 use Rattle.mob_tile_run.specs.TileTexts.{part_fields, part_names}
-use Rattle.mob_list.specs.declared.fault.Fault.TheVariants.{Because, NoMemory}
+use Rattle.mob_tile.specs.declared.splitting.SplitCause.TheVariants as split
 
 -- The split of a trip, if all parts of formulas fit and the range of its box has at most 10,000
 -- tiles; a row without a trip has none.

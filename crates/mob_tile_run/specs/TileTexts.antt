@@ -1,8 +1,6 @@
 -- The records of an answer.
-use Rattle.std.specs.Prelude.{◌∷◌, ◌++◌, ℕ, ℤ, List, [], codes}
-use Rattle.std.specs.Fmt.{signed_decimal}
-use Rattle.mob_value.specs.declared.value.Value.{Value}
-use Rattle.mob_value.specs.declared.value.Value.TheVariants.{MovingPoint}
+use Rattle.std.{specs.Prelude.{◌∷◌, ◌++◌, ℕ, ℤ, List, [], codes}, specs.Fmt.{signed_decimal}}
+use Rattle.mob_value.{specs.declared.value.Value.{Value}, specs.declared.value.Value.TheVariants.{MovingPoint}}
 use Rattle.mob_literal.specs.Fields.{field_text}
 use Rattle.mob_grid.specs.declared.tile.Tile.{Tile}
 use Rattle.mob_trips.specs.Rows.{Trip, id_at}

@@ -4,7 +4,7 @@ ghost use Rattle.mob_outside.specs.EndsSeen.{stream_seen};
 ghost use Rattle.mob_trips.specs.Endings.{IsTripsEnding};
 ghost use Rattle.mob_trips.specs.Seen.{trips_seen};
 ghost use Rattle.mob_tile_run.specs.TileAnswers.{IsUsable};
-ghost use Rattle.mob_tile_run.specs.TileProgram.{EndsAt, TileEnds, tile_program};
+ghost use Rattle.mob_tile_run.specs.TileProgram.{TileEndsAt, TileEnds, tile_program};
 
 use crate::answer::tile_text;
 use crate::reading::settings;
@@ -12,22 +12,22 @@ use crate::settings::TileSettings;
 use mob_list::fault::Fault;
 use mob_outside::{Gate, Sink, Source};
 use mob_pairs::{PairCause, PairFault};
-use mob_trips::{Ending, put_text, read_trips};
+use mob_trips::{TripsEnding, put_text, read_trips};
 use mob_tuples::Tuple;
 use std::alloc::Global;
 use std::marker::Sync;
 use std::thread::Threads;
 
 // The ending for a fault.
-fn ending_of(fault: PairFault) -> Ending
-    ensures ending { EndsAt fault result }
+fn ending_of(fault: PairFault) -> TripsEnding
+    ensures ending { TileEndsAt fault result }
 {
     match fault {
-        Fault::Because(PairCause::Passed { rows, formula }) => Ending::Overflow { rows, formula },
-        Fault::Because(PairCause::Limit { row }) => Ending::RowsRefused {
+        Fault::Because(PairCause::Passed { rows, formula }) => TripsEnding::Overflow { rows, formula },
+        Fault::Because(PairCause::Limit { row }) => TripsEnding::RowsRefused {
             rows: Tuple::new().with(row),
         },
-        Fault::NoMemory => Ending::NoMemory,
+        Fault::NoMemory => TripsEnding::NoMemory,
     }
 }
 
@@ -39,7 +39,7 @@ fn answer_table<R: Threads + Sync, S: Source, K: Sink, G: Gate>(
     table: &mut S,
     out: &mut K,
     gate: &G,
-) -> Ending
+) -> TripsEnding
     requires usable { IsUsable settings.now }
     ensures ends { TileEnds settings.now (stream_seen S.left S.faults table.old table.new) (stream_seen K.held K.faults out.old out.new) result }
 {
@@ -62,12 +62,12 @@ pub fn decide<R: Threads + Sync, S: Source, K: Sink, G: Gate>(
     table: &mut S,
     out: &mut K,
     gate: &G,
-) -> Ending
+) -> TripsEnding
     ensures ends { IsTripsEnding tile_program result (trips_seen (map string_bytes words.now) (stream_seen S.left S.faults table.old table.new) (stream_seen K.held K.faults out.old out.new)) }
 {
     match settings(alloc, words) {
         Ok(Some(settings)) => answer_table(rt, alloc, &settings, table, out, gate),
-        Ok(None) => Ending::Usage,
-        Err(_) => Ending::NoMemory,
+        Ok(None) => TripsEnding::Usage,
+        Err(_) => TripsEnding::NoMemory,
     }
 }

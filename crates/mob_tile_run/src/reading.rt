@@ -2,16 +2,16 @@
 ghost use Rattle.std.specs.Prelude.{Option, IfOk, IfSome, IsNone, map, option_map, string_bytes};
 ghost use Rattle.mob_ratio.specs.Ratio.{Ratio};
 ghost use Rattle.mob_grid.specs.Tiles.{GridOf};
-ghost use Rattle.mob_words.specs.Arguments.{IsRequired};
+ghost use Rattle.mob_arguments.specs.Arguments.{IsRequired};
 ghost use Rattle.mob_tile_run.specs.CommandLine.{IsNear, IsSide, IsSides, TileSays};
 ghost use Rattle.mob_tile_run.specs.declared.settings.TileSettings.{TileSettings as SettingsSeen};
 
 use crate::settings::TileSettings;
 use crate::values::values_in;
+use mob_arguments::{distance_in, epoch_of, workers_of};
 use mob_frac::Frac;
 use mob_numeral::read_number;
 use mob_tile::{Grid, is_positive};
-use mob_words::{distance_in, epoch_of, workers_of};
 use std::alloc::{AllocError, Global};
 
 // The number of a text, if it is positive.

@@ -10,7 +10,7 @@ ghost use Rattle.mob_tile_run.specs.TileProgram.{tile_program, tile_usage};
 use crate::decide::decide;
 use mob_catalog::laws::one_table;
 use mob_outside::{Gate, Sink, Source};
-use mob_trips::{Ending, tell};
+use mob_trips::{TripsEnding, tell};
 use std::alloc::Global;
 use std::marker::Sync;
 use std::thread::Threads;
@@ -19,7 +19,7 @@ const USAGE: &[u8] =
     b"usage: mobtile --size S --width W [--near D] [--workers N] [--epoch DATE] < trips.csv\n";
 
 /// Writes the line of an ending of mobtile.
-pub fn tell_tile<E: Sink>(notes: &mut E, ending: &Ending)
+pub fn tell_tile<E: Sink>(notes: &mut E, ending: &TripsEnding)
     ensures puts { Puts (trips_note tile_usage ending.now) (E.held notes.old) (E.held notes.new) (E.faults notes.old) (E.faults notes.new) }
 {
     tell(notes, USAGE, ending);

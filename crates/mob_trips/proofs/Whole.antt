@@ -1,21 +1,12 @@
 -- What was read is the table, and the cause of the ending.
-use Rattle.std.specs.Prelude.{◌≡◌, ◌≤◌, ℕ, List, Option, Some}
-use Rattle.std.proofs.Common.{arith, sym, subst, inl, inr}
-use Rattle.std.proofs.Math.Nat.{eq-or-lt_of_le}
-use Rattle.std.specs.Io.KnownBytes.{IsAtEnd, Keeps}
+use Rattle.std.{specs.Prelude.{◌≡◌, ◌≤◌, ℕ, List, Option, Some}, specs.Io.KnownBytes.{IsAtEnd, Keeps}, proofs.Common.{arith, sym, subst, inl, inr}, proofs.Math.Nat.{eq-or-lt_of_le}}
 use Rattle.mob_value.specs.declared.value.Value.{Value}
 use Rattle.mob_ast.specs.declared.refusal.Kind.{Kind}
-use Rattle.mob_catalog.specs.Faults.{file_fault}
-use Rattle.mob_catalog.specs.declared.fault.FileFault.{FileFault}
-use Rattle.mob_catalog.specs.TableFile.{file_limit}
-use Rattle.mob_outside.specs.Streams.{ReadsTo, ReadsPart}
-use Rattle.mob_outside.proofs.Known.{read_whole, read_within}
-use Rattle.mob_trips.specs.Endings.{IsTripsCause, IsTripsEnding, IsTableRefused, EndsOn}
-use Rattle.mob_trips.specs.Program.{ProgramOf, OnTable, OnRows}
-use Rattle.mob_trips.specs.Reading.{IsTripTableRefused, IsTripTable, ReadsTable, ReadsRefused, EndsUnread, PutsText}
-use Rattle.mob_trips.specs.Seen.{TripsSeen}
-use Rattle.mob_trips.specs.declared.ending.Ending.{Ending}
-use Rattle.mob_trips.specs.declared.ending.Ending.TheVariants.{Done, Usage, ReadFault, WriteFault, NoMemory, TableRefused, RowsRefused, Overflow}
+use Rattle.mob_catalog.{specs.Faults.{file_fault}, specs.declared.fault.FileFault.{FileFault}, specs.TableFile.{file_limit}}
+use Rattle.mob_outside.{specs.Streams.{ReadsTo, ReadsPart}, proofs.Known.{read_whole, read_within}}
+use Rattle.mob_trips.{specs.Endings.{IsTripsCause, IsTripsEnding, IsTableRefused, EndsOn}, specs.Program.{ProgramOf, OnTable, OnRows}}
+use Rattle.mob_trips.{specs.Reading.{IsTripTableRefused, IsTripTable, ReadsTable, ReadsRefused, EndsUnread, PutsText}, specs.Seen.{TripsSeen}, specs.declared.ending.TripsEnding.{TripsEnding}}
+use Rattle.mob_trips.specs.declared.ending.TripsEnding.TheVariants.{Done, Usage, ReadFault, WriteFault, NoMemory, TableRefused, RowsRefused, Overflow}
 
 module _ {Settings : Type 0} (p : ProgramOf Settings) (s : TripsSeen) (settings : Settings) (says : p.says s.words settings)
     (part : ReadsPart file_limit s.table.told_before s.table.told_now) (read_later : s.table.faults_before ≤ s.table.faults_now) (put_later : s.out.faults_before ≤ s.out.faults_now) where
@@ -45,11 +36,11 @@ module _ {Settings : Type 0} (p : ProgramOf Settings) (s : TripsSeen) (settings 
     refused = record { settings = settings; says = says; holds = λ whole is. refused_whole (file_fault kind rec field) r.bytes whole r.reads is r.refused };
   }
 
-  ending_by : (ending : Ending) → IsTripsCause p ending s → IsTripsEnding p ending s
+  ending_by : (ending : TripsEnding) → IsTripsCause p ending s → IsTripsEnding p ending s
   ending_by ending h = record { cause = h; usage = λ u. absurd (u settings says); read = part; read_later = read_later; put_later = put_later }
 
   -- no table was read
-  pub ends_unread : (ending : Ending) → EndsUnread (p.day settings) s.table.told_before s.table.told_now s.table.faults_before s.table.faults_now ending → Keeps s.out.told_before s.out.told_now → IsTripsEnding p ending s
+  pub ends_unread : (ending : TripsEnding) → EndsUnread (p.day settings) s.table.told_before s.table.told_now s.table.faults_before s.table.faults_now ending → Keeps s.out.told_before s.out.told_now → IsTripsEnding p ending s
   ends_unread ReadFault h k = ending_by ReadFault (h, k)
   ends_unread NoMemory h k = ending_by NoMemory k
   ends_unread (TableRefused kind rec field) h k = ending_by (TableRefused kind rec field) (table_refused kind rec field h, k)
@@ -64,7 +55,7 @@ module _ {Settings : Type 0} (p : ProgramOf Settings) (s : TripsSeen) (settings 
     ended = read.reads.whole read.table.short
 
     -- a table was read, and there is no text for it
-    pub ends_on : (ending : Ending) → EndsOn p settings rows ending → Keeps s.out.told_before s.out.told_now → IsTripsEnding p ending s
+    pub ends_on : (ending : TripsEnding) → EndsOn p settings rows ending → Keeps s.out.told_before s.out.told_now → IsTripsEnding p ending s
     ends_on NoMemory h k = ending_by NoMemory k
     ends_on (RowsRefused names) h k = ending_by (RowsRefused names) (record { ended = ended; fault = on_rows (λ settings rows. p.limits settings rows names) rows read h }, k)
     ends_on (Overflow names formula) h k = ending_by (Overflow names formula) (record { ended = ended; fault = on_rows (λ settings rows. p.stops settings rows names formula) rows read h }, k)
@@ -75,7 +66,7 @@ module _ {Settings : Type 0} (p : ProgramOf Settings) (s : TripsSeen) (settings 
     ends_on (TableRefused kind rec field) h k = absurd h
 
     -- there is one, and it was written
-    pub ends_put : (text : List ℕ) (ending : Ending) → p.writes settings rows text → PutsText text s.out.told_before s.out.told_now s.out.faults_before s.out.faults_now ending → IsTripsEnding p ending s
+    pub ends_put : (text : List ℕ) (ending : TripsEnding) → p.writes settings rows text → PutsText text s.out.told_before s.out.told_now s.out.faults_before s.out.faults_now ending → IsTripsEnding p ending s
     ends_put text Done w h = ending_by Done (record { ended = ended; text = text; is = on_rows (λ settings rows. p.writes settings rows text) rows read w; whole = h })
     ends_put text WriteFault w h = ending_by WriteFault (record { ended = ended; text = text; is = on_rows (λ settings rows. p.writes settings rows text) rows read w; part = h.0; rose = h.1 })
     ends_put text Usage w h = absurd h

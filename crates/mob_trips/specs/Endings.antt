@@ -1,18 +1,12 @@
 -- The cause of each ending.
-use Rattle.std.specs.Prelude.{◌≡◌, ◌⊎◌, ◌≤◌, ◌+◌, ℕ, List, length}
-use Rattle.std.specs.Io.KnownBytes.{Appends, Consumes, IsAtEnd, Keeps}
+use Rattle.std.{specs.Prelude.{◌≡◌, ◌⊎◌, ◌≤◌, ◌+◌, ℕ, List, length}, specs.Io.KnownBytes.{Appends, Consumes, IsAtEnd, Keeps}}
 use Rattle.mob_ast.specs.declared.refusal.Kind.{Kind}
 use Rattle.mob_slice.specs.declared.formula.Formula.{Formula}
 use Rattle.mob_value.specs.declared.value.Value.{Value}
-use Rattle.mob_catalog.specs.Faults.{file_fault}
-use Rattle.mob_catalog.specs.TableFile.{file_limit}
-use Rattle.mob_outside.specs.Faults.{Rose}
-use Rattle.mob_outside.specs.Streams.{PutsPart, ReadsPart}
-use Rattle.mob_trips.specs.Program.{ProgramOf, IsUntaken, OnTable, OnRows}
-use Rattle.mob_trips.specs.Reading.{IsTripTableRefused}
-use Rattle.mob_trips.specs.Seen.{TripsSeen}
-use Rattle.mob_trips.specs.declared.ending.Ending.{Ending}
-use Rattle.mob_trips.specs.declared.ending.Ending.TheVariants.{Done, Usage, ReadFault, WriteFault, NoMemory, TableRefused, RowsRefused, Overflow}
+use Rattle.mob_catalog.{specs.Faults.{file_fault}, specs.TableFile.{file_limit}}
+use Rattle.mob_outside.{specs.Faults.{Rose}, specs.Streams.{PutsPart, ReadsPart}}
+use Rattle.mob_trips.{specs.Program.{ProgramOf, IsUntaken, OnTable, OnRows}, specs.Reading.{IsTripTableRefused}, specs.Seen.{TripsSeen}, specs.declared.ending.TripsEnding.{TripsEnding}}
+use Rattle.mob_trips.specs.declared.ending.TripsEnding.TheVariants.{Done, Usage, ReadFault, WriteFault, NoMemory, TableRefused, RowsRefused, Overflow}
 
 module _ {Settings : Type 0} (p : ProgramOf Settings) where
   -- the table was read to its end, and the text for it was written whole
@@ -51,7 +45,7 @@ module _ {Settings : Type 0} (p : ProgramOf Settings) where
 
   -- The cause of an ending. Something is written only under `Done` and `WriteFault`, and under
   -- `Usage` nothing is read.
-  abbrev pub IsTripsCause : Ending → TripsSeen → Type 0
+  abbrev pub IsTripsCause : TripsEnding → TripsSeen → Type 0
   IsTripsCause Done s = WritesAll s
   IsTripsCause Usage s = IsUntaken p s.words × Keeps s.table.told_before s.table.told_now × Keeps s.out.told_before s.out.told_now
   IsTripsCause ReadFault s = Rose s.table.faults_before s.table.faults_now × Keeps s.out.told_before s.out.told_now
@@ -63,7 +57,7 @@ module _ {Settings : Type 0} (p : ProgramOf Settings) where
 
   -- What holds of every ending: it has its cause; it is usage, or out of memory, if the arguments
   -- are not accepted; at most one byte past the limit is read, and counts do not fall.
-  pub record IsTripsEnding (ending : Ending) (s : TripsSeen) : Type 0 where
+  pub record IsTripsEnding (ending : TripsEnding) (s : TripsSeen) : Type 0 where
     pub cause : IsTripsCause ending s
     pub usage : IsUntaken p s.words → (ending ≡ Usage) ⊎ (ending ≡ NoMemory)
     pub read : ReadsPart file_limit s.table.told_before s.table.told_now
@@ -71,7 +65,7 @@ module _ {Settings : Type 0} (p : ProgramOf Settings) where
     pub put_later : s.out.faults_before ≤ s.out.faults_now
 
   -- the ending of a run that has read its rows and has no text for them
-  abbrev pub EndsOn : Settings → List (List Value) → Ending → Type 0
+  abbrev pub EndsOn : Settings → List (List Value) → TripsEnding → Type 0
   EndsOn settings rows (RowsRefused names) = p.limits settings rows names
   EndsOn settings rows (Overflow names formula) = p.stops settings rows names formula
   EndsOn settings rows NoMemory = Unit {0}

@@ -3,11 +3,11 @@ use Rattle.std.specs.Prelude.{◌++◌, [], ℕ, List, codes}
 use Rattle.mob_ast.specs.declared.refusal.Kind.{Kind}
 use Rattle.mob_slice.specs.declared.formula.Formula.{Formula}
 use Rattle.mob_ending.specs.Lines.{record_text, rows_text, what_passes}
-use Rattle.mob_trips.specs.declared.ending.Ending.{Ending}
-use Rattle.mob_trips.specs.declared.ending.Ending.TheVariants.{Done, Usage, ReadFault, WriteFault, NoMemory, TableRefused, RowsRefused, Overflow}
+use Rattle.mob_trips.specs.declared.ending.TripsEnding.{TripsEnding}
+use Rattle.mob_trips.specs.declared.ending.TripsEnding.TheVariants.{Done, Usage, ReadFault, WriteFault, NoMemory, TableRefused, RowsRefused, Overflow}
 
 -- the status of an ending
-abbrev pub trips_status : Ending → ℕ
+abbrev pub trips_status : TripsEnding → ℕ
 trips_status Done = 0
 trips_status Usage = 2
 trips_status ReadFault = 3
@@ -39,7 +39,7 @@ table_refusal_line kind rec field = codes "table" ++ record_text kind rec field
 
 -- the line that an ending leaves in the notes; `usage` is the line for arguments that are not
 -- accepted
-abbrev pub trips_note : List ℕ → Ending → List ℕ
+abbrev pub trips_note : List ℕ → TripsEnding → List ℕ
 trips_note usage Done = []
 trips_note usage Usage = usage
 trips_note usage ReadFault = codes "read fault: table\n"

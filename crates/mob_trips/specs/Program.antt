@@ -2,8 +2,7 @@
 use Rattle.std.specs.Prelude.{◌≡◌, ℕ, ℤ, List, Some}
 use Rattle.mob_slice.specs.declared.formula.Formula.{Formula}
 use Rattle.mob_value.specs.declared.value.Value.{Value}
-use Rattle.mob_trips.specs.Reading.{IsTripTable}
-use Rattle.mob_trips.specs.Seen.{TripsSeen}
+use Rattle.mob_trips.{specs.Reading.{IsTripTable}, specs.Seen.{TripsSeen}}
 
 -- A program: the settings that arguments give, and the day of their epoch. For the rows of a table:
 -- the text that is written for them, the rows at which it stops with a formula that has a part

@@ -1,15 +1,10 @@
 -- What is read from a table of trips, and what is written.
-use Rattle.std.specs.Prelude.{◌∷◌, [], ℕ, ℤ, List, Option, codes}
-use Rattle.std.specs.Io.KnownBytes.{Appends}
+use Rattle.std.{specs.Prelude.{◌∷◌, [], ℕ, ℤ, List, Option, codes}, specs.Io.KnownBytes.{Appends}}
 use Rattle.mob_ast.specs.declared.types.SqlType.TheVariants.{Int, TPoint}
 use Rattle.mob_value.specs.declared.value.Value.{Value}
-use Rattle.mob_catalog.specs.Faults.{file_fault}
-use Rattle.mob_catalog.specs.declared.fault.FileFault.{FileFault}
-use Rattle.mob_catalog.specs.TableFile.{Column, IsTable, FileFails, file_limit}
-use Rattle.mob_outside.specs.Faults.{Rose}
-use Rattle.mob_outside.specs.Streams.{ReadsTo, PutsPart}
-use Rattle.mob_trips.specs.declared.ending.Ending.{Ending}
-use Rattle.mob_trips.specs.declared.ending.Ending.TheVariants.{Done, ReadFault, WriteFault, NoMemory, TableRefused}
+use Rattle.mob_catalog.{specs.Faults.{file_fault}, specs.declared.fault.FileFault.{FileFault}, specs.TableFile.{Column, IsTable, FileFails, file_limit}}
+use Rattle.mob_outside.{specs.Faults.{Rose}, specs.Streams.{ReadsTo, PutsPart}}
+use Rattle.mob_trips.{specs.declared.ending.TripsEnding.{TripsEnding}, specs.declared.ending.TripsEnding.TheVariants.{Done, ReadFault, WriteFault, NoMemory, TableRefused}}
 
 -- the columns of the table: `id int, trip tgeompoint`, and how many rows it may have
 abbrev pub trip_columns : List Column
@@ -38,14 +33,14 @@ pub record ReadsRefused (day : ℤ) (old new : Option (List ℕ)) (w : FileFault
   pub refused : IsTripTableRefused day bytes w
 
 -- the ending of a run that reads no table
-abbrev pub EndsUnread : ℤ → Option (List ℕ) → Option (List ℕ) → ℕ → ℕ → Ending → Type 0
+abbrev pub EndsUnread : ℤ → Option (List ℕ) → Option (List ℕ) → ℕ → ℕ → TripsEnding → Type 0
 EndsUnread day old new before now ReadFault = Rose before now
 EndsUnread day old new before now NoMemory = Unit {0}
 EndsUnread day old new before now (TableRefused kind rec field) = ReadsRefused day old new (file_fault kind rec field)
 EndsUnread day old new before now ending = ⊥
 
 -- a text was written, which ends the run
-abbrev pub PutsText : List ℕ → Option (List ℕ) → Option (List ℕ) → ℕ → ℕ → Ending → Type 0
+abbrev pub PutsText : List ℕ → Option (List ℕ) → Option (List ℕ) → ℕ → ℕ → TripsEnding → Type 0
 PutsText text old new before now Done = Appends old new text
 PutsText text old new before now WriteFault = PutsPart text old new × Rose before now
 PutsText text old new before now ending = ⊥

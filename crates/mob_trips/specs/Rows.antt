@@ -1,9 +1,7 @@
 -- The ids and the trips of the rows of a table.
 use Rattle.std.specs.Prelude.{◌∷◌, ℕ, List, [], Option, Some, None, map, slice_get}
-use Rattle.mob_slice.specs.declared.slice.Slice.{Slice}
-use Rattle.mob_slice.specs.declared.line.PlaneLine.{PlaneLine}
-use Rattle.mob_value.specs.declared.value.Value.{Value}
-use Rattle.mob_value.specs.declared.value.Value.TheVariants.{Null, MovingPoint}
+use Rattle.mob_slice.{specs.declared.slice.Slice.{Slice}, specs.declared.line.PlaneLine.{PlaneLine}}
+use Rattle.mob_value.{specs.declared.value.Value.{Value}, specs.declared.value.Value.TheVariants.{Null, MovingPoint}}
 
 abbrev pub Trip : Type 0
 Trip = List (Slice PlaneLine)

@@ -1,18 +1,11 @@
 -- The promises of a run: what its status means, and which status it must have.
-use Rattle.std.specs.Prelude.{◌≡◌, ◌⊎◌, ◌≤◌, ℕ, List, Some}
-use Rattle.std.specs.Io.KnownBytes.{Keeps}
+use Rattle.std.{specs.Prelude.{◌≡◌, ◌⊎◌, ◌≤◌, ℕ, List, Some}, specs.Io.KnownBytes.{Keeps}}
 use Rattle.mob_ast.specs.declared.refusal.Kind.{Kind}
 use Rattle.mob_slice.specs.declared.formula.Formula.{Formula}
-use Rattle.mob_catalog.specs.declared.fault.FileFault.{FileFault}
-use Rattle.mob_catalog.specs.TableFile.{file_limit}
-use Rattle.mob_outside.specs.Faults.{Rose}
-use Rattle.mob_outside.specs.Streams.{ReadsPart}
-use Rattle.mob_trips.specs.Endings.{WritesAll, CutsShort, IsTableRefused, PassLimit, StopsAt, IsTripsCause}
-use Rattle.mob_trips.specs.Lines.{trips_note, trips_status}
-use Rattle.mob_trips.specs.Program.{ProgramOf, IsUntaken, OnRows}
-use Rattle.mob_trips.specs.Reading.{IsTripTableRefused}
-use Rattle.mob_trips.specs.Seen.{TripsSeen}
-use Rattle.mob_trips.specs.declared.ending.Ending.{Ending}
+use Rattle.mob_catalog.{specs.declared.fault.FileFault.{FileFault}, specs.TableFile.{file_limit}}
+use Rattle.mob_outside.{specs.Faults.{Rose}, specs.Streams.{ReadsPart}}
+use Rattle.mob_trips.{specs.Endings.{WritesAll, CutsShort, IsTableRefused, PassLimit, StopsAt, IsTripsCause}, specs.Lines.{trips_note, trips_status}, specs.Program.{ProgramOf, IsUntaken, OnRows}}
+use Rattle.mob_trips.{specs.Reading.{IsTripTableRefused}, specs.Seen.{TripsSeen}, specs.declared.ending.TripsEnding.{TripsEnding}}
 
 -- no count of faults rose
 pub record IsTripsFaultless (s : TripsSeen) : Type 0 where
@@ -20,14 +13,14 @@ pub record IsTripsFaultless (s : TripsSeen) : Type 0 where
   pub put : Rose s.out.faults_before s.out.faults_now → ⊥
 
 -- the status and the note belong to this ending
-pub record EndsTrips (usage : List ℕ) (ending : Ending) (status : ℕ) (Noted : List ℕ → Type 0) : Type 0 where
+pub record EndsTrips (usage : List ℕ) (ending : TripsEnding) (status : ℕ) (Noted : List ℕ → Type 0) : Type 0 where
   pub number : status ≡ trips_status ending
   pub noted : Noted (trips_note usage ending)
 
 module _ {Settings : Type 0} (p : ProgramOf Settings) where
   -- the note is the line of the ending with this status and its cause
   pub record IsTripsNote (usage : List ℕ) (status : ℕ) (s : TripsSeen) (Noted : List ℕ → Type 0) : Type 0 where
-    pub ending : Ending
+    pub ending : TripsEnding
     pub cause : IsTripsCause p ending s
     pub ends : EndsTrips usage ending status Noted
 

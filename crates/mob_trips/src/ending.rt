@@ -8,7 +8,7 @@ use mob_tuples::Tuple;
 /// How a run over a table of trips ended. Each ending has a status, and each but `Done` a line for
 /// the notes.
 #[derive(Drop)]
-pub enum Ending {
+pub enum TripsEnding {
     /// Status 0: the table was read and accepted, and the text for it was written whole.
     Done,
     /// Status 2: the arguments are not accepted.
@@ -42,7 +42,7 @@ pub enum Ending {
     },
 }
 
-impl Ending {
+impl TripsEnding {
     ghost use Rattle.mob_trips.specs.Lines.{trips_status};
 
     /// The exit status of the program.
@@ -50,14 +50,14 @@ impl Ending {
         ensures number { result ≡ trips_status self.now }
     {
         match self {
-            Ending::Done => 0,
-            Ending::Usage => 2,
-            Ending::ReadFault => 3,
-            Ending::WriteFault => 4,
-            Ending::NoMemory => 5,
-            Ending::TableRefused { .. } => 6,
-            Ending::RowsRefused { .. } => 6,
-            Ending::Overflow { .. } => 8,
+            TripsEnding::Done => 0,
+            TripsEnding::Usage => 2,
+            TripsEnding::ReadFault => 3,
+            TripsEnding::WriteFault => 4,
+            TripsEnding::NoMemory => 5,
+            TripsEnding::TableRefused { .. } => 6,
+            TripsEnding::RowsRefused { .. } => 6,
+            TripsEnding::Overflow { .. } => 8,
         }
     }
 }

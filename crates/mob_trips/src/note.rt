@@ -2,7 +2,7 @@
 ghost use Rattle.mob_outside.specs.Streams.{Puts};
 ghost use Rattle.mob_trips.specs.Lines.{formula_text, limit_line, passes_line, table_refusal_line, trips_note};
 
-use crate::Ending;
+use crate::TripsEnding;
 use mob_ast::Kind;
 use mob_ending::pieces::{put_record, put_rows, what_passes};
 use mob_outside::{Failed, Sink, put_all, put_pieces};
@@ -46,24 +46,24 @@ fn put_limit<E: Sink>(notes: &mut E, rows: &[u32]) -> Result<(), Failed>
     put_all(notes, b": refusal 13 (Limit)\n")
 }
 
-fn put_line<E: Sink>(notes: &mut E, usage: &[u8], ending: &Ending) -> Result<(), Failed>
+fn put_line<E: Sink>(notes: &mut E, usage: &[u8], ending: &TripsEnding) -> Result<(), Failed>
     ensures puts { Puts (trips_note usage.now ending.now) (E.held notes.old) (E.held notes.new) (E.faults notes.old) (E.faults notes.new) }
 {
     match ending {
-        Ending::Done => Ok(()),
-        Ending::Usage => put_all(notes, usage),
-        Ending::ReadFault => put_all(notes, b"read fault: table\n"),
-        Ending::WriteFault => put_all(notes, b"write fault\n"),
-        Ending::NoMemory => put_all(notes, b"no memory\n"),
-        Ending::TableRefused { kind, rec, field } => put_refusal(notes, *kind, *rec, *field),
-        Ending::RowsRefused { rows } => put_limit(notes, rows.as_slice()),
-        Ending::Overflow { rows, formula } => put_overflow(notes, rows.as_slice(), *formula),
+        TripsEnding::Done => Ok(()),
+        TripsEnding::Usage => put_all(notes, usage),
+        TripsEnding::ReadFault => put_all(notes, b"read fault: table\n"),
+        TripsEnding::WriteFault => put_all(notes, b"write fault\n"),
+        TripsEnding::NoMemory => put_all(notes, b"no memory\n"),
+        TripsEnding::TableRefused { kind, rec, field } => put_refusal(notes, *kind, *rec, *field),
+        TripsEnding::RowsRefused { rows } => put_limit(notes, rows.as_slice()),
+        TripsEnding::Overflow { rows, formula } => put_overflow(notes, rows.as_slice(), *formula),
     }
 }
 
 /// Writes the line of an ending, in pieces, without allocating; `usage` is the line for arguments
 /// that are not accepted. A fault of the notes cuts it short and changes nothing else.
-pub fn tell<E: Sink>(notes: &mut E, usage: &[u8], ending: &Ending)
+pub fn tell<E: Sink>(notes: &mut E, usage: &[u8], ending: &TripsEnding)
     ensures puts { Puts (trips_note usage.now ending.now) (E.held notes.old) (E.held notes.new) (E.faults notes.old) (E.faults notes.new) }
 {
     // A note that failed changes neither the text nor the status.

@@ -1,6 +1,5 @@
 -- Sorted lists.
-use Rattle.std.specs.List.{AllByRecursion}
-use Rattle.std.proofs.Common.{◌≡◌, ◌≤◌, ◌<◌, ◌+◌, arith, ℕ, List, [], ◌∷◌, ◌++◌}
+use Rattle.std.{specs.List.{AllByRecursion}, proofs.Common.{◌≡◌, ◌≤◌, ◌<◌, ◌+◌, arith, ℕ, List, [], ◌∷◌, ◌++◌}}
 use Rattle.mob_list.proofs.Each.{each_both, each_on}
 use Rattle.mob_typed.specs.Written.{Rises}
 

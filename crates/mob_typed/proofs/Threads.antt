@@ -4,8 +4,7 @@ use Rattle.std.proofs.Crossing.{crosses}
 use Rattle.mob_ast.proofs.types.SqlType.TheSendSync.{the_field_send as type_send, the_field_sync as type_sync}
 use Rattle.mob_operators.proofs.operator.Op.TheSendSync.{the_field_send as op_send, the_field_sync as op_sync}
 use Rattle.mob_operators.proofs.aggregate.AggKind.TheSendSync.{the_field_send as kind_send, the_field_sync as kind_sync}
-use Rattle.mob_list.proofs.items.Items.TheSendSync.{the_send as items_send, the_sync as items_sync}
-use Rattle.mob_list.proofs.text.Text.TheSendSync.{the_send as text_send, the_sync as text_sync}
+use Rattle.mob_list.{proofs.items.Items.TheSendSync.{the_send as items_send, the_sync as items_sync}, proofs.text.Text.TheSendSync.{the_send as text_send, the_sync as text_sync}}
 use Rattle.mob_typed.proofs.typed.TExpr.TheLaws.TheKnot as knot
 use Rattle.mob_typed.specs.contracts.typed.TExpr as texpr
 use Rattle.mob_typed.specs.contracts.typed.Agg as agg

@@ -1,8 +1,8 @@
 -- Which tables of FROM an expression reads.
 use Rattle.std.specs.Prelude.{◌&&◌, ℕ, Bool, true, nat_le, nat_lt}
 use Rattle.mob_operators.specs.declared.operator.Op.{Op}
-use Rattle.mob_operators.specs.declared.operator.Op.TheVariants as op
 use Rattle.mob_typed.specs.Trees.{TypedTree, typed, TypedTrees, none, more}
+use Rattle.mob_operators.specs.declared.operator.Op.TheVariants as op
 
 -- whether an operator reads no table of FROM, or one before this position
 abbrev pub reads_before : ℕ → Op → Bool

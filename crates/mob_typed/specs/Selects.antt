@@ -1,9 +1,6 @@
 -- A typed SELECT as a plain value.
 use Rattle.std.specs.Prelude.{ℕ, List, Bool, Option, map, option_and_then, option_map, slice_get}
-use Rattle.mob_typed.specs.declared.typed.TExpr.{TExpr}
-use Rattle.mob_typed.specs.declared.typed.Agg.{Agg}
-use Rattle.mob_typed.specs.declared.typed.TypedSelect.{TypedSelect}
-use Rattle.mob_typed.specs.Trees.{TypedTree, typed_of}
+use Rattle.mob_typed.{specs.declared.typed.TExpr.{TExpr}, specs.declared.typed.Agg.{Agg}, specs.declared.typed.TypedSelect.{TypedSelect}, specs.Trees.{TypedTree, typed_of}}
 
 -- a column of the answer: its expression and its name
 abbrev pub Output : Type 0

@@ -1,11 +1,9 @@
 -- Typed statements and whole typed scripts as plain values.
 use Rattle.std.specs.Prelude.{ℕ, List, Option, map}
 use Rattle.mob_ast.specs.declared.types.SqlType.{SqlType}
-use Rattle.mob_typed.specs.declared.typed.ConstText.{ConstText}
-use Rattle.mob_typed.specs.declared.typed.TypedStatement.{TypedStatement}
-use Rattle.mob_typed.specs.declared.typed.TypedStatement.TheVariants as typed
-use Rattle.mob_typed.specs.declared.typed.Typed.{Typed}
+use Rattle.mob_typed.{specs.declared.typed.ConstText.{ConstText}, specs.declared.typed.TypedStatement.{TypedStatement}, specs.declared.typed.Typed.{Typed}}
 use Rattle.mob_typed.specs.Selects.{TypedSelectParts, select_seen}
+use Rattle.mob_typed.specs.declared.typed.TypedStatement.TheVariants as typed
 
 -- the columns of a table: their names in order, each with its type
 abbrev pub ColumnList : Type 0

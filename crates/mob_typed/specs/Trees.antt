@@ -2,9 +2,7 @@
 use Rattle.std.specs.Prelude.{ℕ, List, [], ◌∷◌, map}
 use Rattle.mob_ast.specs.declared.types.SqlType.{SqlType}
 use Rattle.mob_operators.specs.declared.operator.Op.{Op}
-use Rattle.mob_typed.specs.declared.typed.TExpr.{TExpr}
-use Rattle.mob_typed.specs.declared.typed.TExpr.TheOpen.{TExpr-F}
-use Rattle.mob_typed.specs.declared.typed.TExpr.TheFolds.{fold-TExpr}
+use Rattle.mob_typed.{specs.declared.typed.TExpr.{TExpr}, specs.declared.typed.TExpr.TheOpen.{TExpr-F}, specs.declared.typed.TExpr.TheFolds.{fold-TExpr}}
 
 -- a typed expression: its operator, its type, its place and its arguments
 mutual

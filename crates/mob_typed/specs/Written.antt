@@ -1,8 +1,6 @@
 -- When a typed script is in written order.
-use Rattle.std.specs.Prelude.{◌≡◌, ◌≤◌, ◌<◌, ◌⊎◌, ℕ, List, [], ◌∷◌}
-use Rattle.std.specs.List.{AllByRecursion}
-use Rattle.mob_typed.specs.declared.typed.ConstText.{ConstText}
-use Rattle.mob_typed.specs.Statements.{ScriptOut, StatementOut, new_rows}
+use Rattle.std.{specs.Prelude.{◌≡◌, ◌≤◌, ◌<◌, ◌⊎◌, ℕ, List, [], ◌∷◌}, specs.List.{AllByRecursion}}
+use Rattle.mob_typed.{specs.declared.typed.ConstText.{ConstText}, specs.Statements.{ScriptOut, StatementOut, new_rows}}
 
 -- each element has this relation to all that follow it
 abbrev pub Rises : {A : Type 0} → (A → A → Type 0) → List A → Type 0

@@ -1,10 +1,6 @@
 -- Appending a new name to distinct names keeps them distinct.
-use Rattle.std.proofs.Common.{◌≡◌, refl, sym, subst, ℕ, ◌+◌, List, [], ◌∷◌, ◌++◌, map, Bool, true, false, cond, ◌||◌, Some}
-use Rattle.std.proofs.lemmas.Bool.{or_parts}
-use Rattle.std.specs.Prelude.{is_some}
-use Rattle.std.specs.List.{IsDistinct, list_any}
-use Rattle.std.specs.Str.{bytes_eq}
-use Rattle.std.proofs.lemmas.List.{map-append}
+use Rattle.std.{specs.Prelude.{is_some}, specs.List.{IsDistinct, list_any}, specs.Str.{bytes_eq}}
+use Rattle.std.{proofs.Common.{◌≡◌, refl, sym, subst, ℕ, ◌+◌, List, [], ◌∷◌, ◌++◌, map, Bool, true, false, cond, ◌||◌, Some}, proofs.lemmas.Bool.{or_parts}, proofs.lemmas.List.{map-append}}
 use Rattle.std.proofs.lemmas.Slice.Eq.{bytes_eq-Decides}
 use Rattle.mob_operators.specs.Table.{is_one_of}
 use Rattle.mob_scope.specs.Names.{entry_from, has_entry}

@@ -1,39 +1,32 @@
 -- Examples of what typing guarantees and what it excludes.
+use Rattle.std.{specs.Prelude.{IfSome, not, option_map, option_and_then}, specs.List.{Contains, IsDistinct, list_all}}
 use Rattle.std.proofs.Common.{◌≡◌, ◌+◌, ◌^◌, ◌-◌, refl, sym, subst, arith, ℕ, zero, suc, List, [], ◌∷◌, ◌++◌, Bool, true, false, cond, ◌&&◌, ◌||◌, length, codes, Option, Some, None}
-use Rattle.std.specs.Prelude.{IfSome, not, option_map, option_and_then}
-use Rattle.std.specs.List.{Contains, IsDistinct, list_all}
-use Rattle.mob_ast.specs.declared.types.SqlType.{SqlType}
-use Rattle.mob_ast.specs.declared.types.SqlType.TheVariants as sql
-use Rattle.mob_ast.specs.declared.expression.Node.TheVariants as node
-use Rattle.mob_ast.specs.Trees.{tree, none as no_trees, one, StatementParts, select}
-use Rattle.mob_operators.specs.declared.operator.Form.{Form}
-use Rattle.mob_operators.specs.declared.operator.Form.TheVariants as form
-use Rattle.mob_operators.specs.declared.operator.Op.{Op}
-use Rattle.mob_operators.specs.declared.operator.Op.TheVariants as op
-use Rattle.mob_operators.specs.Lookup.{Line, types_fit, meets, given, operator_in, answer_of, found_in}
+use Rattle.mob_ast.{specs.declared.types.SqlType.{SqlType}, specs.Trees.{tree, none as no_trees, one, StatementParts, select}}
+use Rattle.mob_operators.{specs.declared.operator.Spelling.{Spelling}, specs.declared.operator.Op.{Op}, specs.Lookup.{Line, types_fit, meets, given, operator_in, answer_of, found_in}}
 use Rattle.mob_operators.specs.Table.{table}
-use Rattle.mob_typed.specs.declared.typed.ConstText.{ConstText}
-use Rattle.mob_typed.specs.Trees.{TypedTree, typed, none, more}
-use Rattle.mob_typed.specs.Statements.{new_table}
+use Rattle.mob_typed.{specs.declared.typed.ConstText.{ConstText}, specs.Trees.{TypedTree, typed, none, more}, specs.Statements.{new_table}}
 use Rattle.mob_grammar.specs.Held.{statement_held}
 use Rattle.mob_clauses.specs.Keys.{limit_value}
-use Rattle.mob_typing.specs.Stands.{IsHeldIn}
-use Rattle.mob_typing.specs.WellTyped.{IsNumberLiteral, the_number, behind_minus, HasDivisor, HasOperatorRow, IsOperated, HasDistinctNames}
+use Rattle.mob_typing.{specs.Stands.{IsPlaceIn}, specs.WellTyped.{IsNumberLiteral, the_number, behind_minus, HasDivisor, HasOperatorRow, IsOperated, HasDistinctNames}}
 use Rattle.mob_typing.proofs.OperatorRows.{line_passes, first_passes}
+use Rattle.mob_ast.specs.declared.types.SqlType.TheVariants as sql
+use Rattle.mob_ast.specs.declared.expression.Node.TheVariants as node
+use Rattle.mob_operators.specs.declared.operator.Spelling.TheVariants as form
+use Rattle.mob_operators.specs.declared.operator.Op.TheVariants as op
 
 -- SELECT b: a place that the one tree does not hold, such as that of the blank, is not that of a
 -- refusal
 the_select : StatementParts
 the_select = select (record { distinct = false; items = one (tree (node.Column None (record { text = codes "b"; place = 7 })) 7 no_trees) None ∷ []; from = []; cond = None; groups = []; keys = []; limit = None })
 
-held_by_one : (s : StatementParts) (p : ℕ) → IsHeldIn (s ∷ []) 1 p → Contains (statement_held s) p
+held_by_one : (s : StatementParts) (p : ℕ) → IsPlaceIn (s ∷ []) 1 p → Contains (statement_held s) p
 held_by_one s p h = by h.front h.parts h.number
   where
     by : (front : List StatementParts) → s ∷ [] ≡ front ++ h.own ∷ h.behind → length front + 1 ≡ 1 → Contains (statement_held s) p
     by [] parts number = let same : h.own ≡ s = cc in subst (λ x. Contains (statement_held x) p) same h.held
     by (x ∷ front) parts number = absurd (omega (arith, number))
 
-blank_holds_nothing : IsHeldIn (the_select ∷ []) 1 6 → ⊥
+blank_holds_nothing : IsPlaceIn (the_select ∷ []) 1 6 → ⊥
 unfolding the_select
 blank_holds_nothing h = by (held_by_one the_select 6 h)
   where
@@ -60,7 +53,7 @@ table_sums_nothing : list_all sums_nothing table ≡ true
 unfolding table
 table_sums_nothing = refl
 
-module _ (f : Form) (name : List ℕ) where
+module _ (f : Spelling) (name : List ℕ) where
   line_sums_nothing : (l : Line) → sums_nothing l ≡ true → IfSome (answer_of l f name two_types false) (λ a. not_sum a.0 ≡ true)
   line_sums_nothing l h = by (types_fit l.takes two_types) refl h
     where

@@ -1,9 +1,7 @@
 -- A list that is processed entry by entry, up to its end or the first mistake.
-use Rattle.std.proofs.Common.{◌≡◌, ◌∙◌, ◌<◌, ◌≤◌, ◌+◌, sym, ap, ℕ, List, [], ◌∷◌, length, drop, get_or, Result, Ok}
-use Rattle.std.proofs.lemmas.List.{drop_more, drop_all}
+use Rattle.std.{proofs.Common.{◌≡◌, ◌∙◌, ◌<◌, ◌≤◌, ◌+◌, sym, ap, ℕ, List, [], ◌∷◌, length, drop, get_or, Result, Ok}, proofs.lemmas.List.{drop_more, drop_all}}
 use Rattle.mob_list.specs.declared.fault.Fault.{Fault}
-use Rattle.mob_scope.specs.Answers.{◌>>=◌, StopsTyping}
-use Rattle.mob_scope.specs.declared.fault.Mistake.{Mistake}
+use Rattle.mob_scope.{specs.Answers.{◌>>=◌, StopsTyping}, specs.declared.fault.Mistake.{Mistake}}
 use Rattle.mob_expression.proofs.Wrongs.{fails_along, fails_bind}
 
 -- the entries before this position are processed

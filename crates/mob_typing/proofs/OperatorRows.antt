@@ -1,29 +1,19 @@
 -- What the table of operators gives: no leaf and no cast; a division only by a number literal; and
 -- for a sign before one argument an operator that keeps a number literal.
-use Rattle.std.proofs.Common.{◌≡◌, ◌∙◌, refl, sym, ap, subst, inl, inr, ℕ, List, [], ◌∷◌, Bool, true, false, cond, ◌&&◌, ◌||◌, Option, Some, None}
-use Rattle.std.proofs.lemmas.Bool.{and_parts}
-use Rattle.std.specs.Prelude.{◌⊎◌, IfSome, not, option_map, option_and_then, codes}
-use Rattle.std.specs.List.{list_all}
-use Rattle.std.specs.Option.{option_or}
-use Rattle.std.specs.Str.{bytes_eq}
+use Rattle.std.{specs.Prelude.{◌⊎◌, IfSome, not, option_map, option_and_then, codes}, specs.List.{list_all}, specs.Option.{option_or}, specs.Str.{bytes_eq}}
+use Rattle.std.{proofs.Common.{◌≡◌, ◌∙◌, refl, sym, ap, subst, inl, inr, ℕ, List, [], ◌∷◌, Bool, true, false, cond, ◌&&◌, ◌||◌, Option, Some, None}, proofs.lemmas.Bool.{and_parts}}
 use Rattle.std.proofs.lemmas.Slice.Eq.{bytes_eq-Decides}
 use Rattle.mob_ast.specs.declared.types.SqlType.{SqlType}
-use Rattle.mob_ast.specs.declared.types.SqlType.TheVariants as sql
-use Rattle.mob_operators.specs.declared.operator.Form.{Form}
-use Rattle.mob_operators.specs.declared.operator.Form.TheVariants as form
-use Rattle.mob_operators.specs.declared.operator.Op.{Op}
-use Rattle.mob_operators.specs.declared.operator.Op.TheVariants as op
-use Rattle.mob_operators.specs.declared.table.Bond.{Bond}
-use Rattle.mob_operators.specs.declared.table.Bond.TheVariants as bond
-use Rattle.mob_operators.specs.Lookup.{Line, operator_named, operator_in, same_form, types_fit, meets, takes, given, answer_of, found_in}
-use Rattle.mob_operators.specs.Table.{table}
-use Rattle.mob_typed.specs.Named.{reads_before, reads_from}
-use Rattle.mob_typed.specs.declared.typed.ConstText.{ConstText}
-use Rattle.mob_typed.specs.Trees.{TypedTree, typed, TypedTrees, none, more, typed_trees, types_of, arg_types}
+use Rattle.mob_operators.{specs.declared.operator.Spelling.{Spelling}, specs.declared.operator.Op.{Op}, specs.declared.table.Bond.{Bond}}
+use Rattle.mob_operators.{specs.Lookup.{Line, operator_named, operator_in, same_form, types_fit, meets, takes, given, answer_of, found_in}, specs.Table.{table}}
+use Rattle.mob_typed.{specs.Named.{reads_before, reads_from}, specs.declared.typed.ConstText.{ConstText}, specs.Trees.{TypedTree, typed, TypedTrees, none, more, typed_trees, types_of, arg_types}}
 use Rattle.mob_typed.specs.Statements.{ColumnList}
 use Rattle.mob_expression.specs.Expressions.{is_signed, can_cast_all}
-use Rattle.mob_typing.specs.WellTyped.{HasNamedType, IsNumberLiteral, behind_minus, behind_plus, is_division, HasDivisor, HasOperatorRow, FitsArguments}
-use Rattle.mob_typing.proofs.Sound.{types_are}
+use Rattle.mob_typing.{specs.WellTyped.{HasNamedType, IsNumberLiteral, behind_minus, behind_plus, is_division, HasDivisor, HasOperatorRow, FitsArguments}, proofs.Sound.{types_are}}
+use Rattle.mob_ast.specs.declared.types.SqlType.TheVariants as sql
+use Rattle.mob_operators.specs.declared.operator.Spelling.TheVariants as form
+use Rattle.mob_operators.specs.declared.operator.Op.TheVariants as op
+use Rattle.mob_operators.specs.declared.table.Bond.TheVariants as bond
 
 -- an operator and its type
 abbrev Answer : Type 0
@@ -44,7 +34,7 @@ module _ (P : Op → Bool) where
       by true own others = own
       by false own others = others
 
-  pub line_passes : (l : Line) (f : Form) (name : List ℕ) (ts : List SqlType) (literal : Bool) → list_all (λ n. P n.1) l.names ≡ true → Passes (answer_of l f name ts literal)
+  pub line_passes : (l : Line) (f : Spelling) (name : List ℕ) (ts : List SqlType) (literal : Bool) → list_all (λ n. P n.1) l.names ≡ true → Passes (answer_of l f name ts literal)
   line_passes l f name ts literal h = by (same_form l.form f) (operator_named l.names name) (named_pass l.names name h)
     where
       by_type : (o : Op) (t : Option SqlType) → P o ≡ true → Passes (option_map (λ ty. (o, ty)) t)
@@ -61,7 +51,7 @@ module _ (P : Op → Bool) where
       by false o own = tt
 
 -- a property of what each line gives is one of what the table gives
-pub first_passes : (P : Op → Bool) (ls : List Line) (f : Form) (name : List ℕ) (ts : List SqlType) (literal : Bool) (each : Line → Bool) → ((l : Line) → each l ≡ true → Passes P (answer_of l f name ts literal)) → list_all each ls ≡ true → Passes P (found_in ls f name ts literal)
+pub first_passes : (P : Op → Bool) (ls : List Line) (f : Spelling) (name : List ℕ) (ts : List SqlType) (literal : Bool) (each : Line → Bool) → ((l : Line) → each l ≡ true → Passes P (answer_of l f name ts literal)) → list_all each ls ≡ true → Passes P (found_in ls f name ts literal)
 first_passes P [] f name ts literal each own h = tt
 first_passes P (l ∷ ls) f name ts literal each own h =
     let parts = and_parts (each l) (list_all each ls) h in
@@ -86,7 +76,7 @@ table_is_of_table : list_all line_is_of_table table ≡ true
 unfolding table
 table_is_of_table = refl
 
-pub found_of_table : (f : Form) (name : List ℕ) (ts : List SqlType) (literal : Bool) → IfSome (found_in table f name ts literal) (λ a. is_of_table a.0 ≡ true)
+pub found_of_table : (f : Spelling) (name : List ℕ) (ts : List SqlType) (literal : Bool) → IfSome (found_in table f name ts literal) (λ a. is_of_table a.0 ≡ true)
 found_of_table f name ts literal = first_passes is_of_table table f name ts literal line_is_of_table (λ l h. line_passes is_of_table l f name ts literal h) table_is_of_table
 
 -- so it names nothing by a number, and it fits its arguments if it has its row
@@ -125,7 +115,7 @@ ends_false : (a : Bool) → (a && false) ≡ false
 ends_false true = refl
 ends_false false = refl
 
-module _ (f : Form) (name : List ℕ) (ts : List SqlType) where
+module _ (f : Spelling) (name : List ℕ) (ts : List SqlType) where
   -- the answer of a line, depending on whether it takes its arguments
   abbrev answer_by : Line → Bool → Option Answer
   answer_by l b = option_and_then (λ x. cond b (option_map (λ ty. (x, ty)) (given l.gives ts)) None) (operator_in l f name)
@@ -182,7 +172,7 @@ module _ (f : Form) (name : List ℕ) (ts : List SqlType) where
       by (inr w) rest = on (answer_of l f name ts false) rest (ap (λ x. option_or x (found_in ls f name ts true)) (sym w.0) ∙ is)
 
 -- an operator that is found for typed operands has its row
-pub has_row : (cs : List ConstText) (f : Form) (name : List ℕ) (ts : List TypedTree) (literal : Bool) (a : Op × SqlType) → found_in table f name (types_of ts) literal ≡ Some a
+pub has_row : (cs : List ConstText) (f : Spelling) (name : List ℕ) (ts : List TypedTree) (literal : Bool) (a : Op × SqlType) → found_in table f name (types_of ts) literal ≡ Some a
     → (literal ≡ true → is_division a.0 ≡ true → HasDivisor cs (typed_trees ts)) → HasOperatorRow cs a.0 a.1 (typed_trees ts)
 has_row cs f name ts literal a is divisor = by literal (is_division a.0) refl refl
   where

@@ -1,28 +1,19 @@
 -- The values of a row, one by one.
-use Rattle.std.proofs.Common.{◌≡◌, ◌∙◌, ◌<◌, ◌+◌, ap, sym, ℕ, List, [], ◌∷◌, ◌++◌, map, drop, length, get_or, Option, Some, Result, Ok}
-use Rattle.std.specs.Prelude.{slice_get}
-use Rattle.std.proofs.lemmas.List.{drop_more}
-use Rattle.mob_ast.specs.declared.types.SqlType.{SqlType}
-use Rattle.mob_ast.specs.declared.expression.Expr.{Expr}
-use Rattle.mob_ast.specs.Trees.{tree_of}
-use Rattle.mob_typed.specs.declared.typed.ConstText.{ConstText}
-use Rattle.mob_typed.specs.Statements.{ColumnList}
+use Rattle.std.{specs.Prelude.{slice_get}, proofs.Common.{◌≡◌, ◌∙◌, ◌<◌, ◌+◌, ap, sym, ℕ, List, [], ◌∷◌, ◌++◌, map, drop, length, get_or, Option, Some, Result, Ok}, proofs.lemmas.List.{drop_more}}
+use Rattle.mob_ast.{specs.declared.types.SqlType.{SqlType}, specs.declared.expression.Expr.{Expr}, specs.Trees.{tree_of}}
+use Rattle.mob_typed.{specs.declared.typed.ConstText.{ConstText}, specs.Statements.{ColumnList}}
 use Rattle.mob_list.specs.declared.fault.Fault.{Fault}
-use Rattle.mob_scope.specs.Answers.{StopsTyping}
-use Rattle.mob_scope.specs.declared.fault.Mistake.{Mistake}
-use Rattle.mob_expression.specs.Steps.{TypingStep, one_more}
-use Rattle.mob_expression.proofs.Behind.{behind, fails_behind, more_behind, none_behind}
-use Rattle.mob_expression.proofs.Lists.{drop_at}
-use Rattle.mob_expression.proofs.Wrongs.{fails_along}
+use Rattle.mob_scope.{specs.Answers.{StopsTyping}, specs.declared.fault.Mistake.{Mistake}}
+use Rattle.mob_expression.{specs.Steps.{TypingTurn, one_more}, proofs.Behind.{behind, fails_behind, more_behind, none_behind}, proofs.Lists.{drop_at}, proofs.Wrongs.{fails_along}}
 use Rattle.mob_typing.specs.Statements.{tree_value, row_values}
 
 module _ (n : ℕ) (columns : ColumnList) (vs : List Expr) (i : ℕ) (done : List (Option ℕ)) (cs : List ConstText) (whole : Result (List (Option ℕ) × List ConstText) Mistake)
     (so_far : whole ≡ behind done (row_values n (drop i columns) (map tree_of (drop i vs))) cs) where
   module _ (column : List ℕ × SqlType) (x : Expr) (stored : slice_get columns i ≡ Some column) (within : i < length vs) (at : x ≡ get_or vs i x) where
-    abbrev first : TypingStep (Option ℕ)
+    abbrev first : TypingTurn (Option ℕ)
     first = tree_value n column.1 (tree_of x)
 
-    abbrev others : TypingStep (List (Option ℕ))
+    abbrev others : TypingTurn (List (Option ℕ))
     others = row_values n (drop (i + 1) columns) (map tree_of (drop (i + 1) vs))
 
     next : whole ≡ behind done (one_more first others) cs

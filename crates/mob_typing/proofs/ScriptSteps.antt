@@ -1,17 +1,10 @@
 -- The statements typed so far, and those that follow.
-use Rattle.std.proofs.Common.{◌≡◌, ◌∙◌, ◌<◌, ◌+◌, refl, sym, ap, inl, inr, ℕ, List, [], ◌∷◌, ◌++◌, length, map, drop, get_or, Result, Ok, Err}
-use Rattle.std.proofs.lemmas.List.{drop_more}
-use Rattle.mob_ast.specs.declared.refusal.Refusal.{Refusal}
-use Rattle.mob_ast.specs.declared.statement.Statement.{Statement}
-use Rattle.mob_ast.specs.Trees.{StatementParts, statement_of}
-use Rattle.mob_typed.specs.declared.typed.ConstText.{ConstText}
-use Rattle.mob_typed.specs.Statements.{StatementOut, ScriptOut}
-use Rattle.mob_list.specs.declared.fault.Fault.{Fault}
-use Rattle.mob_list.specs.declared.fault.Fault.TheVariants.{Because, NoMemory}
-use Rattle.mob_scope.specs.Answers.{StopsTyping}
-use Rattle.mob_scope.specs.declared.fault.Mistake.{Mistake}
-use Rattle.mob_typing.specs.Names.{NameLists}
-use Rattle.mob_typing.specs.Statements.{Made, in_statement, or_refused, put_statement, typed_statement, typed_from, IsTypingRefusal, refusal_of}
+use Rattle.std.{proofs.Common.{◌≡◌, ◌∙◌, ◌<◌, ◌+◌, refl, sym, ap, inl, inr, ℕ, List, [], ◌∷◌, ◌++◌, length, map, drop, get_or, Result, Ok, Err}, proofs.lemmas.List.{drop_more}}
+use Rattle.mob_ast.{specs.declared.refusal.Refusal.{Refusal}, specs.declared.statement.Statement.{Statement}, specs.Trees.{StatementParts, statement_of}}
+use Rattle.mob_typed.{specs.declared.typed.ConstText.{ConstText}, specs.Statements.{StatementOut, ScriptOut}}
+use Rattle.mob_list.{specs.declared.fault.Fault.{Fault}, specs.declared.fault.Fault.TheVariants.{Because, NoMemory}}
+use Rattle.mob_scope.{specs.Answers.{StopsTyping}, specs.declared.fault.Mistake.{Mistake}}
+use Rattle.mob_typing.{specs.Names.{NameLists}, specs.Statements.{Made, in_statement, or_refused, put_statement, typed_statement, typed_from, IsTypingRefusal, refusal_of}}
 
 -- these statements, and those of a script after them
 abbrev pub behind_script : List StatementOut → Result ScriptOut Refusal → Result ScriptOut Refusal

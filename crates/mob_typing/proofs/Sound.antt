@@ -1,23 +1,20 @@
 -- Soundness survives the appending of constants, and numbers keep naming what they name.
-use Rattle.std.proofs.Common.{◌≡◌, ◌∙◌, ◌+◌, refl, sym, ap, arith, subst, ℕ, zero, suc, List, [], ◌∷◌, ◌++◌, append_assoc, length, length-append, map, Bool, true, false, ◌&&◌, cond, Option, Some, None}
-use Rattle.std.specs.Prelude.{IfSome, slice_get, option_map}
-use Rattle.std.specs.List.{AllByRecursion, AllZip}
-use Rattle.std.specs.Str.{bytes_eq}
+use Rattle.std.{specs.Prelude.{IfSome, slice_get, option_map}, specs.List.{AllByRecursion, AllZip}, specs.Str.{bytes_eq}}
+use Rattle.std.proofs.Common.{◌≡◌, ◌∙◌, ◌+◌, refl, sym, ap, arith, subst, ℕ, zero, suc, List, [], ◌∷◌, ◌++◌, append_assoc, length, length-append, map, Bool, true, false, ◌&&◌, cond, Option, Some}
+use Rattle.std.proofs.Common.{None}
 use Rattle.mob_ast.specs.declared.types.SqlType.{SqlType}
 use Rattle.mob_operators.specs.declared.operator.Op.{Op}
-use Rattle.mob_operators.specs.declared.operator.Op.TheVariants as op
-use Rattle.mob_typed.specs.declared.typed.ConstText.{ConstText}
-use Rattle.mob_typed.specs.Trees.{TypedTree, typed, TypedTrees, none, more as more_trees, typed_trees, type_of, types_of, arg_types}
+use Rattle.mob_typed.{specs.declared.typed.ConstText.{ConstText}, specs.Trees.{TypedTree, typed, TypedTrees, none, more as more_trees, typed_trees, type_of, types_of, arg_types}}
 use Rattle.mob_typed.specs.Named.{names_before, all_name_before, names_from, all_name_from}
 use Rattle.mob_typed.specs.Statements.{ColumnList, nothing, new_table, new_index, new_rows, rows_from, deletion, query, plan_of}
 use Rattle.mob_list.proofs.Each.{each_both, each_on}
 use Rattle.mob_scope.specs.Names.{entry_from}
 use Rattle.mob_expression.specs.Words.{number_type}
-use Rattle.mob_clauses.specs.Conditions.{is_bool}
-use Rattle.mob_clauses.specs.Keys.{is_key}
+use Rattle.mob_clauses.{specs.Conditions.{is_bool}, specs.Keys.{is_key}}
 use Rattle.mob_typing.specs.Stands.{operators_in, operators_among}
-use Rattle.mob_typing.specs.WellTyped.{constant_type, HasNamedType, HasNamedTypes, AllHaveNamedTypes, IsNumberLiteral, the_number, behind_minus, behind_plus, HasDivisor, HasOperatorRow, FitsArguments, IsOperated, AreOperated, expressions_of, IsGroup, IsOfColumn, IsTypedQuery, IsTypedStatement}
-use Rattle.mob_typing.proofs.Walk.{Stays, all_stay}
+use Rattle.mob_typing.specs.WellTyped.{constant_type, HasNamedType, HasNamedTypes, AllHaveNamedTypes, IsNumberLiteral, the_number, behind_minus, behind_plus, HasDivisor, HasOperatorRow, FitsArguments}
+use Rattle.mob_typing.{specs.WellTyped.{IsOperated, AreOperated, expressions_of, IsGroup, IsOfColumn, IsTypedQuery, IsTypedStatement}, proofs.Walk.{Stays, all_stay}}
+use Rattle.mob_operators.specs.declared.operator.Op.TheVariants as op
 
 -- the element at a position of a list is also there in a longer one
 pub slice_more : {A : Type 0} (xs more : List A) (k : ℕ) (x : A) → slice_get xs k ≡ Some x → slice_get (xs ++ more) k ≡ Some x

@@ -1,16 +1,13 @@
 -- The walk over the answers of typing: what holds of a value that is given, and of the place of a
 -- mistake.
+use Rattle.std.{specs.Prelude.{not}, specs.List.{AllByRecursion}}
 use Rattle.std.proofs.Common.{◌≡◌, ◌∙◌, refl, sym, ap, subst, ℕ, List, [], ◌∷◌, ◌++◌, map, append_assoc, append-nil, Bool, true, false, Option, Some, None, Result, Ok, Err}
-use Rattle.std.specs.Prelude.{not}
-use Rattle.std.specs.List.{AllByRecursion}
 use Rattle.std.proofs.lemmas.List.{map-append}
 use Rattle.mob_ast.specs.declared.refusal.Kind.{Kind}
-use Rattle.mob_grammar.specs.Places.{IsWithin, nothing, same}
-use Rattle.mob_grammar.proofs.Within.{within_both, within_trans}
+use Rattle.mob_grammar.{specs.Places.{IsWithin, nothing, same}, proofs.Within.{within_both, within_trans}}
 use Rattle.mob_typed.specs.declared.typed.ConstText.{ConstText}
 use Rattle.mob_list.proofs.Each.{each_both, each_on}
-use Rattle.mob_scope.specs.Answers.{◌>>=◌, unless, found}
-use Rattle.mob_scope.specs.declared.fault.Mistake.{Mistake}
+use Rattle.mob_scope.{specs.Answers.{◌>>=◌, unless, found}, specs.declared.fault.Mistake.{Mistake}}
 
 -- an answer has a value with this property, or a mistake at such a place
 pub data GivesOrStops {A : Type 0} (At : ℕ → Type 0) (Gives : A → Type 0) : Result A Mistake → Type 0 where

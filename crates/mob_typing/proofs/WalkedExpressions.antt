@@ -1,47 +1,33 @@
 -- The walk over expressions. Their literals are gathered in written order, their leaves name what
 -- exists, and their operators have their rows. Each operator and each mistake is at a place of the
 -- tree.
-use Rattle.std.specs.Prelude.{IfSome, nat_le, nat_lt, not, codes, is_some, slice_get, option_map, option_and_then}
-use Rattle.std.specs.List.{AllByRecursion}
+use Rattle.std.{specs.Prelude.{IfSome, nat_le, nat_lt, not, codes, is_some, slice_get, option_map, option_and_then}, specs.List.{AllByRecursion}}
 use Rattle.std.proofs.Common.{◌≡◌, ◌<◌, ◌∙◌, ◌+◌, arith, refl, sym, ap, subst, ℕ, List, [], ◌∷◌, ◌++◌, append_assoc, length, length-append, map, Bool, true, false, cond, Option, Some, None, Ok}
-use Rattle.mob_ast.specs.declared.types.Word.{Word}
-use Rattle.mob_ast.specs.declared.types.TypeWord.{TypeWord}
-use Rattle.mob_ast.specs.declared.types.SqlType.{SqlType}
-use Rattle.mob_ast.specs.declared.types.SqlType.TheVariants as sql
-use Rattle.mob_ast.specs.declared.refusal.Kind.TheVariants as kind
-use Rattle.mob_ast.specs.declared.expression.Node.{Node}
-use Rattle.mob_ast.specs.declared.expression.Node.TheVariants as node
+use Rattle.std.{proofs.lemmas.Bool.Decides.{nat_tests}, proofs.lemmas.List.{length-map, map-append}, proofs.lemmas.Option.{slice_get_within}}
+use Rattle.mob_ast.{specs.declared.types.Word.{Word}, specs.declared.types.TypeWord.{TypeWord}, specs.declared.types.SqlType.{SqlType}, specs.declared.expression.Node.{Node}}
 use Rattle.mob_ast.specs.Trees.{Tree, tree, Trees, none as no_trees, more as more_trees}
-use Rattle.mob_operators.specs.declared.operator.Op.{Op}
-use Rattle.mob_operators.specs.declared.operator.Op.TheVariants as op
-use Rattle.mob_operators.specs.declared.operator.Form.{Form}
-use Rattle.mob_operators.specs.declared.operator.Form.TheVariants as form
-use Rattle.mob_operators.specs.Lookup.{found_in}
-use Rattle.mob_operators.specs.Table.{table, is_irrational}
-use Rattle.mob_typed.specs.declared.typed.ConstText.{ConstText}
-use Rattle.mob_typed.specs.Trees.{TypedTree, typed, none, typed_trees, type_of, types_of}
-use Rattle.mob_typed.specs.Statements.{ColumnList}
-use Rattle.std.proofs.lemmas.Bool.Decides.{nat_tests}
-use Rattle.std.proofs.lemmas.List.{length-map, map-append}
-use Rattle.std.proofs.lemmas.Option.{slice_get_within}
+use Rattle.mob_operators.{specs.declared.operator.Op.{Op}, specs.declared.operator.Spelling.{Spelling}, specs.Lookup.{found_in}, specs.Table.{table, is_irrational}}
+use Rattle.mob_typed.{specs.declared.typed.ConstText.{ConstText}, specs.Trees.{TypedTree, typed, none, typed_trees, type_of, types_of}, specs.Statements.{ColumnList}}
 use Rattle.mob_typed.specs.Named.{reads_before, names_before, all_name_before, reads_from, names_from, all_name_from}
 use Rattle.mob_list.proofs.Each.{each_get, each_on, each_parts}
-use Rattle.mob_scope.specs.declared.scope.Found.{Found}
-use Rattle.mob_scope.specs.Answers.{◌>>=◌, found}
-use Rattle.mob_expression.specs.Steps.{TypingStep}
-use Rattle.mob_scope.specs.Names.{column_of, entry_from}
-use Rattle.mob_scope.specs.Scopes.{ScopeTableParts, ScopeParts}
-use Rattle.mob_expression.specs.Words.{type_named, literal_type, number_type, is_zero}
+use Rattle.mob_scope.{specs.declared.scope.Found.{Found}, specs.Answers.{◌>>=◌, found}, specs.Names.{column_of, entry_from}, specs.Scopes.{ScopeTableParts, ScopeParts}}
 use Rattle.mob_scope.specs.Columns.{with_first, matches, the_one, column_among, in_from, column_named}
-use Rattle.mob_expression.specs.Expressions.{constant, lone_string, cast_of_string, typed_before_operands, is_signed, signed_digits, digits_of, digits_in, divisor_of, divides_by_zero, applied, operated, can_cast_all, finished, or_later, typed_expression, typed_operands}
-use Rattle.mob_grammar.specs.Places.{IsWithin, nothing, same, literal_place, tree_places, trees_places}
-use Rattle.mob_grammar.specs.Held.{word_held, node_held, tree_held, trees_held}
+use Rattle.mob_expression.{specs.Steps.{TypingTurn}, specs.Words.{type_named, literal_type, number_type, is_zero}}
+use Rattle.mob_expression.specs.Expressions.{constant, lone_string, cast_of_string, typed_before_operands, is_signed, signed_digits, digits_of, digits_in, divisor_of, divides_by_zero, applied}
+use Rattle.mob_expression.specs.Expressions.{operated, can_cast_all, finished, or_later, typed_expression, typed_operands}
+use Rattle.mob_grammar.{specs.Places.{IsWithin, nothing, same, literal_place, tree_places, trees_places}, specs.Held.{word_held, node_held, tree_held, trees_held}}
 use Rattle.mob_grammar.proofs.Within.{within_all, within_back}
 use Rattle.mob_typing.specs.Stands.{operators_in}
 use Rattle.mob_typing.specs.WellTyped.{column_type, from_type, HasNamedType, HasNamedTypes, IsNumberLiteral, the_number, HasDivisor, is_division, FitsArguments, IsOperated}
 use Rattle.mob_typing.proofs.Walk.{GivesOrStops, gives, stops, then, also, passes, finds, not_false, adds_none, adds_one, adds_within, adds_both, Steps, Stays, still}
 use Rattle.mob_typing.proofs.OperatorRows.{is_of_table, found_of_table, names_nothing, reads_nothing, row_fits, division_alone, has_row, own_cast, keeps_number, sign_keeps, behind_sign}
-use Rattle.mob_typing.proofs.Sound.{slice_more, slice_behind, slice_map, slice_seam, both_true, all_above, all_below, entry_stands, part_here, constant_here, literal_stays, operands_hold, all_operated, all_placed, types_are, IsSound, sound_stays}
+use Rattle.mob_typing.proofs.Sound.{slice_more, slice_behind, slice_map, slice_seam, both_true, all_above, all_below, entry_stands, part_here, constant_here, literal_stays, operands_hold}
+use Rattle.mob_typing.proofs.Sound.{all_operated, all_placed, types_are, IsSound, sound_stays}
+use Rattle.mob_ast.specs.declared.types.SqlType.TheVariants as sql
+use Rattle.mob_ast.specs.declared.refusal.Kind.TheVariants as kind
+use Rattle.mob_ast.specs.declared.expression.Node.TheVariants as node
+use Rattle.mob_operators.specs.declared.operator.Op.TheVariants as op
+use Rattle.mob_operators.specs.declared.operator.Spelling.TheVariants as form
 
 -- the tables of FROM exist under their numbers
 abbrev pub AreThere : List ColumnList → List (List ℕ × ScopeTableParts) → Type 0
@@ -247,13 +233,13 @@ module _ (At : ℕ → Type 0) (tables : List ColumnList) (all : List (List ℕ 
   divisor_read (more_trees a (more_trees b (more_trees c us))) cs ts h = tt
 
   -- what an operator gives for typed operands
-  record IsApplied (f : Form) (name : List ℕ) (p : ℕ) (divisor : Option Bool) (ts : List TypedTree) (cs : List ConstText) (t : TypedTree) : Type 0 where
+  record IsApplied (f : Spelling) (name : List ℕ) (p : ℕ) (divisor : Option Bool) (ts : List TypedTree) (cs : List ConstText) (t : TypedTree) : Type 0 where
     answer : Op × SqlType
     row : found_in table f name (types_of ts) (is_some divisor) ≡ Some answer
     is : t ≡ typed answer.0 answer.1 p (typed_trees ts)
     holds : Holds cs t
 
-  applied_walked : (f : Form) (name : List ℕ) (p : ℕ) (divisor : Option Bool) (args : Trees) (ts : List TypedTree) (cs : List ConstText) → At p → ReadAs args cs ts → IsDivisor cs divisor ts
+  applied_walked : (f : Spelling) (name : List ℕ) (p : ℕ) (divisor : Option Bool) (args : Trees) (ts : List TypedTree) (cs : List ConstText) → At p → ReadAs args cs ts → IsDivisor cs divisor ts
       → GivesOrStops At (IsApplied f name p divisor ts cs) (operated f name p divisor ts)
   applied_walked f name p divisor args ts cs at h own = by (found_in table f name (types_of ts) (is_some divisor)) refl
     where
@@ -277,7 +263,7 @@ module _ (At : ℕ → Type 0) (tables : List ColumnList) (all : List (List ℕ 
           }))
 
   -- an operator other than a sign is not a number literal
-  plainly_applied : (f : Form) (name : List ℕ) (p : ℕ) (args : Trees) (ts : List TypedTree) (cs : List ConstText) → At p → ReadAs args cs ts → GivesOrStops At (Reads None cs) (operated f name p None ts)
+  plainly_applied : (f : Spelling) (name : List ℕ) (p : ℕ) (args : Trees) (ts : List TypedTree) (cs : List ConstText) → At p → ReadAs args cs ts → GivesOrStops At (Reads None cs) (operated f name p None ts)
   plainly_applied f name p args ts cs at h = also (applied_walked f name p None args ts cs at h tt) (λ t applied. (applied.holds, tt))
 
   -- a sign before a number literal makes a number literal
@@ -321,7 +307,7 @@ module _ (At : ℕ → Type 0) (tables : List ColumnList) (all : List (List ℕ 
   finished_walked n p args ts cs at held h = stops at
 
   -- what is typed early is complete; else the operands follow
-  later_walked : (digits : Option (List ℕ)) (own ps : List ℕ) (cs : List ConstText) (later : TypingStep TypedTree) (o : Option TypedTree) (ds : List ConstText) → Settled digits (own ++ ps) cs o ds
+  later_walked : (digits : Option (List ℕ)) (own ps : List ℕ) (cs : List ConstText) (later : TypingTurn TypedTree) (o : Option TypedTree) (ds : List ConstText) → Settled digits (own ++ ps) cs o ds
       → ((es : List ConstText) → GivesOrStops At (Steps s.statement ps (Reads digits) es) (later es)) → GivesOrStops At (Steps s.statement (own ++ ps) (Reads digits) cs) (or_later later o ds)
   later_walked digits own ps cs later (Some t) ds h k = gives h
   later_walked digits own ps cs later None ds h k =

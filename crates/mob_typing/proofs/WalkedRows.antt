@@ -1,28 +1,20 @@
 -- The walk over the rows of an INSERT.
-use Rattle.std.proofs.Common.{◌≡◌, ◌==◌, refl, ap, ℕ, suc, List, [], ◌∷◌, ◌++◌, length, Option, Some, None}
-use Rattle.std.specs.Prelude.{IfSome, not, codes}
-use Rattle.std.specs.List.{AllByRecursion, AllZip, flat_map}
+use Rattle.std.{specs.Prelude.{IfSome, not, codes}, specs.List.{AllByRecursion, AllZip, flat_map}, proofs.Common.{◌≡◌, ◌==◌, refl, ap, ℕ, suc, List, [], ◌∷◌, ◌++◌, length, Option, Some, None}}
 use Rattle.std.proofs.lemmas.Bool.{eqb-true}
 use Rattle.mob_list.proofs.Each.{each_parts}
-use Rattle.mob_ast.specs.declared.types.TypeWord.{TypeWord}
-use Rattle.mob_ast.specs.declared.types.SqlType.{SqlType}
-use Rattle.mob_ast.specs.declared.types.SqlType.TheVariants as sql
-use Rattle.mob_ast.specs.declared.refusal.Kind.TheVariants as kind
-use Rattle.mob_ast.specs.declared.expression.Node.{Node}
-use Rattle.mob_ast.specs.declared.expression.Node.TheVariants as node
+use Rattle.mob_ast.{specs.declared.types.TypeWord.{TypeWord}, specs.declared.types.SqlType.{SqlType}, specs.declared.expression.Node.{Node}}
 use Rattle.mob_ast.specs.Trees.{Tree, tree, Trees, none as no_trees, more as more_trees, RowParts}
 use Rattle.mob_operators.specs.Lookup.{same_type}
-use Rattle.mob_typed.specs.declared.typed.ConstText.{ConstText}
-use Rattle.mob_typed.specs.Statements.{ColumnList}
-use Rattle.mob_expression.specs.Words.{literal_type}
-use Rattle.mob_expression.specs.Expressions.{is_signed}
-use Rattle.mob_typing.specs.Statements.{lone_number, signed_value, bool_value, typed_value, node_value, tree_value, row_values, typed_row, typed_rows}
-use Rattle.mob_typing.specs.WellTyped.{IsOfColumn}
-use Rattle.mob_grammar.specs.Places.{IsWithin, nothing, other, same, literal_place, tree_places, trees_places, row_places}
-use Rattle.mob_grammar.specs.Held.{node_held, tree_held, trees_held, row_held}
-use Rattle.mob_grammar.proofs.Within.{within_all}
+use Rattle.mob_typed.{specs.declared.typed.ConstText.{ConstText}, specs.Statements.{ColumnList}}
+use Rattle.mob_expression.{specs.Words.{literal_type}, specs.Expressions.{is_signed}}
+use Rattle.mob_typing.{specs.Statements.{lone_number, signed_value, bool_value, typed_value, node_value, tree_value, row_values, typed_row, typed_rows}, specs.WellTyped.{IsOfColumn}}
 use Rattle.mob_typing.proofs.Walk.{GivesOrStops, gives, stops, then, also, passes, finds, not_false, adds_none, adds_one, adds_within, adds_both, Steps, still}
 use Rattle.mob_typing.proofs.Sound.{constant_here, value_stays, row_stays}
+use Rattle.mob_grammar.{specs.Places.{IsWithin, nothing, other, same, literal_place, tree_places, trees_places, row_places}, specs.Held.{node_held, tree_held, trees_held, row_held}}
+use Rattle.mob_grammar.proofs.Within.{within_all}
+use Rattle.mob_ast.specs.declared.types.SqlType.TheVariants as sql
+use Rattle.mob_ast.specs.declared.refusal.Kind.TheVariants as kind
+use Rattle.mob_ast.specs.declared.expression.Node.TheVariants as node
 
 -- the place of a lone number is among those of its trees
 lone_stands : (args : Trees) → IfSome (lone_number args) (λ x. IsWithin (x.1 ∷ []) (trees_places args))

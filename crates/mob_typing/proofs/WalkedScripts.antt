@@ -1,24 +1,17 @@
 -- The walk over scripts, statement by statement.
-use Rattle.std.specs.List.{AllByRecursion, Contains, IsDistinct, flat_map}
-use Rattle.std.specs.Str.{bytes_eq}
+use Rattle.std.{specs.List.{AllByRecursion, Contains, IsDistinct, flat_map}, specs.Str.{bytes_eq}}
 use Rattle.std.proofs.Common.{◌≡◌, ◌+◌, ◌∙◌, refl, sym, ap, subst, arith, ℕ, List, [], ◌∷◌, ◌++◌, append_assoc, append-nil, length, length-append, Result, Ok, Err}
 use Rattle.std.proofs.lemmas.List.Elements.{Contains-append_right}
-use Rattle.mob_ast.specs.declared.refusal.Refusal.{Refusal}
-use Rattle.mob_ast.specs.Trees.{StatementParts}
-use Rattle.mob_typed.specs.declared.typed.ConstText.{ConstText}
-use Rattle.mob_typed.specs.Statements.{StatementOut, ScriptOut}
+use Rattle.mob_ast.{specs.declared.refusal.Refusal.{Refusal}, specs.Trees.{StatementParts}}
+use Rattle.mob_typed.{specs.declared.typed.ConstText.{ConstText}, specs.Statements.{StatementOut, ScriptOut}}
 use Rattle.mob_list.proofs.Each.{each_on}
 use Rattle.mob_scope.specs.declared.fault.Mistake.{Mistake}
-use Rattle.mob_typing.specs.Names.{NameLists}
-use Rattle.mob_typing.specs.Statements.{Made, in_statement, or_refused, put_statement, typed_from, typed_script, no_names}
-use Rattle.mob_typing.specs.Stands.{IsHeldIn, OperatorsStand, TypingHoldsOperators, TypingRefusesWhatIsHeld}
+use Rattle.mob_typing.{specs.Names.{NameLists}, specs.Statements.{Made, in_statement, or_refused, put_statement, typed_from, typed_script, no_names}}
+use Rattle.mob_typing.specs.Stands.{IsPlaceIn, OperatorsStand, TypingHoldsOperators, TypingRefusesAtPlaces}
 use Rattle.mob_typing.specs.WellTyped.{AreTypedStatements, IsTypedStatement, TypingGivesWellTyped, table_made, index_made, TypingKeepsNamesApart}
-use Rattle.mob_grammar.specs.Places.{statement_places}
-use Rattle.mob_grammar.specs.Held.{statement_held}
-use Rattle.mob_typing.proofs.Walk.{GivesOrStops, gives, stops, Adds, Steps}
-use Rattle.mob_typing.proofs.Sound.{statement_stays}
-use Rattle.mob_typing.proofs.WalkedSelects.{named}
+use Rattle.mob_typing.{proofs.Walk.{GivesOrStops, gives, stops, Adds, Steps}, proofs.Sound.{statement_stays}, proofs.WalkedSelects.{named}}
 use Rattle.mob_typing.proofs.WalkedStatements.{names_of, KeepsApart, IsMade, statement_walked}
+use Rattle.mob_grammar.{specs.Places.{statement_places}, specs.Held.{statement_held}}
 
 -- how a typed script is made: for each tree in order its statement, with the constants that it
 -- appends; operators are at such places of their statements
@@ -126,10 +119,10 @@ all_contained before [] = tt
 all_contained before (p ∷ ps) = (Contains-append_right before (p ∷ ps) p (0, omega arith, refl), subst (λ all. AllByRecursion (Contains all) ps) (append_assoc before (p ∷ []) ps) (all_contained (before ++ p ∷ []) ps))
 
 -- the same for the tree with this number in a script
-hold_own : (trees front ss : List StatementParts) (n : ℕ) → trees ≡ front ++ ss → length front + 1 ≡ n → HoldPlaces (IsHeldIn trees) n ss
+hold_own : (trees front ss : List StatementParts) (n : ℕ) → trees ≡ front ++ ss → length front + 1 ≡ n → HoldPlaces (IsPlaceIn trees) n ss
 hold_own trees front [] n parts number = tt
 hold_own trees front (s ∷ ss) n parts number = (
-  each_on (Contains (statement_held s)) (IsHeldIn trees n) (λ p held. record { front = front; own = s; behind = ss; parts = parts; number = number; held = held }) (statement_held s) (all_contained [] (statement_held s)),
+  each_on (Contains (statement_held s)) (IsPlaceIn trees n) (λ p held. record { front = front; own = s; behind = ss; parts = parts; number = number; held = held }) (statement_held s) (all_contained [] (statement_held s)),
   hold_own trees (front ++ s ∷ []) ss (n + 1) (parts ∙ sym (append_assoc front (s ∷ []) ss)) (ap (λ k. k + 1) (length-append front (s ∷ []) ∙ number)),
 )
 
@@ -138,7 +131,7 @@ operators_stand none_made = tt
 operators_stand (one_made adds made others) = (made.operators, operators_stand others)
 
 pub typing_holds_operators : TypingHoldsOperators
-typing_holds_operators trees out typed = operators_stand (script_made_at (IsHeldIn trees) trees (hold_own trees [] trees 1 refl refl) out typed)
+typing_holds_operators trees out typed = operators_stand (script_made_at (IsPlaceIn trees) trees (hold_own trees [] trees 1 refl refl) out typed)
 
-pub typing_refuses_what_is_held : TypingRefusesWhatIsHeld
-typing_refuses_what_is_held trees e wrong = script_stops_inside (IsHeldIn trees) trees (hold_own trees [] trees 1 refl refl) e wrong
+pub typing_refuses_what_is_held : TypingRefusesAtPlaces
+typing_refuses_what_is_held trees e wrong = script_stops_inside (IsPlaceIn trees) trees (hold_own trees [] trees 1 refl refl) e wrong

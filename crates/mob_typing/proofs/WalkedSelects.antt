@@ -1,49 +1,34 @@
 -- The walk over a SELECT: its tables, its items, its condition, its keys and its limit.
-use Rattle.std.proofs.Common.{◌≡◌, ◌==◌, ◌≤◌, ◌<◌, ◌+◌, ◌-◌, ◌^◌, ◌∙◌, ◌⊎◌, inl, inr, ◌||◌, refl, sym, ap, subst, arith, Bool, true, false, cond, ℕ, zero, suc, List, [], ◌∷◌, ◌++◌, append_assoc, append-nil, length, length-append, map, take, drop, Option, Some, None, Result, Ok, Err}
-use Rattle.std.specs.Prelude.{IfSome, not, nat_le, nat_lt, slice_get, slice_range, option_map, option_and_then}
-use Rattle.std.specs.List.{AllByRecursion, AllZip, IsDistinct, flat_map, list_any}
+use Rattle.std.{specs.Prelude.{IfSome, not, nat_le, nat_lt, slice_get, slice_range, option_map, option_and_then}, specs.List.{AllByRecursion, AllZip, IsDistinct, flat_map, list_any}}
 use Rattle.std.specs.Str.{bytes_eq}
-use Rattle.std.proofs.lemmas.Bool.{leb-false, or_parts}
-use Rattle.std.proofs.lemmas.Bool.Decides.{nat_tests}
-use Rattle.std.proofs.lemmas.List.{length-map, length-drop, length-take-le, take-append-drop}
-use Rattle.std.proofs.lemmas.List.Folds.{drop_split}
+use Rattle.std.proofs.Common.{◌≡◌, ◌==◌, ◌≤◌, ◌<◌, ◌+◌, ◌-◌, ◌^◌, ◌∙◌, ◌⊎◌, inl, inr, ◌||◌, refl, sym, ap, subst, arith, Bool, true, false, cond, ℕ, zero, suc, List, [], ◌∷◌, ◌++◌, append_assoc}
+use Rattle.std.{proofs.Common.{append-nil, length, length-append, map, take, drop, Option, Some, None, Result, Ok, Err}, proofs.lemmas.Bool.{leb-false, or_parts}}
+use Rattle.std.{proofs.lemmas.Bool.Decides.{nat_tests}, proofs.lemmas.List.{length-map, length-drop, length-take-le, take-append-drop}, proofs.lemmas.List.Folds.{drop_split}}
 use Rattle.std.proofs.lemmas.Option.{slice_get_within}
-use Rattle.mob_ast.specs.declared.types.Word.{Word}
-use Rattle.mob_ast.specs.declared.types.SqlType.{SqlType}
+use Rattle.mob_ast.{specs.declared.types.Word.{Word}, specs.declared.types.SqlType.{SqlType}, specs.Trees.{Tree, tree, Trees, ItemParts, every, one, count_all, FromParts, KeyParts, SelectParts}}
+use Rattle.mob_operators.specs.Aggregates.{is_aggregate, aggregate_row}
+use Rattle.mob_typed.{specs.declared.typed.Agg.{Agg}, specs.declared.typed.ConstText.{ConstText}, specs.Named.{names_before}, specs.Trees.{TypedTree, type_of}}
+use Rattle.mob_typed.{specs.Selects.{Output, TypedSelectParts, on_of}, specs.Statements.{ColumnList}}
+use Rattle.mob_list.proofs.Each.{each_both, each_get, each_map, each_on, each_parts}
+use Rattle.mob_scope.{specs.declared.scope.Found.{Found}, specs.Answers.{◌>>=◌}, specs.declared.fault.Mistake.{Mistake}, specs.Columns.{column_named}, specs.Names.{has_entry}}
+use Rattle.mob_scope.specs.Scopes.{ScopeTableParts, ScopeParts}
+use Rattle.mob_expression.specs.Steps.{one_more}
+use Rattle.mob_typing.{specs.Names.{table_of}, specs.Selects.{from_name, from_table, from_tables, typed_select}, specs.Stands.{operators_in, aggregate_place, query_operators}}
+use Rattle.mob_typing.specs.WellTyped.{column_type, from_type, HasNamedTypes, IsOperated, condition_alone, AreOfSources, column_in, columns_in, IsGroup, IsAggregateOf, IsTypedItem, IsTypedKey}
+use Rattle.mob_typing.specs.WellTyped.{IsTypedQuery, IsTypedDeletion}
+use Rattle.mob_typing.proofs.Walk.{GivesOrStops, gives, stops, then, also, passes, finds, not_false, Adds, adds_none, adds_within, adds_both, Steps, Stays, still, all_stay}
+use Rattle.mob_typing.{proofs.Apart.{entry_last}, proofs.Sound.{slice_map, slice_seam, entry_stands, IsSound, both_true, sound_stays}}
+use Rattle.mob_typing.proofs.WalkedExpressions.{AreThere, numbers_of, IsPart, IsFound, column_walked, arguments_walked, expression_walked}
+use Rattle.mob_clauses.specs.Conditions.{condition, is_bool, tree_place, source_start, seen_by_on, joins_from, typed_joins}
+use Rattle.mob_clauses.specs.Outputs.{is_aggregate_call, is_aggregate_item, is_grouped, ColumnNumbers, column_numbers, group_column, grouping, is_column, is_ungrouped, any_ungrouped, columns_of_table}
+use Rattle.mob_clauses.specs.Outputs.{all_outputs, OutputLists, Value, counting, lone_operand, aggregate_value, plain_value, item_value, with_output, no_agg, with_every, with_item, with_items}
+use Rattle.mob_clauses.specs.Outputs.{no_outputs}
+use Rattle.mob_clauses.specs.Keys.{is_key, group_of, typed_group, with_groups, alias_number, value_type, output_at, aliased, key_item, key_value, typed_key, typed_keys, limit_value, limit_of}
+use Rattle.mob_clauses.{specs.Clauses.{ConditionParts, typed_conditions, ArrangementParts, typed_arrangement, scope_tables, select_made, typed_clauses, rows_to_go}, proofs.Limits.{limit_small}}
+use Rattle.mob_grammar.specs.Places.{tree_places, trees_places, item_places, from_places, condition_places, key_places, select_places}
+use Rattle.mob_grammar.{specs.Held.{word_held, tree_held, trees_held, item_held, from_held, condition_held, key_held, select_held}, proofs.Within.{within_all, within_back}}
 use Rattle.mob_ast.specs.declared.refusal.Kind.TheVariants as kind
 use Rattle.mob_ast.specs.declared.expression.Node.TheVariants as node
-use Rattle.mob_ast.specs.Trees.{Tree, tree, Trees, ItemParts, every, one, count_all, FromParts, KeyParts, SelectParts}
-use Rattle.mob_operators.specs.Aggregates.{is_aggregate, aggregate_row}
-use Rattle.mob_typed.specs.declared.typed.Agg.{Agg}
-use Rattle.mob_typed.specs.declared.typed.ConstText.{ConstText}
-use Rattle.mob_typed.specs.Named.{names_before}
-use Rattle.mob_typed.specs.Trees.{TypedTree, type_of}
-use Rattle.mob_typed.specs.Selects.{Output, TypedSelectParts, on_of}
-use Rattle.mob_typed.specs.Statements.{ColumnList}
-use Rattle.mob_list.proofs.Each.{each_both, each_get, each_map, each_on, each_parts}
-use Rattle.mob_scope.specs.declared.scope.Found.{Found}
-use Rattle.mob_scope.specs.Answers.{◌>>=◌}
-use Rattle.mob_scope.specs.declared.fault.Mistake.{Mistake}
-use Rattle.mob_expression.specs.Steps.{one_more}
-use Rattle.mob_scope.specs.Columns.{column_named}
-use Rattle.mob_scope.specs.Names.{has_entry}
-use Rattle.mob_scope.specs.Scopes.{ScopeTableParts, ScopeParts}
-use Rattle.mob_typing.specs.Names.{table_of}
-use Rattle.mob_clauses.specs.Conditions.{condition, is_bool, tree_place, source_start, seen_by_on, joins_from, typed_joins}
-use Rattle.mob_clauses.specs.Outputs.{is_aggregate_call, is_aggregate_item, is_grouped, ColumnNumbers, column_numbers, group_column, grouping, is_column, is_ungrouped, any_ungrouped, columns_of_table, all_outputs, OutputLists, Value, counting, lone_operand, aggregate_value, plain_value, item_value, with_output, no_agg, with_every, with_item, with_items, no_outputs}
-use Rattle.mob_clauses.specs.Keys.{is_key, group_of, typed_group, with_groups, alias_number, value_type, output_at, aliased, key_item, key_value, typed_key, typed_keys, limit_value, limit_of}
-use Rattle.mob_clauses.specs.Clauses.{ConditionParts, typed_conditions, ArrangementParts, typed_arrangement, scope_tables, select_made, typed_clauses, rows_to_go}
-use Rattle.mob_typing.specs.Selects.{from_name, from_table, from_tables, typed_select}
-use Rattle.mob_typing.specs.Stands.{operators_in, aggregate_place, query_operators}
-use Rattle.mob_typing.specs.WellTyped.{column_type, from_type, HasNamedTypes, IsOperated, condition_alone, AreOfSources, column_in, columns_in, IsGroup, IsAggregateOf, IsTypedItem, IsTypedKey, IsTypedQuery, IsTypedDeletion}
-use Rattle.mob_grammar.specs.Places.{tree_places, trees_places, item_places, from_places, condition_places, key_places, select_places}
-use Rattle.mob_grammar.specs.Held.{word_held, tree_held, trees_held, item_held, from_held, condition_held, key_held, select_held}
-use Rattle.mob_grammar.proofs.Within.{within_all, within_back}
-use Rattle.mob_typing.proofs.Walk.{GivesOrStops, gives, stops, then, also, passes, finds, not_false, Adds, adds_none, adds_within, adds_both, Steps, Stays, still, all_stay}
-use Rattle.mob_typing.proofs.Apart.{entry_last}
-use Rattle.mob_clauses.proofs.Limits.{limit_small}
-use Rattle.mob_typing.proofs.Sound.{slice_map, slice_seam, entry_stands, IsSound, both_true, sound_stays}
-use Rattle.mob_typing.proofs.WalkedExpressions.{AreThere, numbers_of, IsPart, IsFound, column_walked, arguments_walked, expression_walked}
 
 -- the tables of FROM
 abbrev pub named : List (List ℕ × ColumnList) → List ColumnList

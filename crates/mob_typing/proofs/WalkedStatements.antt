@@ -1,40 +1,23 @@
 -- The walk over statements: what each gives, the literals and rows that it appends, and the place
 -- of a mistake.
-use Rattle.std.specs.Prelude.{not, codes, nat_le, slice_get, option_map, option_and_then}
-use Rattle.std.specs.List.{AllByRecursion, IsDistinct, flat_map}
-use Rattle.std.specs.Str.{bytes_eq}
+use Rattle.std.{specs.Prelude.{not, codes, nat_le, slice_get, option_map, option_and_then}, specs.List.{AllByRecursion, IsDistinct, flat_map}, specs.Str.{bytes_eq}}
 use Rattle.std.proofs.Common.{◌≡◌, ◌≤◌, ◌<◌, ◌+◌, ◌∙◌, refl, sym, ap, subst, arith, ℕ, List, [], ◌∷◌, ◌++◌, append-nil, length, length-append, map, true, Option, Some, None, Result}
-use Rattle.std.proofs.lemmas.Bool.{leb-false}
-use Rattle.std.proofs.lemmas.List.{length-map, map-append}
-use Rattle.std.proofs.lemmas.Option.{slice_get_within}
+use Rattle.std.{proofs.lemmas.Bool.{leb-false}, proofs.lemmas.List.{length-map, map-append}, proofs.lemmas.Option.{slice_get_within}}
 use Rattle.mob_list.proofs.Each.{each_parts}
-use Rattle.mob_ast.specs.declared.types.Word.{Word}
-use Rattle.mob_ast.specs.declared.types.Quoted.{Quoted}
-use Rattle.mob_ast.specs.declared.types.TypeWord.{TypeWord}
-use Rattle.mob_ast.specs.declared.types.SqlType.{SqlType}
+use Rattle.mob_ast.{specs.declared.types.Word.{Word}, specs.declared.types.Quoted.{Quoted}, specs.declared.types.TypeWord.{TypeWord}, specs.declared.types.SqlType.{SqlType}}
+use Rattle.mob_ast.specs.Trees.{RowParts, StatementParts, empty, create_table, create_index, insert, copy, delete, select, explain}
+use Rattle.mob_operators.{specs.Lookup.{same_type}, specs.Table.{is_one_of}}
+use Rattle.mob_typed.{specs.declared.typed.ConstText.{ConstText}, specs.Statements.{ColumnList, StatementOut, nothing, new_rows, rows_from, deletion, query, plan_of}, specs.Written.{brackets_of}}
+use Rattle.mob_scope.{specs.declared.fault.Mistake.{Mistake}, specs.Names.{column_of, has_entry}}
+use Rattle.mob_expression.specs.Words.{type_named}
+use Rattle.mob_typing.{specs.Names.{NameLists, table_of}, specs.Statements.{Made, with_column, with_columns, made_table, made_index, inserted, good_delimiter, copied, keeping, typed_statement}}
+use Rattle.mob_typing.{specs.Stands.{operators_of}, specs.WellTyped.{IsTypedStatement, tables_behind, table_made, index_made}}
+use Rattle.mob_typing.{proofs.Walk.{GivesOrStops, gives, then, also, passes, finds, not_false, adds_none, Steps}, proofs.Apart.{name_last, none_named, entry_last}, proofs.Sound.{entry_stands}}
+use Rattle.mob_typing.{proofs.WalkedRows.{rows_walked}, proofs.WalkedSelects.{named, table_there, delete_walked, select_walked}}
+use Rattle.mob_grammar.{specs.Places.{IsWithin, nothing as none_within, same, tree_places, row_places, statement_places}, specs.Held.{string_held, column_held, row_held, statement_held}}
+use Rattle.mob_grammar.proofs.Within.{within_back}
 use Rattle.mob_ast.specs.declared.types.SqlType.TheVariants as sql
 use Rattle.mob_ast.specs.declared.refusal.Kind.TheVariants as kind
-use Rattle.mob_ast.specs.Trees.{RowParts, StatementParts, empty, create_table, create_index, insert, copy, delete, select, explain}
-use Rattle.mob_operators.specs.Lookup.{same_type}
-use Rattle.mob_operators.specs.Table.{is_one_of}
-use Rattle.mob_typed.specs.declared.typed.ConstText.{ConstText}
-use Rattle.mob_typed.specs.Statements.{ColumnList, StatementOut, nothing, new_rows, rows_from, deletion, query, plan_of}
-use Rattle.mob_typed.specs.Written.{brackets_of}
-use Rattle.mob_scope.specs.declared.fault.Mistake.{Mistake}
-use Rattle.mob_scope.specs.Names.{column_of, has_entry}
-use Rattle.mob_expression.specs.Words.{type_named}
-use Rattle.mob_typing.specs.Names.{NameLists, table_of}
-use Rattle.mob_typing.specs.Statements.{Made, with_column, with_columns, made_table, made_index, inserted, good_delimiter, copied, keeping, typed_statement}
-use Rattle.mob_typing.specs.Stands.{operators_of}
-use Rattle.mob_typing.specs.WellTyped.{IsTypedStatement, tables_behind, table_made, index_made}
-use Rattle.mob_grammar.specs.Places.{IsWithin, nothing as none_within, same, tree_places, row_places, statement_places}
-use Rattle.mob_grammar.specs.Held.{string_held, column_held, row_held, statement_held}
-use Rattle.mob_grammar.proofs.Within.{within_back}
-use Rattle.mob_typing.proofs.Walk.{GivesOrStops, gives, then, also, passes, finds, not_false, adds_none, Steps}
-use Rattle.mob_typing.proofs.Apart.{name_last, none_named, entry_last}
-use Rattle.mob_typing.proofs.Sound.{entry_stands}
-use Rattle.mob_typing.proofs.WalkedRows.{rows_walked}
-use Rattle.mob_typing.proofs.WalkedSelects.{named, table_there, delete_walked, select_walked}
 
 -- at most 64 columns, with distinct names
 record IsRoom (columns : ColumnList) : Type 0 where

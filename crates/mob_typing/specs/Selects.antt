@@ -1,17 +1,12 @@
 -- Names and types of a SELECT: first the tables of FROM, then the other clauses in written order.
 use Rattle.std.specs.Prelude.{ℕ, List, [], ◌∷◌, ◌++◌, Option, Some, None, Result, Ok, length, nat_le}
-use Rattle.mob_ast.specs.declared.types.Word.{Word}
-use Rattle.mob_ast.specs.declared.refusal.Kind.TheVariants as kind
-use Rattle.mob_ast.specs.Trees.{FromParts, SelectParts}
-use Rattle.mob_scope.specs.Answers.{◌>>=◌, unless, found}
-use Rattle.mob_scope.specs.declared.fault.Mistake.{Mistake}
-use Rattle.mob_expression.specs.Steps.{TypingStep}
-use Rattle.mob_typed.specs.Selects.{TypedSelectParts}
-use Rattle.mob_typed.specs.Statements.{ColumnList}
-use Rattle.mob_scope.specs.Names.{has_entry}
-use Rattle.mob_scope.specs.Scopes.{ScopeTableParts}
+use Rattle.mob_ast.{specs.declared.types.Word.{Word}, specs.Trees.{FromParts, SelectParts}}
+use Rattle.mob_scope.{specs.Answers.{◌>>=◌, unless, found}, specs.declared.fault.Mistake.{Mistake}, specs.Names.{has_entry}, specs.Scopes.{ScopeTableParts}}
+use Rattle.mob_expression.specs.Steps.{TypingTurn}
+use Rattle.mob_typed.{specs.Selects.{TypedSelectParts}, specs.Statements.{ColumnList}}
 use Rattle.mob_clauses.specs.Clauses.{typed_clauses}
 use Rattle.mob_typing.specs.Names.{table_of}
+use Rattle.mob_ast.specs.declared.refusal.Kind.TheVariants as kind
 
 -- The name or alias of a table in FROM. There are at most four tables, and their names are
 -- distinct. Mistakes are in the order of their places; at one place a taken name comes before the
@@ -39,5 +34,5 @@ from_tables tables from [] = Ok from
 from_tables tables from (f ∷ fs) = from_table tables from f.table f.alias >>= λ more. from_tables tables more fs
 
 -- The typed SELECT of the statement with this number, or the first mistake.
-abbrev pub typed_select : List (List ℕ × ColumnList) → ℕ → SelectParts → TypingStep TypedSelectParts
+abbrev pub typed_select : List (List ℕ × ColumnList) → ℕ → SelectParts → TypingTurn TypedSelectParts
 typed_select tables n s cs = from_tables tables [] s.from >>= λ from. typed_clauses (record { from = from; first = 0; statement = n }) s cs

@@ -1,19 +1,14 @@
 -- The places of typing: a refusal, and each operator and aggregate of a typed script, is at a place
 -- that the tree of its statement holds.
-use Rattle.std.specs.Prelude.{◌≡◌, ◌+◌, ◌++◌, ℕ, List, [], ◌∷◌, length, Option, Some, None, Ok, Err}
-use Rattle.std.specs.List.{AllByRecursion, Contains, flat_map}
-use Rattle.mob_ast.specs.declared.refusal.Refusal.{Refusal}
-use Rattle.mob_ast.specs.Trees.{StatementParts}
+use Rattle.std.{specs.Prelude.{◌≡◌, ◌+◌, ◌++◌, ℕ, List, [], ◌∷◌, length, Option, Some, None, Ok, Err}, specs.List.{AllByRecursion, Contains, flat_map}}
+use Rattle.mob_ast.{specs.declared.refusal.Refusal.{Refusal}, specs.Trees.{StatementParts}}
 use Rattle.mob_grammar.specs.Held.{statement_held}
-use Rattle.mob_typed.specs.declared.typed.Agg.{Agg}
-use Rattle.mob_typed.specs.Trees.{TypedTree, typed, TypedTrees, none, more}
-use Rattle.mob_typed.specs.Selects.{TypedSelectParts}
+use Rattle.mob_typed.{specs.declared.typed.Agg.{Agg}, specs.Trees.{TypedTree, typed, TypedTrees, none, more}, specs.Selects.{TypedSelectParts}}
 use Rattle.mob_typed.specs.Statements.{StatementOut, nothing, new_table, new_index, new_rows, rows_from, deletion, query, plan_of, ScriptOut}
-use Rattle.mob_typing.specs.Statements.{typed_script}
-use Rattle.mob_typing.specs.WellTyped.{expressions_of}
+use Rattle.mob_typing.{specs.Statements.{typed_script}, specs.WellTyped.{expressions_of}}
 
 -- the tree with this number, from 1, holds this place
-pub record IsHeldIn (trees : List StatementParts) (n place : ℕ) : Type 0 where
+pub record IsPlaceIn (trees : List StatementParts) (n place : ℕ) : Type 0 where
   pub front : List StatementParts
   pub own : StatementParts
   pub behind : List StatementParts
@@ -22,12 +17,12 @@ pub record IsHeldIn (trees : List StatementParts) (n place : ℕ) : Type 0 where
   pub held : Contains (statement_held own) place
 
 -- a refusal names the statement whose tree holds its place
-abbrev pub IsHeldRefusal : List StatementParts → Refusal → Type 0
-IsHeldRefusal trees e = IsHeldIn trees e.statement e.place
+abbrev pub IsPlacedRefusal : List StatementParts → Refusal → Type 0
+IsPlacedRefusal trees e = IsPlaceIn trees e.statement e.place
 
 -- each refusal of typing is at a place that the tree of its statement holds
-abbrev pub TypingRefusesWhatIsHeld : Type 0
-TypingRefusesWhatIsHeld = (trees : List StatementParts) (e : Refusal) → typed_script trees ≡ Err e → IsHeldRefusal trees e
+abbrev pub TypingRefusesAtPlaces : Type 0
+TypingRefusesAtPlaces = (trees : List StatementParts) (e : Refusal) → typed_script trees ≡ Err e → IsPlacedRefusal trees e
 
 -- the places of the operators of a typed expression, constants and columns included
 abbrev mutual
@@ -66,4 +61,4 @@ OperatorsStand At n (s ∷ ss) = AllByRecursion (At n) (operators_of s) × Opera
 -- each operator and each aggregate of a typed script is at a place that the tree of its statement
 -- holds
 abbrev pub TypingHoldsOperators : Type 0
-TypingHoldsOperators = (trees : List StatementParts) (out : ScriptOut) → typed_script trees ≡ Ok out → OperatorsStand (IsHeldIn trees) 1 out.statements
+TypingHoldsOperators = (trees : List StatementParts) (out : ScriptOut) → typed_script trees ≡ Ok out → OperatorsStand (IsPlaceIn trees) 1 out.statements

@@ -1,34 +1,19 @@
 -- Names and types of statements and whole scripts, statement by statement.
-use Rattle.std.specs.Prelude.{◌≡◌, ◌⊎◌, ◌==◌, not, ◌+◌, ℕ, List, [], ◌∷◌, ◌++◌, Option, Some, None, Result, Ok, Err, codes, length, map, nat_le, option_and_then}
-use Rattle.std.specs.Str.{bytes_eq}
-use Rattle.mob_ast.specs.declared.types.Word.{Word}
-use Rattle.mob_ast.specs.declared.types.Quoted.{Quoted}
-use Rattle.mob_ast.specs.declared.types.TypeWord.{TypeWord}
-use Rattle.mob_ast.specs.declared.types.SqlType.{SqlType}
+use Rattle.std.{specs.Prelude.{◌≡◌, ◌⊎◌, ◌==◌, not, ◌+◌, ℕ, List, [], ◌∷◌, ◌++◌, Option, Some, None, Result, Ok, Err, codes, length, map, nat_le, option_and_then}, specs.Str.{bytes_eq}}
+use Rattle.mob_ast.{specs.declared.types.Word.{Word}, specs.declared.types.Quoted.{Quoted}, specs.declared.types.TypeWord.{TypeWord}, specs.declared.types.SqlType.{SqlType}}
+use Rattle.mob_ast.{specs.declared.refusal.Refusal.{Refusal}, specs.declared.expression.Node.{Node}}
+use Rattle.mob_ast.{specs.Trees.{Tree, tree, Trees, RowParts, StatementParts, empty, create_table, create_index, insert, copy, delete, select, explain}, specs.Kinds.{no_memory}}
+use Rattle.mob_operators.{specs.Lookup.{same_type}, specs.Table.{is_one_of}}
+use Rattle.mob_typed.{specs.declared.typed.ConstText.{ConstText}, specs.declared.typed.TypedStatement.{TypedStatement}, specs.Selects.{TypedSelectParts}}
+use Rattle.mob_typed.specs.Statements.{ColumnList, StatementOut, nothing, new_table, new_index, new_rows, rows_from, deletion, query, plan_of, ScriptOut, statement_seen}
+use Rattle.mob_list.{specs.declared.fault.Fault.{Fault}, specs.declared.fault.Fault.TheVariants.{Because, NoMemory}}
+use Rattle.mob_scope.{specs.Answers.{refuse, ◌>>=◌, unless, found}, specs.declared.fault.Mistake.{Mistake}, specs.Names.{column_of, has_entry}}
+use Rattle.mob_expression.{specs.Steps.{TypingTurn, one_more}, specs.Words.{type_named, literal_type}, specs.Expressions.{next_constant, only, is_signed}}
+use Rattle.mob_typing.{specs.Names.{NameLists, table_of}, specs.Selects.{typed_select}}
+use Rattle.mob_clauses.specs.Clauses.{rows_to_go}
 use Rattle.mob_ast.specs.declared.types.SqlType.TheVariants as sql
 use Rattle.mob_ast.specs.declared.refusal.Kind.TheVariants as kind
-use Rattle.mob_ast.specs.declared.refusal.Refusal.{Refusal}
-use Rattle.mob_ast.specs.declared.expression.Node.{Node}
 use Rattle.mob_ast.specs.declared.expression.Node.TheVariants as node
-use Rattle.mob_ast.specs.Trees.{Tree, tree, Trees, RowParts, StatementParts, empty, create_table, create_index, insert, copy, delete, select, explain}
-use Rattle.mob_operators.specs.Lookup.{same_type}
-use Rattle.mob_typed.specs.declared.typed.ConstText.{ConstText}
-use Rattle.mob_typed.specs.declared.typed.TypedStatement.{TypedStatement}
-use Rattle.mob_typed.specs.Selects.{TypedSelectParts}
-use Rattle.mob_typed.specs.Statements.{ColumnList, StatementOut, nothing, new_table, new_index, new_rows, rows_from, deletion, query, plan_of, ScriptOut, statement_seen}
-use Rattle.mob_list.specs.declared.fault.Fault.{Fault}
-use Rattle.mob_list.specs.declared.fault.Fault.TheVariants.{Because, NoMemory}
-use Rattle.mob_ast.specs.Kinds.{no_memory}
-use Rattle.mob_scope.specs.Answers.{refuse, ◌>>=◌, unless, found}
-use Rattle.mob_scope.specs.declared.fault.Mistake.{Mistake}
-use Rattle.mob_expression.specs.Steps.{TypingStep, one_more}
-use Rattle.mob_typing.specs.Names.{NameLists, table_of}
-use Rattle.mob_scope.specs.Names.{column_of, has_entry}
-use Rattle.mob_operators.specs.Table.{is_one_of}
-use Rattle.mob_expression.specs.Words.{type_named, literal_type}
-use Rattle.mob_expression.specs.Expressions.{next_constant, only, is_signed}
-use Rattle.mob_clauses.specs.Clauses.{rows_to_go}
-use Rattle.mob_typing.specs.Selects.{typed_select}
 
 -- a new column: its name is new, there are at most 64 columns, and its type is known
 abbrev pub with_column : ColumnList → Word × TypeWord → Result ColumnList Mistake
@@ -72,7 +57,7 @@ made_index names name table column = do
   Ok (record { statement = new_index t.0 c.0 name.text; names = with_index names name.text })
 
 -- a constant of the statement with this number
-abbrev pub row_constant : ℕ → SqlType → List ℕ → ℕ → TypingStep (Option ℕ)
+abbrev pub row_constant : ℕ → SqlType → List ℕ → ℕ → TypingTurn (Option ℕ)
 row_constant n ty text p cs = next_constant n ty text p cs >>= λ r. Ok (Some r.0, r.1)
 
 -- the digits of a number and their place, if the node is a number
@@ -84,21 +69,21 @@ abbrev pub lone_number : Trees → Option (List ℕ × ℕ)
 lone_number ts = option_and_then number_digits (only ts)
 
 -- a number with a sign before it
-abbrev pub signed_value : ℕ → SqlType → List ℕ → ℕ → Option (List ℕ × ℕ) → TypingStep (Option ℕ)
+abbrev pub signed_value : ℕ → SqlType → List ℕ → ℕ → Option (List ℕ × ℕ) → TypingTurn (Option ℕ)
 signed_value n ty sign p None cs = refuse kind.NoSuchOperator p
 signed_value n ty sign p (Some d) cs = unless (not (is_signed sign)) kind.NoSuchOperator p >>= λ _. row_constant n ty (sign ++ d.0) d.1 cs
 
 -- TRUE or FALSE, which only a bool column takes
-abbrev pub bool_value : ℕ → SqlType → List ℕ → ℕ → TypingStep (Option ℕ)
+abbrev pub bool_value : ℕ → SqlType → List ℕ → ℕ → TypingTurn (Option ℕ)
 bool_value n ty text p cs = unless (not (same_type ty sql.Bool)) kind.NoSuchOperator p >>= λ _. row_constant n ty text p cs
 
 -- a typed string, whose type must be that of the column
-abbrev pub typed_value : ℕ → SqlType → TypeWord → List ℕ → ℕ → TypingStep (Option ℕ)
+abbrev pub typed_value : ℕ → SqlType → TypeWord → List ℕ → ℕ → TypingTurn (Option ℕ)
 typed_value n ty w text p cs = found kind.UnknownName w.name.place (literal_type w.name.text w.inner text) >>= λ own. unless (not (same_type own ty)) kind.NoSuchOperator p >>= λ _. row_constant n ty text p cs
 
 -- A value of a row, read as a value of the column's type: the number of its constant, or None for
 -- NULL.
-unfoldable pub node_value : ℕ → SqlType → Node → ℕ → Trees → TypingStep (Option ℕ)
+unfoldable pub node_value : ℕ → SqlType → Node → ℕ → Trees → TypingTurn (Option ℕ)
 node_value n ty node.Null p args cs = Ok (None, cs)
 node_value n ty node.True p args cs = bool_value n ty (codes "true") p cs
 node_value n ty node.False p args cs = bool_value n ty (codes "false") p cs
@@ -108,25 +93,25 @@ node_value n ty (node.Literal w s) p args cs = typed_value n ty w s p cs
 node_value n ty (node.Sign g) p args cs = signed_value n ty g p (lone_number args) cs
 node_value n ty _ p args cs = refuse kind.NoSuchOperator p
 
-abbrev pub tree_value : ℕ → SqlType → Tree → TypingStep (Option ℕ)
+abbrev pub tree_value : ℕ → SqlType → Tree → TypingTurn (Option ℕ)
 tree_value n ty (tree nd p args) cs = node_value n ty nd p args cs
 
 -- the values of a row, one for each column
-abbrev pub row_values : ℕ → ColumnList → List Tree → TypingStep (List (Option ℕ))
+abbrev pub row_values : ℕ → ColumnList → List Tree → TypingTurn (List (Option ℕ))
 row_values n [] ts cs = Ok ([], cs)
 row_values n (c ∷ columns) [] cs = Ok ([], cs)
 row_values n (c ∷ columns) (t ∷ ts) cs = one_more (tree_value n c.1 t) (row_values n columns ts) cs
 
 -- a row, which must have as many values as the table has columns
-abbrev pub typed_row : ℕ → ColumnList → RowParts → TypingStep (List (Option ℕ))
+abbrev pub typed_row : ℕ → ColumnList → RowParts → TypingTurn (List (Option ℕ))
 typed_row n columns r cs = unless (not (length r.values == length columns)) kind.BadCount r.place >>= λ _. row_values n columns r.values cs
 
 -- the rows, in order
-abbrev pub typed_rows : ℕ → ColumnList → List RowParts → TypingStep (List (List (Option ℕ)))
+abbrev pub typed_rows : ℕ → ColumnList → List RowParts → TypingTurn (List (List (Option ℕ)))
 typed_rows n columns [] cs = Ok ([], cs)
 typed_rows n columns (r ∷ rs) cs = one_more (typed_row n columns r) (typed_rows n columns rs) cs
 
-abbrev pub inserted : ℕ → NameLists → Word → List RowParts → TypingStep Made
+abbrev pub inserted : ℕ → NameLists → Word → List RowParts → TypingTurn Made
 inserted n names table rows cs = found kind.UnknownName table.place (table_of names.tables table.text) >>= λ t. typed_rows n t.1 rows cs >>= λ r.
     Ok (record { statement = new_rows t.0 r.0 (map (λ row. row.place) rows); names = names }, r.1)
 
@@ -146,7 +131,7 @@ abbrev pub asked : (TypedSelectParts → StatementOut) → NameLists → Result 
 asked form names r = r >>= λ s. Ok (record { statement = form s.0; names = names }, s.1)
 
 -- The typed statement with this number, and the names and constants after it; or the first mistake.
-unfoldable pub typed_statement : ℕ → NameLists → StatementParts → TypingStep Made
+unfoldable pub typed_statement : ℕ → NameLists → StatementParts → TypingTurn Made
 typed_statement n names empty cs = Ok (record { statement = nothing; names = names }, cs)
 typed_statement n names (create_table name columns) cs = keeping cs (made_table names name columns)
 typed_statement n names (create_index name table column) cs = keeping cs (made_index names name table column)

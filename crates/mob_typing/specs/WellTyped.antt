@@ -2,30 +2,18 @@
 -- needs, each operator has a row of the table for the types of its arguments, and names are
 -- distinct.
 use Rattle.std.specs.Prelude.{◌≡◌, ◌⊎◌, ◌≤◌, ◌<◌, ◌+◌, ◌^◌, ◌++◌, ℕ, List, [], ◌∷◌, Bool, true, false, Option, Some, None, Ok, IfSome, length, map, slice_get, option_map, option_and_then}
-use Rattle.std.specs.List.{AllByRecursion, AllZip, IsDistinct, flat_map}
-use Rattle.std.specs.Str.{bytes_eq}
-use Rattle.mob_ast.specs.declared.types.SqlType.{SqlType}
-use Rattle.mob_ast.specs.declared.types.SqlType.TheVariants as sql
-use Rattle.mob_ast.specs.Trees.{StatementParts}
-use Rattle.mob_operators.specs.declared.operator.Op.{Op}
-use Rattle.mob_operators.specs.declared.operator.Op.TheVariants as op
-use Rattle.mob_operators.specs.declared.operator.Form.{Form}
-use Rattle.mob_operators.specs.Lookup.{found_in}
-use Rattle.mob_operators.specs.Table.{table}
-use Rattle.mob_operators.specs.declared.aggregate.AggKind.TheVariants.{CountAll}
-use Rattle.mob_operators.specs.Aggregates.{aggregate_row}
-use Rattle.mob_typed.specs.declared.typed.ConstText.{ConstText}
-use Rattle.mob_typed.specs.Trees.{TypedTree, typed, TypedTrees, none, more, type_of, arg_types}
-use Rattle.mob_typed.specs.declared.typed.Agg.{Agg}
-use Rattle.mob_typed.specs.Named.{names_before, names_from}
-use Rattle.mob_typed.specs.Selects.{Output, TypedSelectParts, on_of}
+use Rattle.std.{specs.List.{AllByRecursion, AllZip, IsDistinct, flat_map}, specs.Str.{bytes_eq}}
+use Rattle.mob_ast.{specs.declared.types.SqlType.{SqlType}, specs.Trees.{StatementParts}}
+use Rattle.mob_operators.{specs.declared.operator.Op.{Op}, specs.declared.operator.Spelling.{Spelling}, specs.Lookup.{found_in}, specs.Table.{table}}
+use Rattle.mob_operators.{specs.declared.aggregate.AggKind.TheVariants.{CountAll}, specs.Aggregates.{aggregate_row}}
+use Rattle.mob_typed.{specs.declared.typed.ConstText.{ConstText}, specs.Trees.{TypedTree, typed, TypedTrees, none, more, type_of, arg_types}, specs.declared.typed.Agg.{Agg}}
+use Rattle.mob_typed.{specs.Named.{names_before, names_from}, specs.Selects.{Output, TypedSelectParts, on_of}}
 use Rattle.mob_typed.specs.Statements.{ColumnList, StatementOut, nothing, new_table, new_index, new_rows, rows_from, deletion, query, plan_of, ScriptOut}
-use Rattle.mob_expression.specs.Words.{number_type, is_zero}
-use Rattle.mob_expression.specs.Expressions.{can_cast_all}
-use Rattle.mob_clauses.specs.Conditions.{is_bool}
-use Rattle.mob_clauses.specs.Outputs.{ColumnNumbers, is_column}
-use Rattle.mob_clauses.specs.Keys.{is_key, value_type}
+use Rattle.mob_expression.{specs.Words.{number_type, is_zero}, specs.Expressions.{can_cast_all}}
+use Rattle.mob_clauses.{specs.Conditions.{is_bool}, specs.Outputs.{ColumnNumbers, is_column}, specs.Keys.{is_key, value_type}}
 use Rattle.mob_typing.specs.Statements.{typed_script}
+use Rattle.mob_ast.specs.declared.types.SqlType.TheVariants as sql
+use Rattle.mob_operators.specs.declared.operator.Op.TheVariants as op
 
 -- the type of the constant with this number
 abbrev pub constant_type : List ConstText → ℕ → Option SqlType
@@ -81,7 +69,7 @@ is_division _ = false
 -- The operator has a row of the table: for arguments of these types that row gives this operator
 -- and its type. A division also needs a divisor.
 pub record HasOperatorRow (consts : List ConstText) (o : Op) (ty : SqlType) (args : TypedTrees) : Type 0 where
-  pub form : Form
+  pub form : Spelling
   pub name : List ℕ
   pub row : found_in table form name (arg_types args) (is_division o) ≡ Some (o, ty)
   pub divisor : is_division o ≡ true → HasDivisor consts args

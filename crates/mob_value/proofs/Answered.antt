@@ -1,13 +1,9 @@
 -- The result of `answered` for an answer with which a formula may have overflowed.
-use Rattle.std.proofs.Common.{◌≡◌, Bool, List, Option, Result, Ok, Err, refl, sym, subst, true≢false}
-use Rattle.std.specs.Prelude.{MatchResult, IfOk, IfErr, IsOk}
-use Rattle.mob_slice.specs.Entries.{Entry, IsFirst, IsDecided}
+use Rattle.std.{specs.Prelude.{MatchResult, IfOk, IfErr, IsOk}, proofs.Common.{◌≡◌, Bool, List, Option, Result, Ok, Err, refl, sym, subst, true≢false}}
+use Rattle.mob_slice.{specs.Entries.{Entry, IsFirst, IsDecided}, specs.declared.formula.Formula.{Formula}}
 use Rattle.mob_list.specs.declared.fault.Fault.{Fault}
+use Rattle.mob_value.{specs.declared.value.Value.{Value}, specs.Truths.{known}, specs.Outcomes.{IsOutcome}}
 use Rattle.mob_list.specs.declared.fault.Fault.TheVariants as fault
-use Rattle.mob_value.specs.declared.value.Value.{Value}
-use Rattle.mob_value.specs.Truths.{known}
-use Rattle.mob_value.specs.Outcomes.{IsOutcome}
-use Rattle.mob_slice.specs.declared.formula.Formula.{Formula}
 
 -- x is the answer r as a value of SQL
 abbrev pub IsAnswered : Result (Option Bool) Formula → Result Value (Fault Formula) → Type 0

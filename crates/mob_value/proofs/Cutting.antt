@@ -1,6 +1,6 @@
 -- Cutting a list into the rows that it holds.
-use Rattle.std.proofs.Common.{◌≡◌, ◌∙◌, refl, ap, sym, arith, ℕ, zero, suc, ◌+◌, ◌-◌, ◌<◌, ◌≤◌, List, [], ◌∷◌, ◌++◌, length, length-drop, drop, drop-drop, get_or, take, take_all, Some, None, slice_get, slice_range}
-use Rattle.std.proofs.lemmas.List.{drop-append-le, take-append-le}
+use Rattle.std.proofs.Common.{◌≡◌, ◌∙◌, refl, ap, sym, arith, ℕ, zero, suc, ◌+◌, ◌-◌, ◌<◌, ◌≤◌, List, [], ◌∷◌, ◌++◌, length, length-drop, drop, drop-drop, get_or, take, take_all, Some, None}
+use Rattle.std.{proofs.Common.{slice_get, slice_range}, proofs.lemmas.List.{drop-append-le, take-append-le}}
 use Rattle.mob_value.specs.Cuts.{AreCuts, cut, start_at}
 
 pub cuts_rise : (start : ℕ) (ends : List ℕ) (end : ℕ) → AreCuts start ends end → start ≤ end

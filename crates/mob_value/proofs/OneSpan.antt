@@ -1,9 +1,7 @@
 -- The span set of one span.
 use Rattle.std.proofs.Common.{◌≡◌, true, List, [], ◌∷◌, ap, ◌∙◌}
 use Rattle.mob_ratio.specs.Ratio.{Ratio}
-use Rattle.mob_span.specs.Span.{SpanOf, has_instant}
-use Rattle.mob_span.specs.Sets.{in_some, IsSpanSet}
-use Rattle.mob_span.proofs.OneSet.{one_set}
+use Rattle.mob_span.{specs.Span.{SpanOf, has_instant}, specs.Sets.{in_some, IsSpanSet}, proofs.OneSet.{one_set}}
 
 -- a span that has an instant is a span set
 pub alone : (s : SpanOf) → has_instant s ≡ true → IsSpanSet (s ∷ [])

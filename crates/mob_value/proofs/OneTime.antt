@@ -1,8 +1,7 @@
 -- The instants of a test are one span set.
 use Rattle.std.proofs.Common.{◌≡◌, Bool, List, sym, ◌∙◌}
 use Rattle.mob_ratio.specs.Ratio.{Ratio}
-use Rattle.mob_span.specs.Span.{SpanOf}
-use Rattle.mob_span.proofs.OneSet.{one_set}
+use Rattle.mob_span.{specs.Span.{SpanOf}, proofs.OneSet.{one_set}}
 use Rattle.mob_value.specs.Sets.{AreInstantsOf}
 
 -- the instants of a test are one span set

@@ -1,37 +1,17 @@
 -- The box that covers the boxes of all slices is the box of the value.
-use Rattle.std.specs.Prelude.{◌≡◌, ◌≢◌, Bool, true, false, cond, refl, List, [], ◌∷◌, Option, Some, None, IfSome, MatchOption}
-use Rattle.std.proofs.lemmas.Bool.{and_from, false_from_ne_true}
-use Rattle.std.specs.Prelude.{ℕ, ◌+◌, ◌<◌, length}
-use Rattle.std.proofs.Common.{drop, get_or}
-use Rattle.std.proofs.lemmas.List.{drop_more}
-use Rattle.std.specs.List.{AllByRecursion}
-use Rattle.std.proofs.Common.{arith, ap, sym, ◌∙◌, subst}
-use Rattle.mob_ratio.specs.Ratio.{Ratio}
-use Rattle.mob_ratio.specs.Order.{before, up_to, smaller, greater}
-use Rattle.mob_ratio.specs.Line.{line_at}
-use Rattle.mob_ratio.proofs.Between.{within, start_below, end_below, start_above, end_above}
-use Rattle.mob_ratio.proofs.LineAt.{line_at-short}
-use Rattle.mob_ratio.proofs.Order.{before-back, smaller_left, smaller_right, greater_left, greater_right, up_to-trans, up_to-not-after}
-use Rattle.mob_span.specs.Span.{SpanOf, InSpan, has, has_instant}
-use Rattle.mob_span.specs.Neighbours.{is_inside}
-use Rattle.mob_span.proofs.Ends.{inside_exact}
-use Rattle.mob_span.proofs.Insides.{clear_has, inner_has}
-use Rattle.mob_span.proofs.Shared.{AreAllClear, all_after}
-use Rattle.mob_span.proofs.SpanLemmas.{has_exact, has_upto_lower, has_upto_upper, short_has}
+use Rattle.std.{specs.Prelude.{◌≡◌, ◌≢◌, Bool, true, false, cond, refl, List, [], ◌∷◌, Option, Some, None, IfSome, MatchOption, ℕ, ◌+◌, ◌<◌, length}, specs.List.{AllByRecursion}}
+use Rattle.std.{proofs.lemmas.Bool.{and_from, false_from_ne_true}, proofs.Common.{drop, get_or, arith, ap, sym, ◌∙◌, subst}, proofs.lemmas.List.{drop_more}}
+use Rattle.mob_ratio.{specs.Ratio.{Ratio}, specs.Order.{before, up_to, smaller, greater}, specs.Line.{line_at}, proofs.Between.{within, start_below, end_below, start_above, end_above}}
+use Rattle.mob_ratio.{proofs.LineAt.{line_at-short}, proofs.Order.{before-back, smaller_left, smaller_right, greater_left, greater_right, up_to-trans, up_to-not-after}}
+use Rattle.mob_span.{specs.Span.{SpanOf, InSpan, has, has_instant}, specs.Neighbours.{is_inside}, proofs.Ends.{inside_exact}, proofs.Insides.{clear_has, inner_has}}
+use Rattle.mob_span.{proofs.Shared.{AreAllClear, all_after}, proofs.SpanLemmas.{has_exact, has_upto_lower, has_upto_upper, short_has}}
 use Rattle.mob_plane.specs.declared.point.Point.{Point}
-use Rattle.mob_slice.specs.CourseOf.{plane_course}
-use Rattle.mob_slice.specs.Lines.{plane_value_of}
-use Rattle.mob_slice.specs.Slices.{value_at, IsSound, IsOrdered, IsNormal}
-use Rattle.mob_slice.specs.declared.line.PlaneLine.{PlaneLine}
-use Rattle.mob_slice.specs.declared.slice.Slice.{Slice}
-use Rattle.mob_slice.proofs.Orders.{ordered, ordered-clear}
-use Rattle.mob_stbox.specs.Areas.{InArea, area_over, area_between, is_area}
-use Rattle.mob_stbox.specs.Boxes.{BoxOf, InBox, is_box, is_whole, contains, lies_in, cover}
-use Rattle.mob_stbox.specs.declared.area.Area.{Area}
+use Rattle.mob_slice.{specs.CourseOf.{plane_course}, specs.Lines.{plane_value_of}, specs.Slices.{value_at, IsSound, IsRisingInTime, IsNormal}, specs.declared.line.PlaneLine.{PlaneLine}}
+use Rattle.mob_slice.{specs.declared.slice.Slice.{Slice}, proofs.Orders.{ordered, ordered-clear}}
+use Rattle.mob_stbox.{specs.Areas.{InArea, area_over, area_between, is_area}, specs.Boxes.{BoxOf, InBox, is_box, is_whole, contains, lies_in, cover}, specs.declared.area.Area.{Area}}
 use Rattle.mob_stbox.proofs.BoxLaws.{in_contained, contains_is, over_self, over_trans, cover_over_left, cover_over_right, cover_least, cover_whole, cover_is_box, one_box}
 use Rattle.mob_stbox.proofs.Sides.{four, all_four, in_area_exact, between_least, between_is_area}
-use Rattle.mob_value.specs.ValueBoxes.{HasPositions, IsBoxOf, HasBox, OnBox, slice_box, covered, value_box}
-use Rattle.mob_value.specs.declared.value.Value.{Value}
+use Rattle.mob_value.{specs.ValueBoxes.{HasPositions, IsBoxOf, HasBox, OnBox, slice_box, covered, value_box}, specs.declared.value.Value.{Value}}
 use Rattle.mob_value.specs.declared.value.Value.TheVariants.{Box, MovingPoint}
 
 abbrev start : PlaneLine → Point
@@ -176,7 +156,7 @@ rest_has s v d clear f t = by_test (has s.span t) refl (f t)
 own_has : (s : Slice PlaneLine) (v : List (Slice PlaneLine)) (d : BoxOf) → HasPositions (s ∷ v) d → (t : Ratio) → has s.span t ≡ true → InBox d t (there s t)
 own_has s v d f t h = subst (λ b. IfSome (cond b (Some (there s t)) (value_at plane_value_of v t)) (λ p. InBox d t p)) h (f t)
 
-all_least : (v : List (Slice PlaneLine)) (d : BoxOf) → IsOrdered start end v → HasPositions v d → AllByRecursion (λ s. contains d (slice_box s) ≡ true) v
+all_least : (v : List (Slice PlaneLine)) (d : BoxOf) → IsRisingInTime start end v → HasPositions v d → AllByRecursion (λ s. contains d (slice_box s) ≡ true) v
 all_least [] d o f = tt
 all_least (s ∷ v) d o f =
     let clear = all_after (λ (s : Slice PlaneLine). s.span) s v (ordered-clear start end (s ∷ v) o) in
@@ -191,7 +171,7 @@ pub is_box_of : (continues : PlaneLine → PlaneLine → Ratio → Ratio → Rat
 is_box_of continues [] first b normal e is = absurd (normal.some refl)
 is_box_of continues (s ∷ rest) first b normal e is =
     let all = s ∷ rest in
-    let o : IsOrdered start end all = ordered start end continues all normal.chained in
+    let o : IsRisingInTime start end all = ordered start end continues all normal.chained in
     let whole : IsBoxOf all (covered (slice_box s) all) = record {
       sound = covered_is_box (slice_box s) all (slice_whole s) (slice_is_box s o.0);
       whole = covered_whole (slice_box s) all (slice_whole s);

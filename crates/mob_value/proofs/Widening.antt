@@ -1,19 +1,10 @@
 -- A normal list of steps stays normal as constant lines, and keeps its values.
-use Rattle.std.specs.Prelude.{◌≡◌, ◌≢◌, Bool, false, cond, List, [], ◌∷◌, ◌++◌, map, Some, refl, ℕ, ◌≤◌, length}
-use Rattle.std.proofs.Common.{ap, sym, ◌∙◌, append-nil, drop, true≢false}
+use Rattle.std.{specs.Prelude.{◌≡◌, ◌≢◌, Bool, false, cond, List, [], ◌∷◌, ◌++◌, map, Some, refl, ℕ, ◌≤◌, length}, proofs.Common.{ap, sym, ◌∙◌, append-nil, drop, true≢false}}
 use Rattle.std.proofs.lemmas.List.{drop_all}
-use Rattle.mob_ratio.specs.Ratio.{Ratio}
-use Rattle.mob_ratio.specs.Order.{same}
-use Rattle.mob_ratio.proofs.Order.{same_exact}
-use Rattle.mob_ratio.proofs.LineAt.{line_at-level}
+use Rattle.mob_ratio.{specs.Ratio.{Ratio}, specs.Order.{same}, proofs.Order.{same_exact}, proofs.LineAt.{line_at-level}}
 use Rattle.mob_span.specs.Span.{has}
-use Rattle.mob_slice.specs.Lines.{line_value_of, line_continued}
-use Rattle.mob_slice.specs.Operands.{steady_value, steady_limit}
-use Rattle.mob_slice.specs.Slices.{OfHead, IsNormalPair, AreNormal, IsNormal, value_at}
-use Rattle.mob_slice.specs.declared.line.Line.{Line}
-use Rattle.mob_slice.specs.declared.slice.Slice.{Slice}
-use Rattle.mob_slice.specs.declared.steady.Steady.{Steady}
-use Rattle.mob_slice.proofs.Straight.{two_lines}
+use Rattle.mob_slice.{specs.Lines.{line_value_of, line_continued}, specs.Operands.{steady_value, steady_limit}, specs.Slices.{OfHead, IsNormalPair, AreNormal, IsNormal, value_at}}
+use Rattle.mob_slice.{specs.declared.line.Line.{Line}, specs.declared.slice.Slice.{Slice}, specs.declared.steady.Steady.{Steady}, proofs.Straight.{two_lines}}
 use Rattle.mob_value.specs.Lines.{level_line}
 
 -- two steps continue as one if their values are equal

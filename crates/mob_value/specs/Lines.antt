@@ -1,13 +1,8 @@
 -- A tint as linear values. With a tfrac or a numeric it is the tfrac of the same values.
 use Rattle.std.specs.Prelude.{map, Option, ◌≡◌}
 use Rattle.mob_ratio.specs.Ratio.{Ratio}
-use Rattle.mob_slice.specs.CourseOf.{line_course}
-use Rattle.mob_slice.specs.declared.line.Line.{Line}
-use Rattle.mob_slice.specs.declared.slice.Slice.{Slice}
-use Rattle.mob_slice.specs.declared.steady.Steady.{Steady}
-use Rattle.mob_value.specs.declared.value.Value.{Value}
-use Rattle.mob_value.specs.declared.value.Value.TheVariants.{MovingInt, MovingFrac, Null}
-use Rattle.mob_value.specs.Pairs.{LineOperand, frac_pair}
+use Rattle.mob_slice.{specs.CourseOf.{line_course}, specs.declared.line.Line.{Line}, specs.declared.slice.Slice.{Slice}, specs.declared.steady.Steady.{Steady}}
+use Rattle.mob_value.{specs.declared.value.Value.{Value}, specs.declared.value.Value.TheVariants.{MovingInt, MovingFrac, Null}, specs.Pairs.{LineOperand, frac_pair}}
 use Rattle.mob_value.specs.Moving.{IsFunction, step_function}
 
 -- the slice on the span of a step that is constant at its value

@@ -2,27 +2,20 @@
 use Rattle.std.specs.Prelude.{◌≡◌, List, Option, Some, None, MatchOption}
 use Rattle.mob_ratio.specs.Ratio.{Ratio}
 use Rattle.mob_plane.specs.declared.point.Point.{Point}
-use Rattle.mob_slice.specs.CourseOf.{CourseOf}
-use Rattle.mob_slice.specs.Lines.{line_value_of, plane_value_of}
-use Rattle.mob_slice.specs.Operands.{steady_value}
-use Rattle.mob_slice.specs.Slices.{value_at, IsNormal}
-use Rattle.mob_slice.specs.declared.line.Line.{Line}
-use Rattle.mob_slice.specs.declared.line.PlaneLine.{PlaneLine}
-use Rattle.mob_slice.specs.declared.slice.Slice.{Slice}
-use Rattle.mob_slice.specs.declared.steady.Steady.{Steady}
-use Rattle.mob_value.specs.declared.value.Value.{Value}
-use Rattle.mob_value.specs.declared.value.Value.TheVariants.{Null}
+use Rattle.mob_slice.{specs.CourseOf.{CourseOf}, specs.Lines.{line_value_of, plane_value_of}, specs.Operands.{steady_value}, specs.Slices.{value_at, IsNormal}, specs.declared.line.Line.{Line}}
+use Rattle.mob_slice.{specs.declared.line.PlaneLine.{PlaneLine}, specs.declared.slice.Slice.{Slice}, specs.declared.steady.Steady.{Steady}}
+use Rattle.mob_value.{specs.declared.value.Value.{Value}, specs.declared.value.Value.TheVariants.{Null}}
 
 -- a list of slices that change in steps
-abbrev pub StepSlices : Type 0 → Type 0
-StepSlices B = List (Slice (Steady B))
+abbrev pub SteadySlices : Type 0 → Type 0
+SteadySlices B = List (Slice (Steady B))
 
 -- the value at each instant, if there is one
 abbrev pub OverTime : Type 0 → Type 0
 OverTime B = Ratio → Option B
 
 -- temporal values as functions of time
-abbrev pub step_function : {B : Type 0} → StepSlices B → OverTime B
+abbrev pub step_function : {B : Type 0} → SteadySlices B → OverTime B
 step_function slices t = value_at steady_value slices t
 
 abbrev pub line_function : List (Slice Line) → OverTime Ratio

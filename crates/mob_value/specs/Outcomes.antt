@@ -1,8 +1,7 @@
 -- The outcome of an operator.
 use Rattle.std.specs.Prelude.{Option, Some, None, Result, MatchResult}
-use Rattle.mob_list.specs.Faults.{OnCause}
+use Rattle.mob_list.{specs.Faults.{OnCause}, specs.declared.fault.Fault.{Fault}}
 use Rattle.mob_slice.specs.declared.formula.Formula.{Formula}
-use Rattle.mob_list.specs.declared.fault.Fault.{Fault}
 
 -- A value with P if every part of every formula fits, else the formula of the first part that does
 -- not. `first` holds of that formula, or of None if all fit. Nothing is asked of out of memory.

@@ -1,18 +1,11 @@
 -- Two operands of an operator at each instant, at least one of which is temporal.
-use Rattle.std.specs.Prelude.{◌≡◌, Bool, ℕ, List, [], Option, Some, None, MatchOption}
-use Rattle.std.specs.List.{flat_map}
+use Rattle.std.{specs.Prelude.{◌≡◌, Bool, ℕ, List, [], Option, Some, None, MatchOption}, specs.List.{flat_map}}
 use Rattle.mob_ratio.specs.Ratio.{Ratio}
 use Rattle.mob_span.specs.Meets.{PieceOf}
-use Rattle.mob_slice.specs.Operands.{steady_value}
-use Rattle.mob_slice.specs.Entries.{Entry}
-use Rattle.mob_slice.specs.Sides.{SideOf, OperandOf, Slices, Base, operand_of, given_at, pieces}
-use Rattle.mob_slice.specs.declared.steady.Steady.{Steady}
-use Rattle.mob_slice.specs.declared.operand.Operand.{Operand}
+use Rattle.mob_slice.{specs.Operands.{steady_value}, specs.Entries.{Entry}, specs.Sides.{SideOf, OperandOf, Slices, Base, operand_of, given_at, pieces}, specs.declared.steady.Steady.{Steady}}
+use Rattle.mob_slice.{specs.declared.operand.Operand.{Operand}, specs.declared.line.Line.{Line}, specs.declared.line.PlaneLine.{PlaneLine}}
 use Rattle.mob_plane.specs.declared.point.Point.{Point as PointOf}
-use Rattle.mob_slice.specs.declared.line.Line.{Line}
-use Rattle.mob_slice.specs.declared.line.PlaneLine.{PlaneLine}
-use Rattle.mob_value.specs.declared.value.Value.{Value}
-use Rattle.mob_value.specs.declared.value.Value.TheVariants.{Null, Bool as Truth, Number, Text, MovingBool, MovingInt, MovingText, Point, MovingFrac, MovingPoint}
+use Rattle.mob_value.{specs.declared.value.Value.{Value}, specs.declared.value.Value.TheVariants.{Null, Bool as Truth, Number, Text, MovingBool, MovingInt, MovingText, Point, MovingFrac, MovingPoint}}
 use Rattle.mob_value.specs.Moving.{OverTime}
 
 -- an operand that changes in steps: the slices of a temporal value, or a base value

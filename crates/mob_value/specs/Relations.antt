@@ -1,10 +1,9 @@
 -- The ordinary comparisons of base values, by the sign that asks for one.
 use Rattle.std.specs.Prelude.{Bool, List, ℕ}
 use Rattle.mob_ast.specs.declared.types.Cmp.{Cmp}
+use Rattle.mob_slice.{specs.declared.comparison.Rel.{Rel}, specs.Ranks.{holds, compare_bytes, compare_bool}}
 use Rattle.mob_ast.specs.declared.types.Cmp.TheVariants as cmp
-use Rattle.mob_slice.specs.declared.comparison.Rel.{Rel}
 use Rattle.mob_slice.specs.declared.comparison.Rel.TheVariants as rel
-use Rattle.mob_slice.specs.Ranks.{holds, compare_bytes, compare_bool}
 
 abbrev pub rel_of : Cmp → Rel
 rel_of cmp.Eq = rel.Eq

@@ -1,8 +1,7 @@
 -- Truth values as values of SQL.
 use Rattle.std.specs.Prelude.{◌≡◌, ◌↔◌, Bool, IsTrue, Option, Some, None}
 use Rattle.mob_span.specs.Flags.{same_bool}
-use Rattle.mob_value.specs.declared.value.Value.{Value}
-use Rattle.mob_value.specs.declared.value.Value.TheVariants.{Null, Bool as Truth}
+use Rattle.mob_value.{specs.declared.value.Value.{Value}, specs.declared.value.Value.TheVariants.{Null, Bool as Truth}}
 
 -- a truth value, or NULL if there is none
 abbrev pub known : Option Bool → Value

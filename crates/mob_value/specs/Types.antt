@@ -1,8 +1,8 @@
 -- The values of each type, by their variants.
 use Rattle.std.specs.Prelude.{Bool, true, false, cond}
 use Rattle.mob_ast.specs.declared.types.SqlType.{SqlType}
-use Rattle.mob_ast.specs.declared.types.SqlType.TheVariants as sql
 use Rattle.mob_value.specs.declared.value.Value.{Value}
+use Rattle.mob_ast.specs.declared.types.SqlType.TheVariants as sql
 use Rattle.mob_value.specs.declared.value.Value.TheVariants as value
 
 -- Whether a value is one of a type. NULL is a value of every type, and a number is one of int and

@@ -1,14 +1,9 @@
 -- The bounding boxes of values.
 use Rattle.std.specs.Prelude.{◌≡◌, true, List, [], ◌∷◌, Some, None, IfSome}
 use Rattle.mob_ratio.specs.Ratio.{Ratio}
-use Rattle.mob_slice.specs.Lines.{plane_value_of}
-use Rattle.mob_slice.specs.Slices.{value_at}
-use Rattle.mob_slice.specs.declared.line.PlaneLine.{PlaneLine}
-use Rattle.mob_slice.specs.declared.slice.Slice.{Slice}
-use Rattle.mob_stbox.specs.Areas.{area_between}
-use Rattle.mob_stbox.specs.Boxes.{BoxOf, InBox, BoxContains, is_box, is_whole, cover}
-use Rattle.mob_value.specs.declared.value.Value.{Value}
-use Rattle.mob_value.specs.declared.value.Value.TheVariants.{Box, MovingPoint}
+use Rattle.mob_slice.{specs.Lines.{plane_value_of}, specs.Slices.{value_at}, specs.declared.line.PlaneLine.{PlaneLine}, specs.declared.slice.Slice.{Slice}}
+use Rattle.mob_stbox.{specs.Areas.{area_between}, specs.Boxes.{BoxOf, InBox, BoxContains, is_box, is_whole, cover}}
+use Rattle.mob_value.{specs.declared.value.Value.{Value}, specs.declared.value.Value.TheVariants.{Box, MovingPoint}}
 
 -- at each instant at which the value is defined, the box contains its position
 abbrev pub HasPositions : List (Slice PlaneLine) → BoxOf → Type 0

@@ -6,11 +6,11 @@ use crate::together::is_printed;
 use mob_arith::{times_const, times_step};
 use mob_ast::SqlType;
 use mob_frac::Frac;
+use mob_lift::walks::{Common, Ones};
 use mob_list::fault::Fault;
 use mob_literal::read_value;
 use mob_scalar::Epoch;
 use mob_slice::{Formula, Line, Moving, Steady};
-use mob_sync::{Common, Ones};
 use mob_value::Value;
 use std::alloc::Global;
 

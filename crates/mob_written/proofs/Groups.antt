@@ -1,15 +1,12 @@
 -- The groups of slices, written from left to right.
-use Rattle.std.proofs.Common.{◌≡◌, ℕ, ◌≤◌, length, drop, List, [], ◌∷◌, ◌++◌, map, codes, Bool, true, false, cond, refl, sym, ap, ◌∙◌, append_assoc, append-nil, arith}
-use Rattle.std.specs.Prelude.{◌≢◌}
+use Rattle.std.{specs.Prelude.{◌≢◌}, proofs.Common.{◌≡◌, ℕ, ◌≤◌, length, drop, List, [], ◌∷◌, ◌++◌, map, codes, Bool, true, false, cond, refl, sym, ap, ◌∙◌, append_assoc, append-nil, arith}}
 use Rattle.std.proofs.lemmas.List.{drop_all}
 use Rattle.mob_language.specs.Language.{Text}
-use Rattle.mob_slice.specs.declared.slice.Slice.{Slice}
-use Rattle.mob_slice.specs.CourseOf.{CourseOf}
+use Rattle.mob_slice.{specs.declared.slice.Slice.{Slice}, specs.CourseOf.{CourseOf}}
 use Rattle.mob_written.specs.Neighbours.{all_neighbours}
-use Rattle.mob_scalar.specs.Brackets.{with_commas, in_braces}
 use Rattle.mob_written.specs.Printed.{Style, is_long, shares_group, start_text, end_text, opening_text, closing_text, instants_of, group_text, neighbour_groups, put_in_group, groups_text}
-use Rattle.mob_written.specs.FromLeft.{end_part, text_behind, all_share_group, is_one_group}
-use Rattle.mob_written.proofs.Small.{false_true, cons_nil}
+use Rattle.mob_written.{specs.FromLeft.{end_part, text_behind, all_share_group, is_one_group}, proofs.Small.{false_true, cons_nil}}
+use Rattle.mob_scalar.specs.Brackets.{with_commas, in_braces}
 
 -- a group without its opening bracket
 inside : {C B : Type 0} → Style C B → List (Slice C) → Text

@@ -1,23 +1,18 @@
 -- The readers of temporal literals accept exactly their texts, given an exact reader of values.
-use Rattle.std.proofs.Common.{◌≡◌, ℕ, ℤ, [], ◌∷◌, ◌++◌, map, Bool, false, List, Option, Some, None, refl, sym, ap, subst, ◌∙◌, append_assoc, rules}
-use Rattle.std.specs.Prelude.{◌&&◌, ◌||◌, not, nat_eq}
-use Rattle.mob_language.specs.Language.{Text, Language, ◌∣◌, Means, Separated, blanks, is_blank, in_middle}
-use Rattle.mob_language.specs.Readers.{TextReader, ◌>>=◌, means_at, separated_at, items_at}
+use Rattle.std.{specs.Prelude.{◌&&◌, ◌||◌, not, nat_eq}, proofs.Common.{◌≡◌, ℕ, ℤ, [], ◌∷◌, ◌++◌, map, Bool, false, List, Option, Some, None, refl, sym, ap, subst, ◌∙◌, append_assoc, rules}}
+use Rattle.mob_language.{specs.Language.{Text, Language, ◌∣◌, Means, Separated, blanks, is_blank, in_middle}, specs.Readers.{TextReader, ◌>>=◌, means_at, separated_at, items_at}}
 use Rattle.mob_language.proofs.Exact.{Exact, Stops, Any, bind_some, then_exact, or_exact, means_exact, regrouped}
-use Rattle.mob_language.proofs.Heads.{NoHead, Apart, HasByte, byte_stops, means_head, or_head, then_byte, means_byte, or_byte, then_byte_stops, word_then_head, one_then_head, byte_head, one_byte, word_byte, spaced_exact, IsEnd, within_exact}
-use Rattle.mob_language.proofs.Lists.{separated_exact}
-use Rattle.mob_scalar.proofs.MomentExact.{Closes, moment_exact}
+use Rattle.mob_language.proofs.Heads.{NoHead, Apart, HasByte, byte_stops, means_head, or_head, then_byte, means_byte, or_byte, then_byte_stops, word_then_head, one_then_head, byte_head, one_byte}
+use Rattle.mob_language.{proofs.Heads.{word_byte, spaced_exact, IsEnd, within_exact}, proofs.Lists.{separated_exact}}
+use Rattle.mob_scalar.{specs.Brackets.{comma, is_open, closing, opening_at, open_brace_at}, proofs.MomentExact.{Closes, moment_exact}, proofs.WholeTexts.{moment_blank, moment_byte, blanks_close}}
+use Rattle.mob_scalar.proofs.BracketsExact.{comma_exact, opening_exact, closing_exact, comma_byte, head_less, list_head, list_byte, ListEnds, comma_closes, closing_ends, open_brace_exact}
+use Rattle.mob_scalar.proofs.BracketsExact.{close_brace_exact, close_brace_ends, NoComma}
 use Rattle.mob_numeral.proofs.WholeTexts.{back_nil}
-use Rattle.mob_scalar.proofs.WholeTexts.{moment_blank, moment_byte, blanks_close}
-use Rattle.mob_scalar.specs.Brackets.{comma, is_open, closing, opening_at, open_brace_at}
-use Rattle.mob_scalar.proofs.BracketsExact.{comma_exact, opening_exact, closing_exact, comma_byte, head_less, list_head, list_byte, ListEnds, comma_closes, closing_ends, open_brace_exact, close_brace_exact, close_brace_ends, NoComma}
-use Rattle.mob_written.specs.Literal.{at_sign, noted_of, noted, sequence_of, sequence, alone, members, braced, one_sequence, one_instant, literal, Prefixed, temporal, at_sign_at, noted_at, instants_at, sequence_at, sequences_at, members_at, braced_at, temporal_literal_at, with_sequences, prefixed_at, temporal_at}
-use Rattle.mob_written.specs.declared.written.Prefixes.{Prefixes}
-use Rattle.mob_written.specs.declared.written.Sequence.{Sequence}
-use Rattle.mob_written.specs.declared.written.Literal.{Literal}
-use Rattle.mob_written.specs.Prefix.{remaining, says_step, begins_prefix, prefixes_at}
+use Rattle.mob_written.specs.Literal.{at_sign, noted_of, noted, sequence_of, sequence, alone, set_members, braced, one_sequence, one_instant, literal, Prefixed, temporal, at_sign_at, noted_at}
+use Rattle.mob_written.specs.Literal.{instants_at, sequence_at, sequences_at, members_at, braced_at, temporal_literal_at, with_sequences, prefixed_at, temporal_at}
+use Rattle.mob_written.{specs.declared.written.Prefixes.{Prefixes}, specs.declared.written.Sequence.{Sequence}, specs.declared.written.Literal.{Literal}}
+use Rattle.mob_written.{specs.Prefix.{remaining, says_step, begins_prefix, prefixes_at}, specs.ValueText.{IsValueText, begins_no_value}}
 use Rattle.mob_written.proofs.Prefixes.{pair_is, prefixes_stop, prefixes_read, prefixes_sound, step_said}
-use Rattle.mob_written.specs.ValueText.{IsValueText, begins_no_value}
 
 at_exact : Exact at_sign at_sign_at (Stops is_blank)
 unfolding at_sign_at
@@ -104,19 +99,19 @@ no_sequences : {A : Type 0} (reader : TextReader A) (text : Text) → Stops is_o
 unfolding sequences_at separated_at items_at
 no_sequences reader text h = rw (no_sequence reader text h) refl
 
-pub members_exact : {A : Type 0} {entry : Language A} {reader : TextReader A} → IsEntry entry reader → Exact (members entry) (members_at reader) (λ rest. NoComma rest × ListEnds rest)
+pub members_exact : {A : Type 0} {entry : Language A} {reader : TextReader A} → IsEntry entry reader → Exact (set_members entry) (members_at reader) (λ rest. NoComma rest × ListEnds rest)
 unfolding members_at
 members_exact {A} {entry} {reader} e = or_exact (sequences_exact e) (means_exact (map alone) (instants_exact e))
     (λ text rest v said after. no_sequences reader (text ++ rest) (byte_stops is_open text rest
     (list_head entry comma is_open (head_less mark_open e.well_begun) e.has_byte text said.meant said.said)
     (list_byte entry comma e.has_byte text said.meant said.said)))
 
-members_head : {A : Type 0} {entry : Language A} {reader : TextReader A} → IsEntry entry reader → NoHead (members entry) is_blank
+members_head : {A : Type 0} {entry : Language A} {reader : TextReader A} → IsEntry entry reader → NoHead (set_members entry) is_blank
 members_head {entry = entry} e = or_head
     (list_head (sequence entry) comma is_blank (head_less other_blank (sequence_head entry)) (sequence_byte entry))
     (means_head (list_head entry comma is_blank (head_less mark_blank e.well_begun) e.has_byte))
 
-members_byte : {A : Type 0} {entry : Language A} {reader : TextReader A} → IsEntry entry reader → HasByte (members entry)
+members_byte : {A : Type 0} {entry : Language A} {reader : TextReader A} → IsEntry entry reader → HasByte (set_members entry)
 members_byte {entry = entry} e = or_byte (list_byte (sequence entry) comma (sequence_byte entry)) (means_byte (map alone) (list_byte entry comma e.has_byte))
 
 pub braced_exact : {A : Type 0} {entry : Language A} {reader : TextReader A} → IsEntry entry reader → Exact (braced entry) (braced_at reader) Any

@@ -1,13 +1,11 @@
 -- The reader of prefixes accepts exactly the admitted prefixes.
+use Rattle.std.{specs.Prelude.{◌&&◌, not, nat_eq}, specs.Char.{to_ascii_lowercase}}
 use Rattle.std.proofs.Common.{◌≡◌, ℕ, List, [], ◌∷◌, ◌++◌, Bool, true, false, cond, Option, Some, None, refl, sym, ap, subst, ◌∙◌, append_assoc, append-nil, rules, inl, inr, ◌⊎◌}
-use Rattle.std.specs.Prelude.{◌&&◌, not, nat_eq}
-use Rattle.std.specs.Char.{to_ascii_lowercase}
 use Rattle.std.proofs.lemmas.Bool.{or_parts, and_parts, and_right}
-use Rattle.mob_language.specs.Language.{Text, AnyCase, is_blank}
-use Rattle.mob_language.proofs.Exact.{Exact, Stops, bind_some, some_is, any_case_exact}
-use Rattle.mob_language.proofs.Heads.{after_any, spaced_exact}
+use Rattle.mob_language.{specs.Language.{Text, AnyCase, is_blank}, proofs.Exact.{Exact, Stops, bind_some, some_is, any_case_exact}, proofs.Heads.{after_any, spaced_exact}}
 use Rattle.mob_written.specs.declared.written.Prefixes.{Prefixes}
-use Rattle.mob_written.specs.Prefix.{Prefix, interpolation, reference, prefix_word, prefix_of, admits, without, remaining, ArePrefixes, says_step, is_first, begins_prefix, prefix_at, with_left, one_prefix_at, prefixes_at}
+use Rattle.mob_written.specs.Prefix.{Prefix, interpolation, reference, prefix_word, prefix_of, admits, without_text, remaining, ArePrefixes, says_step, is_first, begins_prefix, prefix_at, with_left}
+use Rattle.mob_written.specs.Prefix.{one_prefix_at, prefixes_at}
 
 prefix_exact : (p : Prefix) → Exact (prefix_of p) (prefix_at p) (Stops is_blank)
 unfolding prefix_at
@@ -61,19 +59,19 @@ first_is letter admitted c e h k = rw (e, k, h) refl
 other_is : (a : Bool) (c : ℕ) → to_ascii_lowercase c ≡ 115 → is_first 105 a c ≡ false
 other_is a c e = rw e refl
 
-read_as : (a : Prefixes) (p : Prefix) (c : ℕ) (cs : Text) → to_ascii_lowercase c ≡ letter_of p → admits a p ≡ true → one_prefix_at a (c ∷ cs) ≡ with_left (without p a) (prefix_at p (c ∷ cs))
+read_as : (a : Prefixes) (p : Prefix) (c : ℕ) (cs : Text) → to_ascii_lowercase c ≡ letter_of p → admits a p ≡ true → one_prefix_at a (c ∷ cs) ≡ with_left (without_text p a) (prefix_at p (c ∷ cs))
 unfolding one_prefix_at letter_of
 read_as a interpolation c cs e h = rw (first_is 105 a.step c e h refl) refl
 read_as a reference c cs e h = rw (other_is a.step c e, first_is 115 a.srid c e h refl) refl
 
-one_read : (a : Prefixes) (p : Prefix) (text rest : Text) → admits a p ≡ true → prefix_of p text (tt, tt) → Stops is_blank rest → one_prefix_at a (text ++ rest) ≡ Some (without p a, rest)
+one_read : (a : Prefixes) (p : Prefix) (text rest : Text) → admits a p ≡ true → prefix_of p text (tt, tt) → Stops is_blank rest → one_prefix_at a (text ++ rest) ≡ Some (without_text p a, rest)
 one_read a p text rest h said after =
     let l = lettered p text (tt, tt) said in
     let is : text ++ rest ≡ l.first ∷ (l.rest ++ rest) = ap (λ (t : Text). t ++ rest) l.is in
     ap (one_prefix_at a) is
     ∙ read_as a p l.first (l.rest ++ rest) l.letter h
-    ∙ ap (λ (t : Text). with_left (without p a) (prefix_at p t)) (sym is)
-    ∙ ap (with_left (without p a)) ((prefix_exact p).complete text rest (tt, tt) said after)
+    ∙ ap (λ (t : Text). with_left (without_text p a) (prefix_at p t)) (sym is)
+    ∙ ap (with_left (without_text p a)) ((prefix_exact p).complete text rest (tt, tt) said after)
 
 one_none : (a : Prefixes) (rest : Text) → Stops (begins_prefix a) rest → one_prefix_at a rest ≡ Some (a, rest)
 unfolding one_prefix_at
@@ -89,7 +87,7 @@ record IsOne (a : Prefixes) (text : Text) (b : Prefixes) (rest : Text) : Type 0 
   whole : text ≡ front ++ rest
   admitted : admits a by ≡ true
   said : prefix_of by front (tt, tt)
-  left : b ≡ without by a
+  left : b ≡ without_text by a
 
 record IsNone (a : Prefixes) (text : Text) (b : Prefixes) (rest : Text) : Type 0 where
   stops : Stops (begins_prefix a) text
@@ -101,13 +99,13 @@ pair_is {A} {B} x y z w e =
     let p = some_is (x, z) (y, w) e in
     (ap (λ (t : A × B). t.0) p, ap (λ (t : A × B). t.1) p)
 
-taken : (a : Prefixes) (p : Prefix) (text : Text) (b : Prefixes) (rest : Text) → admits a p ≡ true → with_left (without p a) (prefix_at p text) ≡ Some (b, rest) → IsOne a text b rest
+taken : (a : Prefixes) (p : Prefix) (text : Text) (b : Prefixes) (rest : Text) → admits a p ≡ true → with_left (without_text p a) (prefix_at p text) ≡ Some (b, rest) → IsOne a text b rest
 taken a p text b rest h e = by_read (prefix_at p text) refl e
   where
-    by_read : (o : Option ((Unit {0} × Unit {0}) × Text)) → prefix_at p text ≡ o → with_left (without p a) o ≡ Some (b, rest) → IsOne a text b rest
+    by_read : (o : Option ((Unit {0} × Unit {0}) × Text)) → prefix_at p text ≡ o → with_left (without_text p a) o ≡ Some (b, rest) → IsOne a text b rest
     by_read None k e = absurd cc
     by_read (Some x) k e =
-        let is = pair_is (without p a) b x.1 rest e in
+        let is = pair_is (without_text p a) b x.1 rest e in
         let r = (prefix_exact p).sound text rest x.0 (k ∙ ap (λ (t : Text). Some (x.0, t)) is.1) in
         record { by = p; front = r.front; whole = r.whole; admitted = h; said = r.said; left = sym is.0 }
 
@@ -116,7 +114,7 @@ unfolding one_prefix_at
 one_sound a [] b rest e = let is = pair_is a b [] rest e in inl (record { stops = tt; same = sym is.0; rest_is = sym is.1 })
 one_sound a (c ∷ cs) b rest e = by_first (is_first 105 a.step c) (is_first 115 a.srid c) refl refl e
   where
-    by_first : (i s : Bool) → is_first 105 a.step c ≡ i → is_first 115 a.srid c ≡ s → cond i (with_left (without interpolation a) (prefix_at interpolation (c ∷ cs))) (cond s (with_left (without reference a) (prefix_at reference (c ∷ cs))) (Some (a, c ∷ cs))) ≡ Some (b, rest) → IsNone a (c ∷ cs) b rest ⊎ IsOne a (c ∷ cs) b rest
+    by_first : (i s : Bool) → is_first 105 a.step c ≡ i → is_first 115 a.srid c ≡ s → cond i (with_left (without_text interpolation a) (prefix_at interpolation (c ∷ cs))) (cond s (with_left (without_text reference a) (prefix_at reference (c ∷ cs))) (Some (a, c ∷ cs))) ≡ Some (b, rest) → IsNone a (c ∷ cs) b rest ⊎ IsOne a (c ∷ cs) b rest
     by_first true s h k e = inr (taken a interpolation (c ∷ cs) b rest (and_parts (nat_eq (to_ascii_lowercase c) 105) a.step h).1 e)
     by_first false true h k e = inr (taken a reference (c ∷ cs) b rest (and_parts (nat_eq (to_ascii_lowercase c) 115) a.srid k).1 e)
     by_first false false h k e = let is = pair_is a b (c ∷ cs) rest e in inl (record { stops = rw (h, k) refl; same = sym is.0; rest_is = sym is.1 })
@@ -131,7 +129,7 @@ none_begins : (rest : Text) → Stops (begins_prefix none_left) rest
 none_begins [] = tt
 none_begins (c ∷ cs) = rw (and_right (nat_eq (to_ascii_lowercase c) 105) false refl, and_right (nat_eq (to_ascii_lowercase c) 115) false refl) refl
 
-both_said : (a : Prefixes) (p q : Prefix) → admits a p ≡ true → admits (without p a) q ≡ true → without q (without p a) ≡ none_left
+both_said : (a : Prefixes) (p q : Prefix) → admits a p ≡ true → admits (without_text p a) q ≡ true → without_text q (without_text p a) ≡ none_left
 both_said a interpolation interpolation h k = absurd cc
 both_said a interpolation reference h k = refl
 both_said a reference interpolation h k = refl
@@ -153,13 +151,13 @@ pub prefixes_read : (a : Prefixes) (said : List Prefix) (front rest : Text) → 
 prefixes_read a [] front rest are blank stops = subst (λ (t : Text). prefixes_at a (t ++ rest) ≡ Some (a, rest)) (sym are) (then_one a a a rest rest rest (one_none a rest stops) (one_none a rest stops))
 prefixes_read a (p ∷ []) front rest are blank stops =
     let whole : front ++ rest ≡ are.0 ++ rest = ap (λ (t : Text). t ++ rest) (are.2 ∙ ap (λ (t : Text). are.0 ++ t) are.5 ∙ append-nil are.0) in
-    then_one a (without p a) (without p a) (front ++ rest) rest rest (ap (one_prefix_at a) whole ∙ one_read a p are.0 rest are.3 are.4 blank) (one_none (without p a) rest stops)
+    then_one a (without_text p a) (without_text p a) (front ++ rest) rest rest (ap (one_prefix_at a) whole ∙ one_read a p are.0 rest are.3 are.4 blank) (one_none (without_text p a) rest stops)
 prefixes_read a (p ∷ q ∷ []) front rest are blank stops =
     let next = are.5 in
     let whole : next.0 ++ rest ≡ are.1 ++ rest = ap (λ (t : Text). t ++ rest) (sym (next.2 ∙ ap (λ (t : Text). next.0 ++ t) next.5 ∙ append-nil next.0)) in
-    then_one a (without p a) (without q (without p a)) (front ++ rest) (are.1 ++ rest) rest
-    (ap (one_prefix_at a) (parts_again front are.0 are.1 rest are.2) ∙ one_read a p are.0 (are.1 ++ rest) are.3 are.4 (prefixes_stop (without p a) (q ∷ []) are.1 rest next blank))
-    (ap (one_prefix_at (without p a)) (sym whole) ∙ one_read (without p a) q next.0 rest next.3 next.4 blank)
+    then_one a (without_text p a) (without_text q (without_text p a)) (front ++ rest) (are.1 ++ rest) rest
+    (ap (one_prefix_at a) (parts_again front are.0 are.1 rest are.2) ∙ one_read a p are.0 (are.1 ++ rest) are.3 are.4 (prefixes_stop (without_text p a) (q ∷ []) are.1 rest next blank))
+    (ap (one_prefix_at (without_text p a)) (sym whole) ∙ one_read (without_text p a) q next.0 rest next.3 next.4 blank)
 prefixes_read a (p ∷ q ∷ r ∷ said) front rest are blank stops =
     let none : admits none_left r ≡ true = subst (λ (b : Prefixes). admits b r ≡ true) (both_said a p q are.3 are.5.3) are.5.5.3 in
     absurd (none_admitted r none)
@@ -204,14 +202,14 @@ prefixes_sound a text left rest e =
 
     both : (b : Prefixes) (t : Text) → IsOne a text b t → IsOne b t left rest → AreRead a text left rest
     both b t o p =
-        let again : admits (without o.by a) p.by ≡ true = subst (λ (x : Prefixes). admits x p.by ≡ true) o.left p.admitted in
-        let last : without p.by (without o.by a) ≡ left = ap (without p.by) (sym o.left) ∙ sym p.left in
+        let again : admits (without_text o.by a) p.by ≡ true = subst (λ (x : Prefixes). admits x p.by ≡ true) o.left p.admitted in
+        let last : without_text p.by (without_text o.by a) ≡ left = ap (without_text p.by) (sym o.left) ∙ sym p.left in
         let gone : none_left ≡ left = sym (both_said a o.by p.by o.admitted again) ∙ last in
         record {
           said = o.by ∷ p.by ∷ [];
           front = o.front ++ p.front;
           whole = o.whole ∙ ap (λ (x : Text). o.front ++ x) p.whole ∙ sym (append_assoc o.front p.front rest);
-          prefixes = (o.front, p.front, refl, o.admitted, o.said, one_said (without o.by a) p.by p.front again p.said);
+          prefixes = (o.front, p.front, refl, o.admitted, o.said, one_said (without_text o.by a) p.by p.front again p.said);
           left_is = last;
           stops = subst (λ (x : Prefixes). Stops (begins_prefix x) rest) gone (none_begins rest);
         }
@@ -220,8 +218,8 @@ prefixes_sound a text left rest e =
 
 gone : (a : Prefixes) (said : List Prefix) → a.step ≡ false → (remaining a said).step ≡ false
 gone a [] h = h
-gone a (interpolation ∷ said) h = gone (without interpolation a) said refl
-gone a (reference ∷ said) h = gone (without reference a) said h
+gone a (interpolation ∷ said) h = gone (without_text interpolation a) said refl
+gone a (reference ∷ said) h = gone (without_text reference a) said h
 
 pub step_said : (a : Prefixes) (said : List Prefix) (front : Text) → ArePrefixes a front said → (a.step && not (remaining a said).step) ≡ says_step said
 step_said a [] front are = never a.step
@@ -229,5 +227,5 @@ step_said a [] front are = never a.step
     never : (b : Bool) → (b && not b) ≡ false
     never true = refl
     never false = refl
-step_said a (interpolation ∷ said) front are = rw (are.3, gone (without interpolation a) said refl) refl
-step_said a (reference ∷ said) front are = step_said (without reference a) said are.1 are.5
+step_said a (interpolation ∷ said) front are = rw (are.3, gone (without_text interpolation a) said refl) refl
+step_said a (reference ∷ said) front are = step_said (without_text reference a) said are.1 are.5

@@ -1,10 +1,8 @@
 -- The printed text of slices, from left to right, as the code writes it.
 use Rattle.std.specs.Prelude.{List, [], ◌∷◌, ◌++◌, codes, Bool, false, cond}
 use Rattle.mob_language.specs.Language.{Text}
-use Rattle.mob_slice.specs.declared.slice.Slice.{Slice}
-use Rattle.mob_slice.specs.CourseOf.{CourseOf}
-use Rattle.mob_written.specs.Neighbours.{all_neighbours}
-use Rattle.mob_written.specs.Printed.{Style, is_long, shares_group, start_text, end_text, opening_text, closing_text}
+use Rattle.mob_slice.{specs.declared.slice.Slice.{Slice}, specs.CourseOf.{CourseOf}}
+use Rattle.mob_written.{specs.Neighbours.{all_neighbours}, specs.Printed.{Style, is_long, shares_group, start_text, end_text, opening_text, closing_text}}
 
 -- the end of a group after its last slice, whose start is already written
 abbrev pub end_part : {C B : Type 0} → Style C B → Slice C → Text

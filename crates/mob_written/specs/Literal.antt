@@ -7,18 +7,12 @@
 -- step interpolation.
 use Rattle.std.specs.Prelude.{◌≡◌, ℕ, List, [], ◌∷◌, ◌++◌, map, codes, true, ◌&&◌, not, nat_eq, Option, ℤ}
 use Rattle.mob_language.specs.Language.{Text, Language, ◌▷◌, ◌∣◌, Means, Separated, spaced, in_middle, within_blanks}
-use Rattle.mob_language.specs.Readers.{TextReader, ◌>>=◌, then_at, or_at, means_at, separated_at, spaced_at, within_blanks_at}
-use Rattle.mob_language.proofs.Exact.{Stops}
-use Rattle.mob_scalar.specs.declared.stamp.Stamp.{Stamp}
-use Rattle.mob_scalar.specs.Moment.{moment, instant}
-use Rattle.mob_scalar.specs.MomentReaders.{moment_at}
+use Rattle.mob_language.{specs.Readers.{TextReader, ◌>>=◌, then_at, or_at, means_at, separated_at, spaced_at, within_blanks_at}, proofs.Exact.{Stops}}
+use Rattle.mob_scalar.{specs.declared.stamp.Stamp.{Stamp}, specs.Moment.{moment, instant}, specs.MomentReaders.{moment_at}}
 use Rattle.mob_scalar.specs.Brackets.{comma, opening, closing, within_braces, comma_at, opening_at, closing_at, open_brace_at, close_brace_at}
-use Rattle.mob_written.specs.declared.written.Noted.{Noted}
-use Rattle.mob_written.specs.declared.written.Sequence.{Sequence}
-use Rattle.mob_written.specs.declared.written.Literal.{Literal}
-use Rattle.mob_numeral.specs.Fitting.{fitting}
-use Rattle.mob_written.specs.declared.written.Prefixes.{Prefixes}
+use Rattle.mob_written.{specs.declared.written.Noted.{Noted}, specs.declared.written.Sequence.{Sequence}, specs.declared.written.Literal.{Literal}, specs.declared.written.Prefixes.{Prefixes}}
 use Rattle.mob_written.specs.Prefix.{Prefix, ArePrefixes, remaining, says_step, begins_prefix, prefixes_at}
+use Rattle.mob_numeral.specs.Fitting.{fitting}
 
 abbrev pub at_sign : Language (Unit {0})
 at_sign = spaced (codes "@")
@@ -43,11 +37,11 @@ abbrev pub alone : {A : Type 0} → A → Sequence A
 alone i = record { lower_inc = true; instants = i ∷ []; upper_inc = true }
 
 -- sequences, or instants, with commas between them
-abbrev pub members : {A : Type 0} → (Text → A → Type 0) → Language (List (Sequence A))
-members entry = Separated (sequence entry) comma ∣ Means (map alone) (Separated entry comma)
+abbrev pub set_members : {A : Type 0} → (Text → A → Type 0) → Language (List (Sequence A))
+set_members entry = Separated (sequence entry) comma ∣ Means (map alone) (Separated entry comma)
 
 abbrev pub braced : {A : Type 0} → (Text → A → Type 0) → Language (List (Sequence A))
-braced entry = within_braces (members entry)
+braced entry = within_braces (set_members entry)
 
 abbrev pub one_sequence : {A : Type 0} → Sequence A → List (Sequence A)
 one_sequence q = q ∷ []

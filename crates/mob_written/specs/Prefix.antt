@@ -5,10 +5,8 @@
 -- order and any letter case, with blanks on both sides of its semicolon. A prefix belongs to the
 -- whole literal and not to its first value. So what follows the prefixes does not begin with the
 -- first letter of one that is still allowed.
-use Rattle.std.specs.Prelude.{◌≡◌, ℕ, List, [], ◌∷◌, ◌++◌, codes, Bool, true, false, ◌&&◌, ◌||◌, not, cond, nat_eq, Option, Some, None}
-use Rattle.std.specs.Char.{to_ascii_lowercase}
-use Rattle.mob_language.specs.Language.{Text, Language}
-use Rattle.mob_language.specs.Readers.{TextReader, ◌>>=◌}
+use Rattle.std.{specs.Prelude.{◌≡◌, ℕ, List, [], ◌∷◌, ◌++◌, codes, Bool, true, false, ◌&&◌, ◌||◌, not, cond, nat_eq, Option, Some, None}, specs.Char.{to_ascii_lowercase}}
+use Rattle.mob_language.{specs.Language.{Text, Language}, specs.Readers.{TextReader, ◌>>=◌}}
 use Rattle.mob_points.specs.Points.{heading, srid_word, heading_at}
 use Rattle.mob_written.specs.declared.written.Prefixes.{Prefixes}
 
@@ -34,19 +32,19 @@ admits a interpolation = a.step
 admits a reference = a.srid
 
 -- the allowed prefixes without this one
-abbrev pub without : Prefix → Prefixes → Prefixes
-without interpolation a = record { step = false; srid = a.srid }
-without reference a = record { step = a.step; srid = false }
+abbrev pub without_text : Prefix → Prefixes → Prefixes
+without_text interpolation a = record { step = false; srid = a.srid }
+without_text reference a = record { step = a.step; srid = false }
 
 -- the prefixes still allowed after these
 abbrev pub remaining : Prefixes → List Prefix → Prefixes
 remaining a [] = a
-remaining a (p ∷ said) = remaining (without p a) said
+remaining a (p ∷ said) = remaining (without_text p a) said
 
 -- admitted prefixes, one after another, each at most once
 abbrev pub ArePrefixes : Prefixes → Text → List Prefix → Type 0
 ArePrefixes a text [] = text ≡ []
-ArePrefixes a text (p ∷ said) = (front : Text) × (back : Text) × (text ≡ front ++ back) × (admits a p ≡ true) × prefix_of p front (tt, tt) × ArePrefixes (without p a) back said
+ArePrefixes a text (p ∷ said) = (front : Text) × (back : Text) × (text ≡ front ++ back) × (admits a p ≡ true) × prefix_of p front (tt, tt) × ArePrefixes (without_text p a) back said
 
 -- one of them is `Interp=Step;`
 abbrev pub says_step : List Prefix → Bool
@@ -73,7 +71,7 @@ with_left left (Some x) = Some (left, x.1)
 -- one prefix, if its first letter is at the front, and those that are still allowed
 unfoldable pub one_prefix_at : Prefixes → TextReader Prefixes
 one_prefix_at a [] = Some (a, [])
-one_prefix_at a (c ∷ cs) = cond (is_first 105 a.step c) (with_left (without interpolation a) (prefix_at interpolation (c ∷ cs))) (cond (is_first 115 a.srid c) (with_left (without reference a) (prefix_at reference (c ∷ cs))) (Some (a, c ∷ cs)))
+one_prefix_at a (c ∷ cs) = cond (is_first 105 a.step c) (with_left (without_text interpolation a) (prefix_at interpolation (c ∷ cs))) (cond (is_first 115 a.srid c) (with_left (without_text reference a) (prefix_at reference (c ∷ cs))) (Some (a, c ∷ cs)))
 
 -- all prefixes, of which there are at most two
 unfoldable pub prefixes_at : Prefixes → TextReader Prefixes

@@ -7,14 +7,11 @@
 -- instant, the end of that slice. A printed text has no prefix. A value of one instant prints as
 -- that instant alone, a value of single instants as a set in braces, a value of one group as that
 -- group, and every other value as its groups in braces.
-use Rattle.std.specs.Prelude.{List, [], ◌∷◌, ◌++◌, map, codes, Bool, ◌&&◌, ◌||◌, not, cond}
-use Rattle.std.specs.List.{list_all}
-use Rattle.mob_ratio.specs.Ratio.{Ratio}
-use Rattle.mob_ratio.specs.Order.{before, same}
+use Rattle.std.{specs.Prelude.{List, [], ◌∷◌, ◌++◌, map, codes, Bool, ◌&&◌, ◌||◌, not, cond}, specs.List.{list_all}}
+use Rattle.mob_ratio.{specs.Ratio.{Ratio}, specs.Order.{before, same}}
 use Rattle.mob_language.specs.Language.{Text}
 use Rattle.mob_scalar.specs.Brackets.{with_commas, in_braces}
-use Rattle.mob_slice.specs.declared.slice.Slice.{Slice}
-use Rattle.mob_slice.specs.CourseOf.{CourseOf}
+use Rattle.mob_slice.{specs.declared.slice.Slice.{Slice}, specs.CourseOf.{CourseOf}}
 
 -- how values and moments print, and the courses of the values
 pub record Style (C B : Type 0) : Type 0 where

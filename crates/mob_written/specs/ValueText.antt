@@ -1,9 +1,6 @@
 -- What the reader of temporal literals needs of the texts of values.
 use Rattle.std.specs.Prelude.{ℕ, List, ◌++◌, Bool, ◌||◌, nat_eq, Option}
-use Rattle.mob_language.specs.Language.{Text, is_blank}
-use Rattle.mob_language.specs.Readers.{TextReader}
-use Rattle.mob_language.proofs.Exact.{Exact}
-use Rattle.mob_language.proofs.Heads.{NoHead, HasByte}
+use Rattle.mob_language.{specs.Language.{Text, is_blank}, specs.Readers.{TextReader}, proofs.Exact.{Exact}, proofs.Heads.{NoHead, HasByte}}
 use Rattle.mob_scalar.specs.Brackets.{is_open}
 use Rattle.mob_written.specs.Literal.{at_sign}
 

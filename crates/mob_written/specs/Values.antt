@@ -1,23 +1,13 @@
 -- The values of the temporal types, as written.
-use Rattle.std.proofs.Common.{◌≡◌, ℕ, Bool, true, false, Option, Some, refl, rules}
-use Rattle.std.specs.Prelude.{nat_eq}
-use Rattle.std.specs.Char.{is_ascii_alphabetic, to_ascii_lowercase}
+use Rattle.std.{specs.Prelude.{nat_eq}, specs.Char.{is_ascii_alphabetic, to_ascii_lowercase}, proofs.Common.{◌≡◌, ℕ, Bool, true, false, Option, Some, refl, rules}}
 use Rattle.mob_ratio.specs.Ratio.{Ratio}
-use Rattle.mob_language.specs.Language.{Text, Language, Means, is_blank, is_digit, is_number_sign, is_exponent_letter}
-use Rattle.mob_language.specs.Readers.{TextReader, means_at}
-use Rattle.mob_language.proofs.Exact.{Stops, Any, means_exact}
+use Rattle.mob_language.{specs.Language.{Text, Language, Means, is_blank, is_digit, is_number_sign, is_exponent_letter}, specs.Readers.{TextReader, means_at}, proofs.Exact.{Stops, Any, means_exact}}
 use Rattle.mob_language.proofs.Heads.{Apart, means_head, means_byte}
-use Rattle.mob_scalar.specs.Truth.{truth, truth_at}
-use Rattle.mob_scalar.specs.Quoted.{text_value, text_value_at, is_plain}
-use Rattle.mob_numeral.proofs.NumberExact.{continues}
-use Rattle.mob_scalar.proofs.QuotedExact.{Behind, text_value_exact, text_value_head, text_value_byte}
-use Rattle.mob_numeral.proofs.WholeTexts.{number_head, number_value_exact, number_value_byte}
-use Rattle.mob_scalar.proofs.WholeTexts.{truth_exact, truth_head, truth_byte}
+use Rattle.mob_scalar.{specs.Truth.{truth, truth_at}, specs.Quoted.{text_value, text_value_at, is_plain}, proofs.QuotedExact.{Behind, text_value_exact, text_value_head, text_value_byte}}
+use Rattle.mob_scalar.{proofs.WholeTexts.{truth_exact, truth_head, truth_byte}, proofs.BeforeSign.{truth_before_at, text_value_before_at}}
+use Rattle.mob_numeral.{specs.Fitting.{number_value, number_value_at}, proofs.NumberExact.{continues}, proofs.WholeTexts.{number_head, number_value_exact, number_value_byte}}
 use Rattle.mob_numeral.proofs.BeforeSign.{number_before_at}
-use Rattle.mob_scalar.proofs.BeforeSign.{truth_before_at, text_value_before_at}
-use Rattle.mob_numeral.specs.Fitting.{number_value, number_value_at}
-use Rattle.mob_points.specs.Points.{point_value, point_value_at}
-use Rattle.mob_points.proofs.PointsExact.{point_value_exact, point_value_head, point_value_byte}
+use Rattle.mob_points.{specs.Points.{point_value, point_value_at}, proofs.PointsExact.{point_value_exact, point_value_head, point_value_byte}}
 use Rattle.mob_written.specs.ValueText.{IsValueText, begins_no_value}
 
 abbrev pub some_value : {B : Type 0} → B → Option B

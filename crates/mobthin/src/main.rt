@@ -3,7 +3,7 @@
 
 use mob_outside::{StdSink, StdSource};
 use mob_thin_run::{run_thin, tell_thin};
-use mob_trips::Ending;
+use mob_trips::TripsEnding;
 use std::env;
 use std::io::ErrorKind;
 use std::process::ExitCode;
@@ -13,10 +13,10 @@ fn main(rt: HostRuntime) -> ExitCode {
     let mut table = StdSource::new(rt.stdin());
     let mut out = StdSink::new(rt.stdout());
     let mut notes = StdSink::new(rt.stderr());
-    let words: Result<Vec<String>, Ending> = match env::args(&rt) {
-        Ok(args) => args.collect(alloc).map_err(|_| Ending::NoMemory),
-        Err(error) if error.kind() == ErrorKind::OutOfMemory => Err(Ending::NoMemory),
-        Err(_) => Err(Ending::Usage),
+    let words: Result<Vec<String>, TripsEnding> = match env::args(&rt) {
+        Ok(args) => args.collect(alloc).map_err(|_| TripsEnding::NoMemory),
+        Err(error) if error.kind() == ErrorKind::OutOfMemory => Err(TripsEnding::NoMemory),
+        Err(_) => Err(TripsEnding::Usage),
     };
     let status = match words {
         Ok(words) => run_thin(alloc, &words, &mut table, &mut out, &mut notes),

@@ -1,25 +1,14 @@
 -- Arithmetic by the type of its result: on plain numbers, and at each instant on numbers that
 -- change in steps or linearly.
 use Rattle.std.specs.Prelude.{◌≡◌, Bool, true, false, cond, pos, List, option_map}
-use Rattle.mob_ratio.specs.Ratio.{Ratio, whole, ◌/ℚ◌}
-use Rattle.mob_ratio.specs.Order.{same}
-use Rattle.mob_value.specs.declared.value.Value.{Value}
-use Rattle.mob_value.specs.declared.value.Value.TheVariants.{Null, Number, MovingFrac}
-use Rattle.mob_value.specs.Moving.{line_function, IsFunction}
-use Rattle.mob_slice.specs.CourseOf.{line_course}
-use Rattle.mob_slice.specs.Lines.{line_value_of}
-use Rattle.mob_slice.specs.Operands.{steady_value}
-use Rattle.mob_slice.specs.declared.line.Line.{Line}
-use Rattle.mob_slice.specs.declared.slice.Slice.{Slice}
+use Rattle.mob_ratio.{specs.Ratio.{Ratio, whole, ◌/ℚ◌}, specs.Order.{same}}
+use Rattle.mob_value.{specs.declared.value.Value.{Value}, specs.declared.value.Value.TheVariants.{Null, Number, MovingFrac}, specs.Moving.{line_function, IsFunction}}
+use Rattle.mob_value.{specs.Lifted.{IsMovingInt, IsMovingFrac}, specs.Pairs.{OnOperands, OnPair, number_pair}, specs.Lines.{as_line, line_pair}}
+use Rattle.mob_slice.{specs.CourseOf.{line_course}, specs.Lines.{line_value_of}, specs.Operands.{steady_value}, specs.declared.line.Line.{Line}, specs.declared.slice.Slice.{Slice}}
 use Rattle.mob_ast.specs.declared.types.SqlType.{SqlType}
-use Rattle.mob_ast.specs.declared.types.SqlType.TheVariants as sql
-use Rattle.mob_value.specs.Lifted.{IsMovingInt, IsMovingFrac}
-use Rattle.mob_value.specs.Pairs.{OnOperands, OnPair, number_pair}
-use Rattle.mob_value.specs.Lines.{as_line, line_pair}
-use Rattle.mob_arith.specs.declared.sql.calculation.Calculation.{Calculation}
-use Rattle.mob_arith.specs.declared.sql.calculation.Calculation.TheVariants.{Sum, Difference, Product}
-use Rattle.mob_arith.specs.Sql.Calculations.{result_by}
+use Rattle.mob_arith.{specs.declared.sql.calculation.Calculation.{Calculation}, specs.declared.sql.calculation.Calculation.TheVariants.{Sum, Difference, Product}, specs.Sql.Calculations.{result_by}}
 use Rattle.mob_arith.specs.Sql.Factors.{product_pair}
+use Rattle.mob_ast.specs.declared.types.SqlType.TheVariants as sql
 
 -- whether a number is 0
 abbrev pub is_nil : Ratio → Bool

@@ -2,8 +2,7 @@
 use Rattle.std.specs.Prelude.{List}
 use Rattle.mob_ratio.specs.Ratio.{Ratio}
 use Rattle.mob_frac.specs.Formula.{sum_parts, difference_parts, product_parts}
-use Rattle.mob_arith.specs.Operations.{sum_of, difference_of, product_of}
-use Rattle.mob_arith.specs.declared.sql.calculation.Calculation.{Calculation}
+use Rattle.mob_arith.{specs.Operations.{sum_of, difference_of, product_of}, specs.declared.sql.calculation.Calculation.{Calculation}}
 use Rattle.mob_arith.specs.declared.sql.calculation.Calculation.TheVariants.{Sum, Difference, Product}
 
 abbrev pub result_by : Calculation → Ratio → Ratio → Ratio

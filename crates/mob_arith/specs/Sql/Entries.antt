@@ -2,25 +2,13 @@
 use Rattle.std.specs.Prelude.{Bool, true, false, cond, List, [], ◌∷◌, Some}
 use Rattle.mob_ratio.specs.Ratio.{Ratio}
 use Rattle.mob_frac.specs.Formula.{quotient_parts}
-use Rattle.mob_slice.specs.Entries.{Entry}
-use Rattle.mob_slice.specs.Lines.{line_value_of, line_parts_of}
-use Rattle.mob_slice.specs.Operands.{steady_value, steady_parts}
-use Rattle.mob_slice.specs.Sides.{Slices, Base}
-use Rattle.mob_slice.specs.declared.formula.Formula.TheVariants.{F2}
-use Rattle.mob_slice.specs.declared.line.Line.{Line}
-use Rattle.mob_slice.specs.declared.slice.Slice.{Slice}
+use Rattle.mob_slice.{specs.Entries.{Entry}, specs.Lines.{line_value_of, line_parts_of}, specs.Operands.{steady_value, steady_parts}, specs.Sides.{Slices, Base}}
+use Rattle.mob_slice.{specs.declared.formula.Formula.TheVariants.{F2}, specs.declared.line.Line.{Line}, specs.declared.slice.Slice.{Slice}}
 use Rattle.mob_ast.specs.declared.types.SqlType.{SqlType}
+use Rattle.mob_value.{specs.declared.value.Value.{Value}, specs.declared.value.Value.TheVariants.{Number, MovingFrac}, specs.Pairs.{entries_on, number_pair}, specs.Lines.{as_line, line_pair}}
+use Rattle.mob_arith.{specs.Termwise.{entries_at_ends}, specs.declared.sql.calculation.Calculation.{Calculation}, specs.declared.sql.calculation.Calculation.TheVariants.{Sum, Difference, Product}}
+use Rattle.mob_arith.{specs.Sql.Calculations.{parts_by}, specs.Sql.Factors.{product_pair}, specs.Sql.Arithmetic.{is_nil}}
 use Rattle.mob_ast.specs.declared.types.SqlType.TheVariants as sql
-use Rattle.mob_value.specs.declared.value.Value.{Value}
-use Rattle.mob_value.specs.declared.value.Value.TheVariants.{Number, MovingFrac}
-use Rattle.mob_value.specs.Pairs.{entries_on, number_pair}
-use Rattle.mob_value.specs.Lines.{as_line, line_pair}
-use Rattle.mob_arith.specs.Termwise.{entries_at_ends}
-use Rattle.mob_arith.specs.declared.sql.calculation.Calculation.{Calculation}
-use Rattle.mob_arith.specs.declared.sql.calculation.Calculation.TheVariants.{Sum, Difference, Product}
-use Rattle.mob_arith.specs.Sql.Calculations.{parts_by}
-use Rattle.mob_arith.specs.Sql.Factors.{product_pair}
-use Rattle.mob_arith.specs.Sql.Arithmetic.{is_nil}
 
 -- the entry of an operation on two plain numbers: F2
 abbrev pub plain_entries : List Ratio → List Entry

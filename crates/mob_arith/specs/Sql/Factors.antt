@@ -1,11 +1,8 @@
 -- The factors of a product with a linear result.
 use Rattle.std.specs.Prelude.{map, Option, Some, None}
 use Rattle.mob_ratio.specs.Ratio.{Ratio}
-use Rattle.mob_value.specs.Lines.{level_line}
+use Rattle.mob_value.{specs.Lines.{level_line}, specs.declared.value.Value.{Value}, specs.declared.value.Value.TheVariants.{Number, MovingInt, MovingFrac}, specs.Pairs.{StepOperand, LineOperand}}
 use Rattle.mob_slice.specs.Sides.{Slices, Base}
-use Rattle.mob_value.specs.declared.value.Value.{Value}
-use Rattle.mob_value.specs.declared.value.Value.TheVariants.{Number, MovingInt, MovingFrac}
-use Rattle.mob_value.specs.Pairs.{StepOperand, LineOperand}
 
 -- the factors of a product, the linear one first, then the one that changes in steps: a tfrac, and
 -- an int, a numeric or a tint

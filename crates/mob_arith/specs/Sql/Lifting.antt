@@ -2,14 +2,11 @@
 use Rattle.std.specs.Prelude.{◌≡◌, not, option_map}
 use Rattle.mob_span.specs.Flags.{same_bool}
 use Rattle.mob_slice.specs.CourseOf.{steady_course}
-use Rattle.mob_value.specs.declared.value.Value.{Value}
-use Rattle.mob_value.specs.declared.value.Value.TheVariants.{Null, Text, MovingBool}
-use Rattle.mob_value.specs.Moving.{step_function, IsFunction}
-use Rattle.mob_value.specs.Lifted.{IsMovingText}
+use Rattle.mob_value.{specs.declared.value.Value.{Value}, specs.declared.value.Value.TheVariants.{Null, Text, MovingBool}, specs.Moving.{step_function, IsFunction}, specs.Lifted.{IsMovingText}}
 use Rattle.mob_value.specs.Pairs.{text_pair, OnPair}
 use Rattle.mob_ast.specs.declared.types.SqlType.{SqlType}
-use Rattle.mob_ast.specs.declared.types.SqlType.TheVariants as sql
 use Rattle.mob_arith.specs.Operations.{text_of}
+use Rattle.mob_ast.specs.declared.types.SqlType.TheVariants as sql
 
 -- the opposite truth value at each instant
 abbrev pub IsLiftedNot : Value → Value → Type 0

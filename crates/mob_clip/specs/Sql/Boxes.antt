@@ -1,16 +1,11 @@
 -- Operators on boxes: the box of a moving point, boxes that meet, expanded boxes, and the part of a
 -- moving point in a box.
 use Rattle.std.specs.Prelude.{◌≡◌, Bool, true}
-use Rattle.mob_slice.specs.CourseOf.{plane_course}
-use Rattle.mob_slice.specs.Lines.{plane_value_of}
+use Rattle.mob_slice.{specs.CourseOf.{plane_course}, specs.Lines.{plane_value_of}}
 use Rattle.mob_cells.specs.Restricted.{IsRestricted}
-use Rattle.mob_stbox.specs.Boxes.{BoxOf, BoxesMeet, in_box}
-use Rattle.mob_stbox.specs.Expansion.{expanded}
-use Rattle.mob_value.specs.ValueBoxes.{IsBoxOf, OnBox}
-use Rattle.mob_value.specs.declared.value.Value.{Value}
-use Rattle.mob_value.specs.declared.value.Value.TheVariants.{Null, Number, Box, MovingPoint}
-use Rattle.mob_value.specs.Moving.{or_nothing, IsFunctionOrNull}
-use Rattle.mob_value.specs.Truths.{IsTruthOf}
+use Rattle.mob_stbox.{specs.Boxes.{BoxOf, BoxesMeet, in_box}, specs.Expansion.{expanded}}
+use Rattle.mob_value.{specs.ValueBoxes.{IsBoxOf, OnBox}, specs.declared.value.Value.{Value}, specs.declared.value.Value.TheVariants.{Null, Number, Box, MovingPoint}}
+use Rattle.mob_value.{specs.Moving.{or_nothing, IsFunctionOrNull}, specs.Truths.{IsTruthOf}}
 
 -- stbox: the bounding box of a moving point
 abbrev pub IsStBox : Value → Value → Type 0

@@ -1,15 +1,9 @@
 -- The entries of the operators on boxes and polygons.
-use Rattle.std.specs.Prelude.{List, [], ◌∷◌}
-use Rattle.std.specs.List.{flat_map}
-use Rattle.mob_slice.specs.Entries.{Entry}
-use Rattle.mob_slice.specs.declared.formula.Formula.TheVariants.{F7}
-use Rattle.mob_stbox.specs.Boxes.{BoxOf}
-use Rattle.mob_stbox.specs.Expansion.{parts_of_expansion}
-use Rattle.mob_value.specs.ValueBoxes.{OnBox}
-use Rattle.mob_value.specs.declared.value.Value.{Value}
-use Rattle.mob_value.specs.declared.value.Value.TheVariants.{Number, Box, MovingPoint, Polygon}
-use Rattle.mob_clip.specs.Boxes.{entries_of_box}
-use Rattle.mob_clip.specs.Polygons.{entries_of_polygon}
+use Rattle.std.{specs.Prelude.{List, [], ◌∷◌}, specs.List.{flat_map}}
+use Rattle.mob_slice.{specs.Entries.{Entry}, specs.declared.formula.Formula.TheVariants.{F7}}
+use Rattle.mob_stbox.{specs.Boxes.{BoxOf}, specs.Expansion.{parts_of_expansion}}
+use Rattle.mob_value.{specs.ValueBoxes.{OnBox}, specs.declared.value.Value.{Value}, specs.declared.value.Value.TheVariants.{Number, Box, MovingPoint, Polygon}}
+use Rattle.mob_clip.{specs.Boxes.{entries_of_box}, specs.Polygons.{entries_of_polygon}}
 
 -- the one entry of expandSpace: F7, the new sides
 abbrev pub entries_outward : BoxOf → Value → List Entry

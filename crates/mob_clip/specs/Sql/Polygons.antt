@@ -1,13 +1,9 @@
 -- atGeometry, minusGeometry and eIntersects: the part of a moving point in a polygon.
 use Rattle.std.specs.Prelude.{◌≡◌, Bool, true}
 use Rattle.mob_plane.specs.Membership.{inside}
-use Rattle.mob_slice.specs.CourseOf.{plane_course}
-use Rattle.mob_slice.specs.Lines.{plane_value_of}
+use Rattle.mob_slice.{specs.CourseOf.{plane_course}, specs.Lines.{plane_value_of}}
 use Rattle.mob_cells.specs.Restricted.{IsRestricted}
-use Rattle.mob_value.specs.declared.value.Value.{Value}
-use Rattle.mob_value.specs.declared.value.Value.TheVariants.{Null, Polygon, MovingPoint}
-use Rattle.mob_value.specs.Moving.{IsFunctionOrNull}
-use Rattle.mob_value.specs.Truths.{IsTruthOf}
+use Rattle.mob_value.{specs.declared.value.Value.{Value}, specs.declared.value.Value.TheVariants.{Null, Polygon, MovingPoint}, specs.Moving.{IsFunctionOrNull}, specs.Truths.{IsTruthOf}}
 use Rattle.mob_clip.specs.Polygons.{IsEverInside}
 
 -- atGeometry if `want` is true, minusGeometry if it is false

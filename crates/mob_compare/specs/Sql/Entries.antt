@@ -2,39 +2,31 @@
 use Rattle.std.specs.Prelude.{List, [], Option, Some}
 use Rattle.mob_ratio.specs.Ratio.{Ratio}
 use Rattle.mob_span.specs.Meets.{PieceOf}
-use Rattle.mob_slice.specs.Entries.{Entry}
-use Rattle.mob_slice.specs.LineComparison.{number_gaps, point_gaps}
-use Rattle.mob_slice.specs.Lines.{line_value_of, line_parts_of, plane_value_of, plane_parts_of}
-use Rattle.mob_slice.specs.Sides.{SideOf}
+use Rattle.mob_slice.{specs.Entries.{Entry}, specs.LineComparison.{number_gaps, point_gaps}, specs.Lines.{line_value_of, line_parts_of, plane_value_of, plane_parts_of}, specs.Sides.{SideOf}}
 use Rattle.mob_slice.specs.declared.comparison.Gaps.{Gaps}
 use Rattle.mob_cells.specs.Gaps.{entries_of_ends}
-use Rattle.mob_ast.specs.declared.types.SqlType.{SqlType}
+use Rattle.mob_ast.{specs.declared.types.SqlType.{SqlType}, specs.declared.types.Cmp.{Cmp}}
+use Rattle.mob_value.{specs.declared.value.Value.{Value}, specs.Pairs.{entries_on, plane_pair}, specs.Lines.{line_pair}}
+use Rattle.mob_compare.{specs.Compared.{entries_of_gaps}, specs.declared.sql.scope.When.{When}, specs.declared.sql.scope.When.TheVariants.{Each, Ever, Always}}
 use Rattle.mob_ast.specs.declared.types.SqlType.TheVariants as sql
-use Rattle.mob_ast.specs.declared.types.Cmp.{Cmp}
 use Rattle.mob_ast.specs.declared.types.Cmp.TheVariants as cmp
-use Rattle.mob_value.specs.declared.value.Value.{Value}
-use Rattle.mob_value.specs.Pairs.{entries_on, plane_pair}
-use Rattle.mob_value.specs.Lines.{line_pair}
-use Rattle.mob_compare.specs.Compared.{entries_of_gaps}
-use Rattle.mob_compare.specs.declared.sql.scope.Scope.{Scope}
-use Rattle.mob_compare.specs.declared.sql.scope.Scope.TheVariants.{Each, Ever, Always}
 
 -- the entries of a sign on one piece; `#` has those of the crossings too
-abbrev pub entries_asked : {C B : Type 0} → Scope → (C → Ratio → Ratio → Ratio → B) → (C → Ratio → Ratio → Ratio → List Ratio) → (B → B → Gaps) → PieceOf (SideOf C B) (SideOf C B) → List Entry
+abbrev pub entries_asked : {C B : Type 0} → When → (C → Ratio → Ratio → Ratio → B) → (C → Ratio → Ratio → Ratio → List Ratio) → (B → B → Gaps) → PieceOf (SideOf C B) (SideOf C B) → List Entry
 entries_asked Each value lines gaps = entries_of_gaps value lines gaps
 entries_asked Ever value lines gaps = entries_of_ends value lines gaps
 entries_asked Always value lines gaps = entries_of_ends value lines gaps
 
 -- the entries of a sign on operands with this common type; steps have none
-abbrev pub order_entries : Scope → Option SqlType → Value → Value → List Entry
+abbrev pub order_entries : When → Option SqlType → Value → Value → List Entry
 order_entries scope (Some sql.TFrac) a b = entries_on (entries_asked scope line_value_of line_parts_of number_gaps) (line_pair a b)
 order_entries scope _ a b = []
 
-abbrev pub any_entries : Scope → Option SqlType → Value → Value → List Entry
+abbrev pub any_entries : When → Option SqlType → Value → Value → List Entry
 any_entries scope (Some sql.TPoint) a b = entries_on (entries_asked scope plane_value_of plane_parts_of point_gaps) (plane_pair a b)
 any_entries scope met a b = order_entries scope met a b
 
-abbrev pub sign_entries : Scope → Cmp → Option SqlType → Value → Value → List Entry
+abbrev pub sign_entries : When → Cmp → Option SqlType → Value → Value → List Entry
 sign_entries scope cmp.Eq met a b = any_entries scope met a b
 sign_entries scope cmp.Ne met a b = any_entries scope met a b
 sign_entries scope c met a b = order_entries scope met a b

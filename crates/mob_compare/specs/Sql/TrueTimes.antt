@@ -1,10 +1,7 @@
 -- The instants at which a temporal truth value is true.
 use Rattle.std.specs.Prelude.{◌≡◌, List, [], ◌∷◌}
 use Rattle.mob_span.specs.Span.{SpanOf}
-use Rattle.mob_value.specs.declared.value.Value.{Value}
-use Rattle.mob_value.specs.declared.value.Value.TheVariants.{Null, SpanSet, MovingBool}
-use Rattle.mob_value.specs.Moving.{step_function}
-use Rattle.mob_value.specs.Sets.{AreInstantsOf}
+use Rattle.mob_value.{specs.declared.value.Value.{Value}, specs.declared.value.Value.TheVariants.{Null, SpanSet, MovingBool}, specs.Moving.{step_function}, specs.Sets.{AreInstantsOf}}
 use Rattle.mob_compare.specs.Times.{is_true}
 
 -- a span set, or NULL if it has no instant

@@ -3,7 +3,7 @@
 /// At which instants a sign evaluates its comparison, among those at which both operands are
 /// defined.
 #[derive(Clone, Copy, Debug, PartialEq, Eq)]
-pub enum Scope {
+pub enum When {
     /// `#`: at each of them, which gives a tbool.
     Each,
     /// `?`: at some instant.

@@ -14,9 +14,9 @@ ghost use Rattle.mob_compare.specs.Sql.Entries.{entries_asked, order_entries, an
 ghost use Rattle.mob_value.specs.Outcomes.{IsOutcome};
 
 use crate::courses::compare;
-use crate::sql::scope::Scope;
+use crate::ever::{always, ever};
+use crate::sql::scope::When;
 use mob_ast::{Cmp, SqlType};
-use mob_ever::{always, ever};
 use mob_list::fault::Fault;
 use mob_slice::{Compared, Formula, Ranked, Rel};
 use mob_value::Value;
@@ -30,7 +30,7 @@ use std::mem::drop;
 // The result of the sign for a comparison of two operands; NULL without operands.
 fn asked<C: Compared + Drop>(
     alloc: Global,
-    scope: Scope,
+    scope: When,
     rel: Rel,
     pair: Option<Pair<'_, C>>,
 ) -> Result<Value, Fault<Formula>>
@@ -45,19 +45,19 @@ where
         return Ok(Value::Null);
     };
     match scope {
-        Scope::Each => match compare(alloc, left, right, rel) {
+        When::Each => match compare(alloc, left, right, rel) {
             Ok(value) => Ok(bool_or_null(value)),
             Err(fault) => Err(fault),
         },
-        Scope::Ever => answered(ever(alloc, left, right, rel)),
-        Scope::Always => answered(always(alloc, left, right, rel)),
+        When::Ever => answered(ever(alloc, left, right, rel)),
+        When::Always => answered(always(alloc, left, right, rel)),
     }
 }
 
 // The result of the sign for operands that change in steps, which have no formula.
 fn steps_asked<B: Ranked + Drop>(
     alloc: Global,
-    scope: Scope,
+    scope: When,
     rel: Rel,
     pair: Option<StepPair<'_, B>>,
 ) -> Result<Value, Fault<Formula>>
@@ -74,7 +74,7 @@ fn steps_asked<B: Ranked + Drop>(
 // The result of the sign for linear numbers, where a tint becomes linear.
 fn lines_asked(
     alloc: Global,
-    scope: Scope,
+    scope: When,
     rel: Rel,
     left: &Value,
     right: &Value,
@@ -94,7 +94,7 @@ fn lines_asked(
 // The result of the sign for ordered values.
 fn order(
     alloc: Global,
-    scope: Scope,
+    scope: When,
     rel: Rel,
     met: Option<SqlType>,
     left: &Value,
@@ -114,7 +114,7 @@ fn order(
 // here.
 fn sameness(
     alloc: Global,
-    scope: Scope,
+    scope: When,
     rel: Rel,
     met: Option<SqlType>,
     left: &Value,
@@ -133,7 +133,7 @@ fn sameness(
 /// A sign on operands that have a common type, or none. Truth values and points have no order here.
 pub fn sign_test(
     alloc: Global,
-    scope: Scope,
+    scope: When,
     sign: Cmp,
     met: Option<SqlType>,
     left: &Value,

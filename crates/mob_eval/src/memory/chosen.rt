@@ -149,29 +149,29 @@ fn names_only(e: &TExpr, place: Option<u32>) -> bool
 
 // The places of FROM that an expression names.
 #[derive(Clone, Copy)]
-enum Reach {
+enum NamedPlaces {
     Nowhere,
     At(u32),
     Far,
 }
 
-fn own_reach(op: Op) -> Reach {
+fn own_reach(op: Op) -> NamedPlaces {
     match op {
-        Op::Column { from, column: _ } => Reach::At(from),
-        _ => Reach::Nowhere,
+        Op::Column { from, column: _ } => NamedPlaces::At(from),
+        _ => NamedPlaces::Nowhere,
     }
 }
 
-fn wider(one: Reach, other: Reach) -> Reach {
+fn wider(one: NamedPlaces, other: NamedPlaces) -> NamedPlaces {
     match (one, other) {
-        (Reach::Nowhere, reach) => reach,
-        (reach, Reach::Nowhere) => reach,
-        (Reach::At(a), Reach::At(b)) => { if a == b { Reach::At(a) } else { Reach::Far } }
-        _ => Reach::Far,
+        (NamedPlaces::Nowhere, reach) => reach,
+        (reach, NamedPlaces::Nowhere) => reach,
+        (NamedPlaces::At(a), NamedPlaces::At(b)) => { if a == b { NamedPlaces::At(a) } else { NamedPlaces::Far } }
+        _ => NamedPlaces::Far,
     }
 }
 
-fn reach_of(e: &TExpr) -> Reach {
+fn reach_of(e: &TExpr) -> NamedPlaces {
     let mut reach = own_reach(e.op);
     for arg in &e.args {
         reach = wider(reach, reach_of(arg));
@@ -181,7 +181,7 @@ fn reach_of(e: &TExpr) -> Reach {
 
 // What is remembered of an operator: its outcomes or its boxes.
 #[derive(Clone, Copy)]
-enum What {
+enum Remembered {
     Outcome,
     Box,
 }
@@ -191,13 +191,13 @@ enum What {
 struct Chosen {
     at: u32,
     place: Option<u32>,
-    what: What,
+    what: Remembered,
 }
 
-fn is_box(what: What) -> bool {
+fn is_box(what: Remembered) -> bool {
     match what {
-        What::Outcome => false,
-        What::Box => true,
+        Remembered::Outcome => false,
+        Remembered::Box => true,
     }
 }
 
@@ -224,9 +224,9 @@ fn add(one: Chosen, chosen: &mut Vec<Chosen>) -> Result<(), AllocError> {
 // and the expression is evaluated once on it, remembering helps only if it names none.
 fn place_named(e: &TExpr, again: bool) -> Option<Option<u32>> {
     match reach_of(e) {
-        Reach::Nowhere => Some(None),
-        Reach::At(place) => { if again { Some(Some(place)) } else { None } }
-        Reach::Far => None,
+        NamedPlaces::Nowhere => Some(None),
+        NamedPlaces::At(place) => { if again { Some(Some(place)) } else { None } }
+        NamedPlaces::Far => None,
     }
 }
 
@@ -240,7 +240,7 @@ fn choose_boxes(e: &TExpr, again: bool, chosen: &mut Vec<Chosen>) -> Result<(), 
             let one = Chosen {
                 at: arg.place,
                 place,
-                what: What::Box,
+                what: Remembered::Box,
             };
             add(one, chosen)?;
         }
@@ -257,7 +257,7 @@ fn choose(e: &TExpr, again: bool, chosen: &mut Vec<Chosen>) -> Result<(), AllocE
         let one = Chosen {
             at: e.place,
             place,
-            what: What::Outcome,
+            what: Remembered::Outcome,
         };
         return add(one, chosen);
     }
@@ -301,7 +301,7 @@ fn chosen_of(alloc: Global, several: bool, roots: &[&TExpr]) -> Result<Vec<Chose
     Ok(chosen)
 }
 
-// How many rows the table of a place has; one cell is enough if no place is named.
+// How many rows the table of a place has; one memo is enough if no place is named.
 fn rows_at(store: &Store, from: &[u32], place: Option<u32>) -> usize {
     let Some(place) = place else {
         return 1;
@@ -331,10 +331,10 @@ fn remember_one<K: Remembering>(
                 return Ok(());
             }
             match chosen.what {
-                What::Outcome => {
+                Remembered::Outcome => {
                     remember(alloc, chosen.at, chosen.place, rows, &mut memory.slots)
                 }
-                What::Box => remember(alloc, chosen.at, chosen.place, rows, &mut memory.boxes),
+                Remembered::Box => remember(alloc, chosen.at, chosen.place, rows, &mut memory.boxes),
             }
         }
         _ => Ok(()),

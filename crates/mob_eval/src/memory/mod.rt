@@ -1,7 +1,7 @@
 //! The memory: the outcomes of remembered operators, and the boxes of remembered operands.
 ghost use Rattle.std.specs.Prelude.{IfSome};
-ghost use Rattle.mob_remembered.specs.Depends.{HasRow};
-ghost use Rattle.mob_eval.specs.Remembered.{IsCellOf, IsOfPlace};
+ghost use Rattle.mob_meaning.specs.Depends.{HasRow};
+ghost use Rattle.mob_eval.specs.Remembered.{IsMemoOf, IsOfPlace};
 
 pub mod chosen;
 pub mod own_box;
@@ -9,22 +9,22 @@ pub mod remembered;
 
 use crate::memory::own_box::ToldBox;
 use crate::memory::remembered::{Outcomes, Remembering};
-use mob_outcome::cells::{Cell, Told};
+use mob_outcome::memos::{Memo, Told};
 use once_cell::race::OnceBox;
 use std::alloc::{AllocError, Global};
 use std::marker::{Model, PhantomData};
 use std::sync::atomic::AtomicU64;
 
-// How many cells are allocated at once.
+// How many memos are allocated at once.
 const CELLS: usize = 256;
 
-// Cells of neighbouring rows.
+// Memos of neighbouring rows.
 #[derive(Drop)]
 struct Chunk<T> {
     cells: Vec<OnceBox<T>>,
 }
 
-// The cells of an operator: one for each row of the table that it names, or one if it names none.
+// The memos of an operator: one for each row of the table that it names, or one if it names none.
 #[derive(Drop)]
 struct Slot<K: Remembering, T> {
     at: u32,
@@ -53,7 +53,7 @@ pub struct Memory<K: Remembering> {
     taken: AtomicU64,
 }
 
-// `many` empty cells.
+// `many` empty memos.
 fn empty_cells<T: Drop>(alloc: Global, many: usize) -> Result<Vec<OnceBox<T>>, AllocError> {
     let mut cells = Vec::with_capacity(alloc, many)?;
     for _cell in 0..many {
@@ -78,7 +78,7 @@ fn chunk_in<T: Drop>(alloc: Global, kept: &OnceBox<Chunk<T>>) -> Option<&Chunk<T
     kept.get()
 }
 
-// The cell of a row.
+// The memo of a row.
 fn kept_at<T: Drop>(alloc: Global, chunks: &[OnceBox<Chunk<T>>], row: u32) -> Option<&OnceBox<T>> {
     let number = row as usize;
     let Some(kept) = chunks.get(number / CELLS) else {
@@ -101,9 +101,9 @@ fn row_at(place: Option<u32>, tuple: &[u32]) -> Option<u32>
 }
 
 impl<K: Remembering, T: Drop> Slot<K, T> {
-    // The cell of the row of a tuple; none if the table has no row in the tuple.
-    fn cell<'a>(&'a self, alloc: Global, tuple: &[u32], taken: &'a AtomicU64) -> Option<Cell<'a, T>>
-        ensures cell { IfSome result (λ c. IsCellOf K.recollection self.now.0 tuple.now c.at c.place c.row) }
+    // The memo of the row of a tuple; none if the table has no row in the tuple.
+    fn cell<'a>(&'a self, alloc: Global, tuple: &[u32], taken: &'a AtomicU64) -> Option<Memo<'a, T>>
+        ensures cell { IfSome result (λ c. IsMemoOf K.recollection self.now.0 tuple.now c.at c.place c.row) }
     {
         let place = self.place;
         let Some(row) = row_at(place, tuple) else {
@@ -112,7 +112,7 @@ impl<K: Remembering, T: Drop> Slot<K, T> {
         let Some(kept) = kept_at(alloc, self.chunks.as_slice(), row) else {
             return None;
         };
-        Some(Cell {
+        Some(Memo {
             at: self.at,
             place,
             row,
@@ -162,15 +162,15 @@ fn remember<K: Remembering, T: Drop>(
     Ok(())
 }
 
-// The cell for a place in the script on a tuple, if the place has a slot.
+// The memo for a place in the script on a tuple, if the place has a slot.
 fn cell_in<'a, K: Remembering, T: Drop>(
     alloc: Global,
     slots: &'a [Slot<K, T>],
     taken: &'a AtomicU64,
     at: u32,
     tuple: &[u32],
-) -> Option<Cell<'a, T>>
-    ensures cell { IfSome result (λ c. IsCellOf K.recollection at tuple.now c.at c.place c.row) }
+) -> Option<Memo<'a, T>>
+    ensures cell { IfSome result (λ c. IsMemoOf K.recollection at tuple.now c.at c.place c.row) }
 {
     for slot in slots {
         if slot.at == at {
@@ -180,14 +180,14 @@ fn cell_in<'a, K: Remembering, T: Drop>(
     None
 }
 
-/// The cell of the operator at a place in the script on a tuple, if its outcomes are remembered.
+/// The memo of the operator at a place in the script on a tuple, if its outcomes are remembered.
 pub fn cell_of<'a, K: Remembering>(
     alloc: Global,
     memory: Option<&'a Memory<K>>,
     at: u32,
     tuple: &[u32],
-) -> Option<Cell<'a, Told<Outcomes<K>>>>
-    ensures cell { IfSome result (λ c. IsCellOf K.recollection at tuple.now c.at c.place c.row) }
+) -> Option<Memo<'a, Told<Outcomes<K>>>>
+    ensures cell { IfSome result (λ c. IsMemoOf K.recollection at tuple.now c.at c.place c.row) }
 {
     match memory {
         Some(memory) => cell_in(alloc, &memory.slots, &memory.taken, at, tuple),
@@ -195,14 +195,14 @@ pub fn cell_of<'a, K: Remembering>(
     }
 }
 
-/// The cell of the operand at a place in the script on a tuple, if its boxes are remembered.
+/// The memo of the operand at a place in the script on a tuple, if its boxes are remembered.
 pub fn box_cell_of<'a, K: Remembering>(
     alloc: Global,
     memory: Option<&'a Memory<K>>,
     at: u32,
     tuple: &[u32],
-) -> Option<Cell<'a, ToldBox<K>>>
-    ensures cell { IfSome result (λ c. IsCellOf K.recollection at tuple.now c.at c.place c.row) }
+) -> Option<Memo<'a, ToldBox<K>>>
+    ensures cell { IfSome result (λ c. IsMemoOf K.recollection at tuple.now c.at c.place c.row) }
 {
     match memory {
         Some(memory) => cell_in(alloc, &memory.boxes, &memory.taken, at, tuple),

@@ -15,7 +15,7 @@ use crate::memory::remembered::Remembering;
 use crate::memory::{Memory, box_cell_of};
 use crate::scene::View;
 use mob_clip::sql::boxes::{overlap, overlap_of};
-use mob_outcome::cells::{Cell, has_room};
+use mob_outcome::memos::{Memo, has_room};
 use mob_stbox::StBox;
 use mob_typed::TExpr;
 use mob_value::{Value, box_of_value};
@@ -52,8 +52,8 @@ impl<K: Remembering> Model for ToldBox<K> {
 }
 
 impl<K: Remembering> ToldBox<K> {
-    // The box, if it belongs to the operand and row of a cell.
-    fn area_for(&self, cell: &Cell<'_, ToldBox<K>>) -> Option<StBox>
+    // The box, if it belongs to the operand and row of a memo.
+    fn area_for(&self, cell: &Memo<'_, ToldBox<K>>) -> Option<StBox>
         ensures told { IfSome result (IsBoxTold K.recollection cell.now.at cell.now.place cell.now.row) }
     {
         let own = &self.own;
@@ -65,8 +65,8 @@ impl<K: Remembering> ToldBox<K> {
     }
 }
 
-// The box in a cell, if there is one.
-fn kept_box<K: Remembering>(cell: &Cell<'_, ToldBox<K>>) -> Option<StBox>
+// The box in a memo, if there is one.
+fn kept_box<K: Remembering>(cell: &Memo<'_, ToldBox<K>>) -> Option<StBox>
     ensures told { IfSome result (IsBoxTold K.recollection cell.now.at cell.now.place cell.now.row) }
 {
     match cell.kept.get() {
@@ -75,8 +75,8 @@ fn kept_box<K: Remembering>(cell: &Cell<'_, ToldBox<K>>) -> Option<StBox>
     }
 }
 
-// Keeps a box in a cell if it is empty and memory allows.
-fn keep<K: Remembering>(alloc: Global, cell: &Cell<'_, ToldBox<K>>, area: StBox)
+// Keeps a box in a memo if it is empty and memory allows.
+fn keep<K: Remembering>(alloc: Global, cell: &Memo<'_, ToldBox<K>>, area: StBox)
     requires told { IsBoxTold K.recollection cell.now.at cell.now.place cell.now.row area }
 {
     if !has_room(cell.taken, size_of::<OwnBox>() as u64) {

@@ -1,7 +1,7 @@
 //! What a memory may remember: the operators, and the meaning of their outcomes.
 ghost use Rattle.mob_eval.specs.Remembered.{Recollection, nothing};
 
-use mob_outcome::cells::Telling;
+use mob_outcome::memos::Telling;
 use std::marker::{Brand, PhantomData};
 
 /// The operators that are remembered, by their places in the script, and the tables over which they
@@ -22,7 +22,7 @@ impl Remembering for Nothing {
     ghost recollection = { nothing };
 }
 
-/// The outcomes of the remembered operators, which are in the cells of a memory.
+/// The outcomes of the remembered operators, which are in the memos of a memory.
 pub struct Outcomes<K: Remembering> {
     by: PhantomData<K>,
 }

@@ -24,7 +24,7 @@ use mob_arith::sql::lifting::{join, lifted_and, lifted_not, lifted_or};
 use mob_ast::SqlType;
 use mob_clip::sql::boxes::{box_restriction, box_value, expansion, overlap};
 use mob_clip::sql::polygons::{intersects, polygon_restriction};
-use mob_compare::sql::scope::Scope;
+use mob_compare::sql::scope::When;
 use mob_compare::sql::signs::sign_test;
 use mob_compare::sql::true_times::true_time;
 use mob_list::fault::Fault;
@@ -106,9 +106,9 @@ pub fn of_two(
         Op::Join => join(alloc, ty, left, right),
         Op::LiftedAnd => lifted_and(alloc, left, right),
         Op::LiftedOr => lifted_or(alloc, left, right),
-        Op::Lifted(sign) => sign_test(alloc, Scope::Each, sign, meeting(args), left, right),
-        Op::Ever(sign) => sign_test(alloc, Scope::Ever, sign, meeting(args), left, right),
-        Op::Always(sign) => sign_test(alloc, Scope::Always, sign, meeting(args), left, right),
+        Op::Lifted(sign) => sign_test(alloc, When::Each, sign, meeting(args), left, right),
+        Op::Ever(sign) => sign_test(alloc, When::Ever, sign, meeting(args), left, right),
+        Op::Always(sign) => sign_test(alloc, When::Always, sign, meeting(args), left, right),
         Op::AtTime | Op::MinusTime => restriction(alloc, wanted(op), left, right),
         Op::AtValues | Op::MinusValues => value_restriction(alloc, wanted(op), left, right),
         Op::ValueAtTimestamp => look_up(alloc, left, right),

@@ -1,11 +1,8 @@
 -- The entries of eDwithin and nearestApproachSquared.
 use Rattle.std.specs.Prelude.{List, [], Option, Some, None}
 use Rattle.mob_ratio.specs.Ratio.{Ratio}
-use Rattle.mob_slice.specs.Entries.{Entry}
-use Rattle.mob_slice.specs.Sides.{pieces}
-use Rattle.mob_value.specs.declared.value.Value.{Value}
-use Rattle.mob_value.specs.declared.value.Value.TheVariants.{Number}
-use Rattle.mob_value.specs.Pairs.{entries_on, PlaneOperand, plane_pair}
+use Rattle.mob_slice.{specs.Entries.{Entry}, specs.Sides.{pieces}}
+use Rattle.mob_value.{specs.declared.value.Value.{Value}, specs.declared.value.Value.TheVariants.{Number}, specs.Pairs.{entries_on, PlaneOperand, plane_pair}}
 use Rattle.mob_near.specs.Entries.{entries_of_within, entries_of_approach}
 
 -- the entries of eDwithin: those on the pieces that the two share

@@ -4,13 +4,9 @@ use Rattle.mob_ratio.specs.Ratio.{Ratio}
 use Rattle.mob_plane.specs.declared.point.Point.{Point}
 use Rattle.mob_slice.specs.Lines.{plane_value_of}
 use Rattle.mob_lift.specs.Sometime.{IsEver}
-use Rattle.mob_value.specs.declared.value.Value.{Value}
-use Rattle.mob_value.specs.declared.value.Value.TheVariants.{Null, Number}
-use Rattle.mob_value.specs.Pairs.{OnOperands, plane_pair}
-use Rattle.mob_value.specs.Moving.{OverTime, or_nothing}
+use Rattle.mob_value.{specs.declared.value.Value.{Value}, specs.declared.value.Value.TheVariants.{Null, Number}, specs.Pairs.{OnOperands, plane_pair}, specs.Moving.{OverTime, or_nothing}}
 use Rattle.mob_value.specs.Truths.{known}
-use Rattle.mob_near.specs.Approaches.{IsApproach}
-use Rattle.mob_near.specs.Distances.{are_within}
+use Rattle.mob_near.{specs.Approaches.{IsApproach}, specs.Distances.{are_within}}
 
 -- whether a test of two points holds at some instant at which both are defined; NULL if there is no
 -- such instant

@@ -1,6 +1,6 @@
 //! The nearness of two points on one piece of time, in numbers of any size.
 ghost use Rattle.std.specs.Prelude.{◌≡◌, ◌||◌, ◌&&◌, true, false, not, IfOk};
-ghost use Rattle.mob_quadratic.specs.Quadratic.{reaches_by, infimum_by};
+ghost use Rattle.mob_ratio.specs.Quadratic.{reaches_by, infimum_by};
 ghost use Rattle.mob_ratio.specs.Order.{before, up_to};
 ghost use Rattle.mob_ratio.specs.Sign.{nil};
 ghost use Rattle.mob_slice.specs.Sides.{piece_of};

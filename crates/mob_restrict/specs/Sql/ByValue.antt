@@ -3,16 +3,11 @@
 use Rattle.std.specs.Prelude.{◌≡◌, Bool, List}
 use Rattle.mob_ratio.specs.Order.{same}
 use Rattle.mob_span.specs.Flags.{same_bool}
-use Rattle.mob_slice.specs.CourseOf.{CourseOf, steady_course, line_course, plane_course}
-use Rattle.mob_slice.specs.LineComparison.{point_relates, number_relates}
-use Rattle.mob_slice.specs.Sameness.{same_bytes}
-use Rattle.mob_slice.specs.declared.comparison.Rel.TheVariants.{Eq}
-use Rattle.mob_slice.specs.declared.slice.Slice.{Slice}
+use Rattle.mob_slice.{specs.CourseOf.{CourseOf, steady_course, line_course, plane_course}, specs.LineComparison.{point_relates, number_relates}, specs.Sameness.{same_bytes}}
+use Rattle.mob_slice.{specs.declared.comparison.Rel.TheVariants.{Eq}, specs.declared.slice.Slice.{Slice}}
 use Rattle.mob_cells.specs.Restricted.{IsRestricted}
-use Rattle.mob_value.specs.declared.value.Value.{Value}
-use Rattle.mob_value.specs.declared.value.Value.TheVariants.{Null, Bool as Truth, Number, Text, Point, MovingBool, MovingInt, MovingFrac, MovingText, MovingPoint}
-use Rattle.mob_value.specs.Moving.{IsFunctionOrNull}
-use Rattle.mob_value.specs.Relations.{text_relates, truth_relates}
+use Rattle.mob_value.{specs.declared.value.Value.{Value}, specs.declared.value.Value.TheVariants.{Null, Bool as Truth, Number, Text, Point, MovingBool, MovingInt, MovingFrac, MovingText, MovingPoint}}
+use Rattle.mob_value.{specs.Moving.{IsFunctionOrNull}, specs.Relations.{text_relates, truth_relates}}
 
 -- v is the part of slices where their value passes the test if `want` is true, else the part where
 -- it does not: the one normal value, or NULL if no instant is left

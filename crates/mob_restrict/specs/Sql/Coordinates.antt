@@ -3,9 +3,7 @@ use Rattle.std.specs.Prelude.{◌≡◌, option_map}
 use Rattle.mob_ratio.specs.Ratio.{Ratio}
 use Rattle.mob_plane.specs.declared.point.Point.{Point}
 use Rattle.mob_slice.specs.CourseOf.{line_course}
-use Rattle.mob_value.specs.declared.value.Value.{Value}
-use Rattle.mob_value.specs.declared.value.Value.TheVariants.{Null, MovingFrac, MovingPoint}
-use Rattle.mob_value.specs.Moving.{IsFunction, plane_function}
+use Rattle.mob_value.{specs.declared.value.Value.{Value}, specs.declared.value.Value.TheVariants.{Null, MovingFrac, MovingPoint}, specs.Moving.{IsFunction, plane_function}}
 
 -- v has at each instant this coordinate of a moving point
 abbrev pub IsCoordinate : (Point → Ratio) → Value → Value → Type 0

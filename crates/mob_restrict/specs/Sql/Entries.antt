@@ -1,23 +1,13 @@
 -- The entries of restrictions by time and by value, and of the value at one instant.
-use Rattle.std.specs.Prelude.{List, [], ◌∷◌, Option, Some, None}
-use Rattle.std.specs.List.{flat_map}
+use Rattle.std.{specs.Prelude.{List, [], ◌∷◌, Option, Some, None}, specs.List.{flat_map}}
 use Rattle.mob_ratio.specs.Ratio.{Ratio}
-use Rattle.mob_span.specs.Meets.{shared_pieces}
-use Rattle.mob_span.specs.Span.{SpanOf}
-use Rattle.mob_slice.specs.Entries.{Entry}
-use Rattle.mob_slice.specs.Instants.{parts_at}
-use Rattle.mob_slice.specs.Lines.{line_parts_of, plane_parts_of, line_value_of, plane_value_of}
-use Rattle.mob_slice.specs.Operands.{steady_parts, steady_value}
-use Rattle.mob_slice.specs.declared.formula.Formula.TheVariants.{F1}
-use Rattle.mob_slice.specs.declared.slice.Slice.{Slice}
+use Rattle.mob_span.{specs.Meets.{shared_pieces}, specs.Span.{SpanOf}}
+use Rattle.mob_slice.{specs.Entries.{Entry}, specs.Instants.{parts_at}, specs.Lines.{line_parts_of, plane_parts_of, line_value_of, plane_value_of}, specs.Operands.{steady_parts, steady_value}}
+use Rattle.mob_slice.{specs.declared.formula.Formula.TheVariants.{F1}, specs.declared.slice.Slice.{Slice}, specs.LineComparison.{number_gaps, point_gaps}, specs.declared.comparison.Gaps.{Gaps}}
+use Rattle.mob_slice.specs.declared.comparison.Gaps.TheVariants.{Constant}
 use Rattle.mob_value.specs.declared.value.Value.{Value}
 use Rattle.mob_value.specs.declared.value.Value.TheVariants.{Bool as Truth, Number, Text, Moment, Point, MovingBool, MovingInt, MovingFrac, MovingText, MovingPoint}
-use Rattle.mob_slice.specs.LineComparison.{number_gaps, point_gaps}
-use Rattle.mob_slice.specs.declared.comparison.Gaps.{Gaps}
-use Rattle.mob_slice.specs.declared.comparison.Gaps.TheVariants.{Constant}
-use Rattle.mob_restrict.specs.Cuts.{entry_of_cut}
-use Rattle.mob_restrict.specs.Sql.Times.{asked_spans}
-use Rattle.mob_restrict.specs.Values.{entries_of_value}
+use Rattle.mob_restrict.{specs.Cuts.{entry_of_cut}, specs.Sql.Times.{asked_spans}, specs.Values.{entries_of_value}}
 
 -- the entries of atTime and minusTime: F1 at the two ends of the overlap of a slice and a span
 abbrev pub cut_entries : {C : Type 0} → (C → Ratio → Ratio → Ratio → List Ratio) → List SpanOf → List (Slice C) → List Entry

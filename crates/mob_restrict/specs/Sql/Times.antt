@@ -1,20 +1,13 @@
 -- Operators on the instants of a temporal value: its restriction to given instants or to the
 -- others, its value at one instant, and the instants at which it is defined.
 use Rattle.std.specs.Prelude.{◌≡◌, Bool, List, [], ◌∷◌, Option, Some, None, MatchOption, is_some}
-use Rattle.mob_ratio.specs.Ratio.{Ratio}
-use Rattle.mob_ratio.specs.Order.{same}
-use Rattle.mob_span.specs.Sets.{in_some}
-use Rattle.mob_span.specs.Span.{SpanOf}
-use Rattle.mob_span.specs.Flags.{same_bool}
-use Rattle.mob_slice.specs.CourseOf.{CourseOf, steady_course, line_course, plane_course}
-use Rattle.mob_slice.specs.Sameness.{same_bytes}
-use Rattle.mob_slice.specs.declared.slice.Slice.{Slice}
-use Rattle.mob_cells.specs.Cells.{instant_span}
-use Rattle.mob_cells.specs.Restricted.{IsRestricted}
+use Rattle.mob_ratio.{specs.Ratio.{Ratio}, specs.Order.{same}}
+use Rattle.mob_span.{specs.Sets.{in_some}, specs.Span.{SpanOf}, specs.Flags.{same_bool}}
+use Rattle.mob_slice.{specs.CourseOf.{CourseOf, steady_course, line_course, plane_course}, specs.Sameness.{same_bytes}, specs.declared.slice.Slice.{Slice}}
+use Rattle.mob_cells.{specs.Cells.{instant_span}, specs.Restricted.{IsRestricted}}
 use Rattle.mob_value.specs.declared.value.Value.{Value}
 use Rattle.mob_value.specs.declared.value.Value.TheVariants.{Null, Bool as Truth, Number, Text, Moment, Point, Span, SpanSet, MovingBool, MovingInt, MovingFrac, MovingText, MovingPoint}
-use Rattle.mob_value.specs.Moving.{OverTime, step_function, line_function, plane_function, or_nothing, IsFunctionOrNull}
-use Rattle.mob_value.specs.Sets.{AreInstantsOf}
+use Rattle.mob_value.{specs.Moving.{OverTime, step_function, line_function, plane_function, or_nothing, IsFunctionOrNull}, specs.Sets.{AreInstantsOf}}
 
 -- the spans of the instants of a moment, a span or a span set; other values have none
 abbrev pub asked_spans : Value → Option (List SpanOf)

@@ -7,10 +7,10 @@ ghost use Rattle.mob_shell.specs.Inputs.{seen};
 use crate::driver::demo::run_demo;
 use crate::driver::judge::run_text;
 use mob_accept::SCRIPT_LIMIT;
+use mob_arguments::laws::one_setting;
+use mob_arguments::{Settings, settings};
 use mob_ending::Ending;
 use mob_outside::{Files, Gate, ReadEnd, Sink, Source, read_to};
-use mob_words::laws::one_setting;
-use mob_words::{Settings, settings};
 use std::alloc::Global;
 use std::thread::Threads;
 

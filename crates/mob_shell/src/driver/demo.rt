@@ -5,10 +5,10 @@ ghost use Rattle.mob_shell.specs.Inputs.{demo_files};
 ghost use Rattle.mob_shell.specs.Parts.{DemoEnds, demo_ending};
 
 use crate::driver::judge::run_text;
+use mob_arguments::Settings;
 use mob_demo::{demo_file, demo_script};
 use mob_ending::Ending;
 use mob_outside::{Gate, MemFiles, Sink};
-use mob_words::Settings;
 use std::alloc::{AllocError, Global};
 use std::thread::Threads;
 

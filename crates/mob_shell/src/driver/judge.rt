@@ -6,6 +6,7 @@ ghost use Rattle.mob_shell.specs.Parts.{IsEndingOfRefusal, TextEnds, unloaded};
 
 use crate::statements::{Session, run_session};
 use mob_accept::accept;
+use mob_arguments::Settings;
 use mob_ast::{Kind, Refusal};
 use mob_catalog::laws::values_have_their_types;
 use mob_ending::Ending;
@@ -14,7 +15,6 @@ use mob_load::laws::literals_have_their_values;
 use mob_load::{LoadEnd, load};
 use mob_outside::{Files, Gate, Sink};
 use mob_typing::laws::scripts_are_well_typed;
-use mob_words::Settings;
 use std::alloc::Global;
 use std::thread::Threads;
 

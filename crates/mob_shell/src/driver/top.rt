@@ -8,10 +8,10 @@ ghost use Rattle.mob_outside.specs.Streams.{Puts};
 use crate::driver::decide::decide;
 use crate::laws::{one_ending, one_program};
 use mob_accept::laws::one_script;
+use mob_arguments::laws::one_setting;
 use mob_ending::tell;
 use mob_meaning::laws::faults_pass;
 use mob_outside::{Files, Gate, Sink, Source};
-use mob_words::laws::one_setting;
 use std::alloc::Global;
 use std::thread::Threads;
 

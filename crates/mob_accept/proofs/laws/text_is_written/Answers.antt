@@ -1,5 +1,4 @@
-use Rattle.mob_accept.proofs.InOrder.{typing_keeps_order}
-use Rattle.mob_accept.proofs.Written.{are_written, trees_rise}
+use Rattle.mob_accept.{proofs.InOrder.{typing_keeps_order}, proofs.Written.{are_written, trees_rise}}
 use Rattle.mob_accept.proofs.laws.text_is_written.Goals as goal
 
 pub returns : goal.returns

@@ -1,8 +1,6 @@
 use Rattle.std.proofs.Common.{◌∙◌, true}
-use Rattle.mob_slice.specs.Slices.{value_at}
-use Rattle.mob_slice.specs.Operands.{steady_value, steady_limit}
-use Rattle.mob_arith.specs.Operations.{differ}
-use Rattle.mob_arith.proofs.Alone.{never_none, turned}
+use Rattle.mob_slice.{specs.Slices.{value_at}, specs.Operands.{steady_value, steady_limit}}
+use Rattle.mob_arith.{specs.Operations.{differ}, proofs.Alone.{never_none, turned}}
 use Rattle.mob_arith.proofs.logic.not.Goals as goal
 
 pub returns-in-Ok-Some : goal.returns-in-Ok-Some

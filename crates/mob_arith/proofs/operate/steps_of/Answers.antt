@@ -1,10 +1,6 @@
 use Rattle.std.proofs.Common.{[]}
-use Rattle.mob_slice.specs.Sides.{piece_of, operand_of, pieces, HoldsPiece}
-use Rattle.mob_slice.specs.Operands.{steady_value, steady_limit}
-use Rattle.mob_slice.proofs.Yielded.{clear_along, all_along}
-use Rattle.mob_sync.specs.Pieces.{pieces_left}
-use Rattle.mob_lift.proofs.Overall.{whole}
-use Rattle.mob_lift.proofs.OnPieces.{memory_only}
+use Rattle.mob_slice.{specs.Sides.{piece_of, operand_of, pieces, HoldsPiece}, specs.Operands.{steady_value, steady_limit}, proofs.Yielded.{clear_along, all_along}}
+use Rattle.mob_lift.{specs.Pieces.{pieces_left}, proofs.Overall.{whole}, proofs.OnPieces.{memory_only}}
 use Rattle.mob_arith.proofs.operate.steps_of.Goals as goal
 
 pub lift-requires-clause-clear : goal.lift-requires-clause-clear

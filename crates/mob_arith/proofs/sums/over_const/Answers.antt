@@ -1,8 +1,6 @@
 use Rattle.std.proofs.Common.{◌∙◌}
-use Rattle.mob_slice.specs.Lines.{line_value_of, line_continued}
-use Rattle.mob_slice.specs.Slices.{value_at}
-use Rattle.mob_arith.specs.Operations.{quotient_of}
-use Rattle.mob_arith.proofs.Alone.{never_none, beside}
+use Rattle.mob_slice.{specs.Lines.{line_value_of, line_continued}, specs.Slices.{value_at}}
+use Rattle.mob_arith.{specs.Operations.{quotient_of}, proofs.Alone.{never_none, beside}}
 use Rattle.mob_arith.proofs.sums.over_const.Goals as goal
 
 pub returns-in-Ok-Some-clause-value : goal.returns-in-Ok-Some-clause-value

@@ -1,5 +1,4 @@
-use Rattle.std.proofs.Common.{ap, ◌∙◌}
-use Rattle.std.proofs.lemmas.Result.{err_from_is_err_and}
+use Rattle.std.{proofs.Common.{ap, ◌∙◌}, proofs.lemmas.Result.{err_from_is_err_and}}
 use Rattle.mob_frac.proofs.Fitting.{all_both, all_first, all_second}
 use Rattle.mob_arith.proofs.termwise.course_on.Goals as goal
 

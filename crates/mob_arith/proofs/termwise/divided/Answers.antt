@@ -1,10 +1,6 @@
 use Rattle.std.proofs.Common.{rules, arith, ◌≡◌, ◌∙◌, ap, sym, subst, pos, refl}
 use Rattle.mob_frac.specs.Fits.{Fits}
-use Rattle.mob_ratio.specs.Gcd.{gcd, gcd_steps}
-use Rattle.mob_ratio.specs.Ratio.{Ratio, Ratio-same, whole, over, turned, inverse, ◌*ℚ◌, ◌/ℚ◌}
-use Rattle.mob_ratio.specs.Sign.{nil}
-use Rattle.mob_ratio.proofs.Clear.{clear1, cleared}
-use Rattle.mob_ratio.proofs.IntRing.{linear}
+use Rattle.mob_ratio.{specs.Gcd.{gcd, gcd_steps}, specs.Ratio.{Ratio, Ratio-same, whole, over, turned, inverse, ◌*ℚ◌, ◌/ℚ◌}, specs.Sign.{nil}, proofs.Clear.{clear1, cleared}, proofs.IntRing.{linear}}
 use Rattle.mob_arith.proofs.termwise.divided.Goals as goal
 
 nil_num : nil.num ≡ pos 0

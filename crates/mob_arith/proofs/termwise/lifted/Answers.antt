@@ -1,7 +1,5 @@
-use Rattle.mob_slice.specs.Sides.{piece_of, operand_of, HoldsPiece}
-use Rattle.mob_slice.proofs.Yielded.{clear_along, all_along}
-use Rattle.mob_sync.specs.Pieces.{pieces_left}
-use Rattle.mob_lift.proofs.Overall.{whole}
+use Rattle.mob_slice.{specs.Sides.{piece_of, operand_of, HoldsPiece}, proofs.Yielded.{clear_along, all_along}}
+use Rattle.mob_lift.{specs.Pieces.{pieces_left}, proofs.Overall.{whole}}
 use Rattle.mob_arith.specs.Termwise.{entries_at_ends}
 use Rattle.mob_arith.proofs.termwise.lifted.Goals as goal
 

@@ -1,10 +1,8 @@
 use Rattle.std.proofs.Common.{refl}
 use Rattle.mob_frac.proofs.Fitting.{all_first, all_second}
 use Rattle.mob_slice.specs.Sides.{piece_of, side_at, side_of}
-use Rattle.mob_lift.specs.Given.{on_sides}
-use Rattle.mob_lift.proofs.OnPieces.{on_one}
-use Rattle.mob_arith.specs.Termwise.{entries_at_ends}
-use Rattle.mob_arith.proofs.Terms.{left_fails, right_fails, limits_fail, all_fit, has_values}
+use Rattle.mob_lift.{specs.Given.{on_sides}, proofs.OnPieces.{on_one}}
+use Rattle.mob_arith.{specs.Termwise.{entries_at_ends}, proofs.Terms.{left_fails, right_fails, limits_fail, all_fit, has_values}}
 use Rattle.mob_arith.proofs.termwise.on_piece.Goals as goal
 
 pub returns-in-Err : goal.returns-in-Err

@@ -1,5 +1,4 @@
-use Rattle.std.proofs.Common.{List, map, drop, refl, ap, ◌∙◌}
-use Rattle.std.proofs.lemmas.Result.{MatchResult-weaker}
+use Rattle.std.{proofs.Common.{List, map, drop, refl, ap, ◌∙◌}, proofs.lemmas.Result.{MatchResult-weaker}}
 use Rattle.mob_value.specs.declared.value.Value.{Value}
 use Rattle.mob_literal.specs.Fields.{field_text}
 use Rattle.mob_records.specs.AnswerText.{answer_text}

@@ -1,5 +1,4 @@
-use Rattle.std.proofs.Common.{length}
-use Rattle.std.proofs.lemmas.Result.{MatchResult-weaker}
+use Rattle.std.{proofs.Common.{length}, proofs.lemmas.Result.{MatchResult-weaker}}
 use Rattle.mob_arrange.proofs.Given.{text_arranged}
 use Rattle.mob_arrange.proofs.arrange.arranged_text.Goals as goal
 

@@ -1,9 +1,6 @@
-use Rattle.std.proofs.Common.{map, ap, ◌∙◌}
-use Rattle.std.proofs.lemmas.Result.{MatchResult-weaker}
+use Rattle.std.{proofs.Common.{map, ap, ◌∙◌}, proofs.lemmas.Result.{MatchResult-weaker}}
 use Rattle.mob_records.specs.AnswerText.{answer_text}
-use Rattle.mob_arrange.specs.Rows.{limited}
-use Rattle.mob_arrange.specs.TextsSeen.{strings_of}
-use Rattle.mob_arrange.proofs.Given.{cut_before}
+use Rattle.mob_arrange.{specs.Rows.{limited}, specs.TextsSeen.{strings_of}, proofs.Given.{cut_before}}
 use Rattle.mob_arrange.proofs.arrange.distinct_text.Goals as goal
 
 pub returns : goal.returns

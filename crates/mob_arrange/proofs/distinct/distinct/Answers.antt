@@ -1,9 +1,7 @@
-use Rattle.std.proofs.Common.{◌≡◌, ◌<◌, List, map, drop, length, get_or, ap, subst, sym, ◌∙◌, arith}
-use Rattle.std.proofs.lemmas.List.{get_or-map, length-map}
+use Rattle.std.{proofs.Common.{◌≡◌, ◌<◌, List, map, drop, length, get_or, ap, subst, sym, ◌∙◌, arith}, proofs.lemmas.List.{get_or-map, length-map}}
 use Rattle.mob_value.specs.declared.value.Value.{Value}
 use Rattle.mob_literal.specs.Fields.{field_text}
-use Rattle.mob_arrange.specs.TextsSeen.{strings_of}
-use Rattle.mob_arrange.proofs.Seen.{Taken, seen_or_new, seen_step, seen_end}
+use Rattle.mob_arrange.{specs.TextsSeen.{strings_of}, proofs.Seen.{Taken, seen_or_new, seen_step, seen_end}}
 use Rattle.mob_arrange.proofs.distinct.distinct.Goals as goal
 
 pub loop-row-preserved : goal.loop-row-preserved

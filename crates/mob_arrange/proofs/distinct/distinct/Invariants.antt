@@ -1,7 +1,6 @@
 use Rattle.std.proofs.Common.{◌++◌, List, ℕ, [], map, drop}
 use Rattle.mob_literal.specs.Fields.{field_text}
-use Rattle.mob_arrange.specs.Rows.{AreFirst}
-use Rattle.mob_arrange.specs.TextsSeen.{strings_of}
+use Rattle.mob_arrange.{specs.Rows.{AreFirst}, specs.TextsSeen.{strings_of}}
 use Rattle.mob_arrange.proofs.distinct.distinct.Given as goal
 
 abbrev pub invariant-loop-row : goal.invariant-loop-row

@@ -1,6 +1,4 @@
-use Rattle.std.proofs.Common.{rules, ◌≡◌, ◌∙◌, FitsSigned, pos, ap, sym}
-use Rattle.std.specs.Int.{w64}
-use Rattle.std.proofs.lemmas.Int.{to_z-of_z}
+use Rattle.std.{specs.Int.{w64}, proofs.Common.{rules, ◌≡◌, ◌∙◌, FitsSigned, pos, ap, sym}, proofs.lemmas.Int.{to_z-of_z}}
 use Rattle.mob_ratio.specs.Ratio.{whole}
 use Rattle.mob_arrange.proofs.WholeNumbers.{is_whole}
 use Rattle.mob_arrange.proofs.listed.whole_part.Goals as goal

@@ -1,5 +1,4 @@
-use Rattle.std.proofs.Common.{◌≡◌, ◌∙◌, int_cmp}
-use Rattle.std.proofs.lemmas.Int.{to_z-of_z}
+use Rattle.std.{proofs.Common.{◌≡◌, ◌∙◌, int_cmp}, proofs.lemmas.Int.{to_z-of_z}}
 use Rattle.mob_arrange.proofs.WholeNumbers.{whole_order}
 use Rattle.mob_arrange.proofs.order.compare_whole.Goals as goal
 

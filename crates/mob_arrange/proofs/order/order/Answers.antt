@@ -1,9 +1,5 @@
-use Rattle.std.proofs.Common.{rules}
-use Rattle.std.specs.Ordering.{is_lt}
-use Rattle.std.proofs.lemmas.Fn.{always_returns_same}
-use Rattle.mob_arrange.specs.Order.{compare_keys}
-use Rattle.mob_arrange.proofs.Carried.{values_ordered}
-use Rattle.mob_arrange.proofs.Orders.{keys_ranked}
+use Rattle.std.{specs.Ordering.{is_lt}, proofs.Common.{rules}, proofs.lemmas.Fn.{always_returns_same}}
+use Rattle.mob_arrange.{specs.Order.{compare_keys}, proofs.Carried.{values_ordered}, proofs.Orders.{keys_ranked}}
 use Rattle.mob_arrange.proofs.order.order.Goals as goal
 
 pub returns-in-Ok : goal.returns-in-Ok

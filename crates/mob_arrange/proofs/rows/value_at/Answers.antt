@@ -1,7 +1,5 @@
-use Rattle.std.proofs.Common.{◌∙◌, ◌<◌, length, map, ap, sym, arith}
-use Rattle.std.proofs.lemmas.List.{get_or-map, length-map}
-use Rattle.mob_arrange.specs.RowValues.{row_value}
-use Rattle.mob_arrange.proofs.Places.{first_dropped}
+use Rattle.std.{proofs.Common.{◌∙◌, ◌<◌, length, map, ap, sym, arith}, proofs.lemmas.List.{get_or-map, length-map}}
+use Rattle.mob_arrange.{specs.RowValues.{row_value}, proofs.Places.{first_dropped}}
 use Rattle.mob_arrange.proofs.rows.value_at.Goals as goal
 
 pub returns-then-place-values : goal.returns-then-place-values

@@ -1,6 +1,5 @@
 use Rattle.std.proofs.Common.{◌≡◌, ◌∙◌, sym, ap, subst, get_or}
-use Rattle.mob_rtree_nodes.specs.Tree.{Kid}
-use Rattle.mob_rtree_nodes.specs.Reach.{is_root, is_child, children}
+use Rattle.mob_rtree_nodes.{specs.Tree.{Kid}, specs.Reach.{is_root, is_child, children}}
 use Rattle.mob_base_rows.proofs.walked.children_below.Goals as goal
 
 pub part-requires : goal.part-requires

@@ -1,6 +1,5 @@
 use Rattle.std.proofs.Common.{◌≡◌, ◌∙◌, ◌+◌, ◌++◌, ◌∷◌, [], ap, sym, arith}
-use Rattle.mob_catalog.specs.Kept.{numbers_from}
-use Rattle.mob_catalog.proofs.FirstRows.{numbers_more}
+use Rattle.mob_catalog.{specs.Kept.{numbers_from}, proofs.FirstRows.{numbers_more}}
 use Rattle.mob_catalog.proofs.first_rows.first_numbers.Goals as goal
 
 pub loop-number-preserved : goal.loop-number-preserved

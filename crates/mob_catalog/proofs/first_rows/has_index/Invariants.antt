@@ -1,5 +1,4 @@
-use Rattle.std.proofs.Common.{◌≡◌, take}
-use Rattle.std.specs.List.{AllByRecursion}
+use Rattle.std.{specs.List.{AllByRecursion}, proofs.Common.{◌≡◌, take}}
 use Rattle.mob_catalog.proofs.first_rows.has_index.Given as goal
 
 abbrev pub invariant-loop-on : goal.invariant-loop-on

@@ -1,7 +1,5 @@
 use Rattle.std.proofs.Common.{◌≡◌, ◌∙◌, ◌<◌, ap, length, arith}
-use Rattle.mob_catalog.specs.Catalogue.{rows_put, with_changed}
-use Rattle.mob_catalog.specs.Kept.{with_last_rows}
-use Rattle.mob_catalog.proofs.FirstRows.{rows_set}
+use Rattle.mob_catalog.{specs.Catalogue.{rows_put, with_changed}, specs.Kept.{with_last_rows}, proofs.FirstRows.{rows_set}}
 use Rattle.mob_catalog.proofs.first_rows.set_rows.Goals as goal
 
 pub returns : goal.returns

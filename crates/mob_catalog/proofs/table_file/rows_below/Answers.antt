@@ -1,11 +1,6 @@
-use Rattle.std.proofs.Common.{◌≡◌, List, drop, inl, inr, arith}
-use Rattle.std.proofs.lemmas.List.{length-drop}
-use Rattle.std.proofs.lemmas.Result.{IfErr-weaker, on_ok_weaker}
+use Rattle.std.{proofs.Common.{◌≡◌, List, drop, inl, inr, arith}, proofs.lemmas.List.{length-drop}, proofs.lemmas.Result.{IfErr-weaker, on_ok_weaker}}
 use Rattle.mob_ast.specs.declared.refusal.Kind.TheVariants.{BadHeader}
-use Rattle.mob_catalog.specs.Faults.{file_fault}
-use Rattle.mob_catalog.specs.FirstFault.{IsFirstFault}
-use Rattle.mob_catalog.specs.RecordsLeft.{IsReading}
-use Rattle.mob_catalog.specs.TableFile.{Field, IsRow, RecordFails, RecordsFail}
+use Rattle.mob_catalog.{specs.Faults.{file_fault}, specs.FirstFault.{IsFirstFault}, specs.RecordsLeft.{IsReading}, specs.TableFile.{Field, IsRow, RecordFails, RecordsFail}}
 use Rattle.mob_list.proofs.Faults.{cause_weaker}
 use Rattle.mob_catalog.proofs.table_file.rows_below.Goals as goal
 

@@ -1,11 +1,6 @@
-use Rattle.std.specs.Prelude.{Contains}
-use Rattle.std.proofs.Common.{sym, subst}
-use Rattle.std.specs.List.{AllByRecursion}
-use Rattle.std.proofs.lemmas.List.Sorted.{Contains-permutation, IsPermutation-sym}
+use Rattle.std.{specs.Prelude.{Contains}, specs.List.{AllByRecursion}, proofs.Common.{sym, subst}, proofs.lemmas.List.Sorted.{Contains-permutation, IsPermutation-sym}}
 use Rattle.mob_ratio.specs.Ratio.{Ratio}
-use Rattle.mob_cells.specs.Cells.{functions_of, placed_roots}
-use Rattle.mob_cells.proofs.Placing.{are_signed, levels_of, roots_placed}
-use Rattle.mob_cells.proofs.Rising.{IsBetween, rising_cuts, roots_between}
+use Rattle.mob_cells.{specs.Cells.{functions_of, placed_roots}, proofs.Placing.{are_signed, levels_of, roots_placed}, proofs.Rising.{IsBetween, rising_cuts, roots_between}}
 use Rattle.mob_cells.proofs.signed.cells_on.Goals as goal
 
 pub cells_at-requires : goal.cells_at-requires

@@ -1,5 +1,4 @@
-use Rattle.std.proofs.Common.{drop, ◌+◌, arith, inl, inr, ap, Some, refl}
-use Rattle.std.proofs.Math.ListN.{drop_of_length-le}
+use Rattle.std.{proofs.Common.{drop, ◌+◌, arith, inl, inr, ap, Some, refl}, proofs.Math.ListN.{drop_of_length-le}}
 use Rattle.mob_list.proofs.Entries.{drop_read}
 use Rattle.mob_cells.proofs.Placing.{placing_start, placing_step, placing_fails, placing_all, placing_fits, placing_level}
 use Rattle.mob_cells.proofs.signed.placed_on.Goals as goal

@@ -1,10 +1,6 @@
-use Rattle.std.proofs.Common.{drop, ◌+◌, arith, subst}
-use Rattle.std.proofs.Math.ListN.{drop_of_length-le}
-use Rattle.std.specs.List.Sorted.{IsPermutation}
+use Rattle.std.{specs.List.Sorted.{IsPermutation}, proofs.Common.{drop, ◌+◌, arith, subst}, proofs.Math.ListN.{drop_of_length-le}}
 use Rattle.mob_list.proofs.Entries.{drop_read}
-use Rattle.mob_cells.specs.Roots.{as_list}
-use Rattle.mob_cells.specs.declared.signs.Placed.{Placed}
-use Rattle.mob_cells.proofs.Making.{flat_step, flat_end}
+use Rattle.mob_cells.{specs.Roots.{as_list}, specs.declared.signs.Placed.{Placed}, proofs.Making.{flat_step, flat_end}}
 use Rattle.mob_cells.proofs.signed.sorted_roots.Goals as goal
 
 pub loop-p-preserved : goal.loop-p-preserved

@@ -1,9 +1,6 @@
-use Rattle.std.proofs.Common.{drop, ◌+◌, arith, refl}
-use Rattle.std.proofs.Math.ListN.{drop_of_length-le}
-use Rattle.mob_list.proofs.Each.{each_get}
-use Rattle.mob_list.proofs.Entries.{drop_read}
-use Rattle.mob_cells.specs.Cells.{IsPlaced, placed_sign}
-use Rattle.mob_cells.proofs.Making.{read_of, mapped_step, mapped_end}
+use Rattle.std.{proofs.Common.{drop, ◌+◌, arith, refl}, proofs.Math.ListN.{drop_of_length-le}}
+use Rattle.mob_list.{proofs.Each.{each_get}, proofs.Entries.{drop_read}}
+use Rattle.mob_cells.{specs.Cells.{IsPlaced, placed_sign}, proofs.Making.{read_of, mapped_step, mapped_end}}
 use Rattle.mob_cells.proofs.signs.signs_at.Goals as goal
 
 pub sign_at-requires : goal.sign_at-requires

@@ -1,7 +1,5 @@
 use Rattle.std.proofs.Common.{◌≡◌, ◌∙◌, ◌≤◌, ◌+◌, length, length-drop, drop, Ok, sym, ap, arith}
-use Rattle.mob_chars.specs.Scan.{gap_length}
-use Rattle.mob_chars.specs.Tokens.{tokens_of, tokens_from, token_at}
-use Rattle.mob_chars.proofs.Walk.{before, before_one, at_gap, at_token, at_fault, at_end, slice_from}
+use Rattle.mob_chars.{specs.Scan.{gap_length}, specs.Tokens.{tokens_of, tokens_from, token_at}, proofs.Walk.{before, before_one, at_gap, at_token, at_fault, at_end, slice_from}}
 use Rattle.mob_chars.proofs.lexer.tokens.Goals as goal
 
 pub loop-at-preserved-then-gap-gt0 : goal.loop-at-preserved-then-gap-gt0

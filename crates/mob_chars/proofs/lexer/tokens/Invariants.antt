@@ -1,6 +1,5 @@
 use Rattle.std.proofs.Common.{◌≡◌, ◌≤◌, ◌-◌, drop, length}
-use Rattle.mob_chars.specs.Tokens.{tokens_of, tokens_from}
-use Rattle.mob_chars.proofs.Walk.{before}
+use Rattle.mob_chars.{specs.Tokens.{tokens_of, tokens_from}, proofs.Walk.{before}}
 use Rattle.mob_chars.proofs.lexer.tokens.Given as goal
 
 abbrev pub invariant-loop-at : goal.invariant-loop-at

@@ -1,5 +1,4 @@
-use Rattle.std.proofs.Common.{◌≡◌, ◌+◌, ◌-◌, ◌≤◌, drop, length}
-use Rattle.std.specs.Prelude.{option_map}
+use Rattle.std.{specs.Prelude.{option_map}, proofs.Common.{◌≡◌, ◌+◌, ◌-◌, ◌≤◌, drop, length}}
 use Rattle.mob_chars.specs.Scan.{quoted_length}
 use Rattle.mob_chars.proofs.scan.quoted_length.Given as goal
 

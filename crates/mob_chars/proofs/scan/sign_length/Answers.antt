@@ -1,7 +1,5 @@
-use Rattle.std.proofs.Common.{refl, ◌∙◌, sym, subst, ℕ, ◌<◌, ◌≤◌, length, Option}
-use Rattle.std.specs.Prelude.{IfSome}
-use Rattle.mob_chars.specs.Signs.{sign_length, signs}
-use Rattle.mob_chars.proofs.Longest.{first_is_longest, first_fits}
+use Rattle.std.{specs.Prelude.{IfSome}, proofs.Common.{refl, ◌∙◌, sym, subst, ℕ, ◌<◌, ◌≤◌, length, Option}}
+use Rattle.mob_chars.{specs.Signs.{sign_length, signs}, proofs.Longest.{first_is_longest, first_fits}}
 use Rattle.mob_chars.proofs.scan.sign_length.Goals as goal
 
 pub returns-clause-value : goal.returns-clause-value

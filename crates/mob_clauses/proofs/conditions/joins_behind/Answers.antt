@@ -1,13 +1,10 @@
-use Rattle.std.proofs.Common.{◌≡◌, ◌∙◌, ◌+◌, ◌++◌, ◌∷◌, [], ap, sym, arith, map, drop}
-use Rattle.std.specs.Prelude.{option_map}
-use Rattle.std.proofs.lemmas.List.{drop_all, map_push}
+use Rattle.std.{specs.Prelude.{option_map}, proofs.Common.{◌≡◌, ◌∙◌, ◌+◌, ◌++◌, ◌∷◌, [], ap, sym, arith, map, drop}, proofs.lemmas.List.{drop_all, map_push}}
 use Rattle.std.proofs.lemmas.Result.{err_from_is_err_and}
 use Rattle.mob_ast.specs.Trees.{from_of}
 use Rattle.mob_typed.specs.Trees.{typed_of}
 use Rattle.mob_scope.specs.Scopes.{scope_of}
 use Rattle.mob_expression.proofs.Behind.{behind}
-use Rattle.mob_clauses.specs.Conditions.{joins_from}
-use Rattle.mob_clauses.proofs.Joined.{join_fails, join_made, joins_made}
+use Rattle.mob_clauses.{specs.Conditions.{joins_from}, proofs.Joined.{join_fails, join_made, joins_made}}
 use Rattle.mob_clauses.proofs.conditions.joins_behind.Goals as goal
 
 pub returns-in_err-on : goal.returns-in_err-on

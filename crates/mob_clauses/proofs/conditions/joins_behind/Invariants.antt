@@ -1,5 +1,4 @@
-use Rattle.std.proofs.Common.{◌≡◌, drop, map}
-use Rattle.std.specs.Prelude.{option_map}
+use Rattle.std.{specs.Prelude.{option_map}, proofs.Common.{◌≡◌, drop, map}}
 use Rattle.mob_ast.specs.Trees.{from_of}
 use Rattle.mob_scope.specs.Scopes.{scope_of}
 use Rattle.mob_expression.proofs.Behind.{behind}

@@ -1,5 +1,4 @@
-use Rattle.std.proofs.Common.{◌≡◌, drop, map}
-use Rattle.std.specs.List.{list_any}
+use Rattle.std.{specs.List.{list_any}, proofs.Common.{◌≡◌, drop, map}}
 use Rattle.mob_ast.specs.Trees.{item_of}
 use Rattle.mob_clauses.specs.Outputs.{is_aggregate_item}
 use Rattle.mob_clauses.proofs.groups.any_aggregate.Given as goal

@@ -1,5 +1,4 @@
-use Rattle.std.proofs.Common.{◌≡◌, ◌++◌, drop, map}
-use Rattle.std.specs.List.{flat_map}
+use Rattle.std.{specs.List.{flat_map}, proofs.Common.{◌≡◌, ◌++◌, drop, map}}
 use Rattle.mob_ast.specs.Trees.{tree_of}
 use Rattle.mob_scope.specs.Scopes.{scope_of}
 use Rattle.mob_clauses.specs.Outputs.{group_column}

@@ -1,5 +1,4 @@
-use Rattle.std.proofs.Common.{◌≡◌, drop}
-use Rattle.std.specs.List.{list_any}
+use Rattle.std.{specs.List.{list_any}, proofs.Common.{◌≡◌, drop}}
 use Rattle.mob_clauses.specs.Outputs.{is_same_column}
 use Rattle.mob_clauses.proofs.groups.has_column.Given as goal
 

@@ -1,10 +1,7 @@
-use Rattle.std.proofs.Common.{◌∙◌, ◌++◌, ◌∷◌, [], ap, sym, arith}
-use Rattle.std.proofs.lemmas.Result.{err_from_is_err_and}
+use Rattle.std.{proofs.Common.{◌∙◌, ◌++◌, ◌∷◌, [], ap, sym, arith}, proofs.lemmas.Result.{err_from_is_err_and}}
 use Rattle.mob_ast.specs.Trees.{key_of}
 use Rattle.mob_expression.proofs.Lists.{mapped_more, mapped_all}
-use Rattle.mob_clauses.specs.Outputs.{outputs_seen}
-use Rattle.mob_clauses.specs.Keys.{key_item}
-use Rattle.mob_clauses.proofs.Pushed.{good, ok_same, still_free}
+use Rattle.mob_clauses.{specs.Outputs.{outputs_seen}, specs.Keys.{key_item}, proofs.Pushed.{good, ok_same, still_free}}
 use Rattle.mob_clauses.proofs.keys.key_items.Goals as goal
 
 pub loop-key-preserved : goal.loop-key-preserved

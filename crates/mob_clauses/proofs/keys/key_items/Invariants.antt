@@ -1,7 +1,6 @@
 use Rattle.std.proofs.Common.{◌≡◌, ◌++◌, drop, map}
 use Rattle.mob_ast.specs.Trees.{key_of}
-use Rattle.mob_clauses.specs.Outputs.{outputs_seen}
-use Rattle.mob_clauses.specs.Keys.{key_item}
+use Rattle.mob_clauses.{specs.Outputs.{outputs_seen}, specs.Keys.{key_item}}
 use Rattle.mob_clauses.proofs.keys.key_items.Given as goal
 
 abbrev pub invariant-loop-key : goal.invariant-loop-key

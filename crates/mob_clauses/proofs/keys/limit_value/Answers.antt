@@ -1,6 +1,5 @@
 use Rattle.std.proofs.Common.{◌≡◌, ◌∙◌, sym, ap, true}
-use Rattle.mob_clauses.specs.Keys.{is_limit}
-use Rattle.mob_clauses.proofs.Limits.{limit_parsed}
+use Rattle.mob_clauses.{specs.Keys.{is_limit}, proofs.Limits.{limit_parsed}}
 use Rattle.mob_clauses.proofs.keys.limit_value.Goals as goal
 
 pub returns-then-is_limit : goal.returns-then-is_limit

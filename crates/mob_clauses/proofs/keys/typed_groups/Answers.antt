@@ -1,6 +1,4 @@
-use Rattle.std.proofs.Common.{◌∙◌, ap, arith, map}
-use Rattle.std.proofs.lemmas.List.{map_push}
-use Rattle.std.proofs.lemmas.Result.{err_from_is_err_and}
+use Rattle.std.{proofs.Common.{◌∙◌, ap, arith, map}, proofs.lemmas.List.{map_push}, proofs.lemmas.Result.{err_from_is_err_and}}
 use Rattle.mob_typed.specs.Trees.{typed_of}
 use Rattle.mob_scope.specs.Scopes.{scope_of}
 use Rattle.mob_clauses.proofs.Listed.{group_fails, group_made, groups_made}

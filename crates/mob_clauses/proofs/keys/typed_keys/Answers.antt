@@ -1,13 +1,9 @@
-use Rattle.std.proofs.Common.{◌≡◌, ◌∙◌, ◌++◌, ◌∷◌, [], ap, arith, map, refl, List}
-use Rattle.std.proofs.lemmas.List.{drop_all, map_push}
-use Rattle.std.proofs.lemmas.Result.{err_from_is_err_and}
-use Rattle.mob_ast.specs.declared.statement.Key.{Key}
-use Rattle.mob_ast.specs.Trees.{key_of}
+use Rattle.std.{proofs.Common.{◌≡◌, ◌∙◌, ◌++◌, ◌∷◌, [], ap, arith, map, refl, List}, proofs.lemmas.List.{drop_all, map_push}, proofs.lemmas.Result.{err_from_is_err_and}}
+use Rattle.mob_ast.{specs.declared.statement.Key.{Key}, specs.Trees.{key_of}}
 use Rattle.mob_typed.specs.Selects.{key_seen}
 use Rattle.mob_scope.specs.Scopes.{scope_of}
 use Rattle.mob_expression.proofs.Behind.{entries_made, entry_fails, entry_made}
-use Rattle.mob_clauses.specs.Outputs.{outputs_seen}
-use Rattle.mob_clauses.specs.Keys.{typed_key, typed_keys}
+use Rattle.mob_clauses.{specs.Outputs.{outputs_seen}, specs.Keys.{typed_key, typed_keys}}
 use Rattle.mob_clauses.proofs.keys.typed_keys.Goals as goal
 
 pub returns-in_err-value : goal.returns-in_err-value

@@ -1,8 +1,7 @@
 use Rattle.std.proofs.Common.{◌≡◌, drop, map}
 use Rattle.mob_ast.specs.Trees.{key_of}
 use Rattle.mob_scope.specs.Scopes.{scope_of}
-use Rattle.mob_clauses.specs.Outputs.{outputs_seen}
-use Rattle.mob_clauses.specs.Keys.{typed_keys}
+use Rattle.mob_clauses.{specs.Outputs.{outputs_seen}, specs.Keys.{typed_keys}}
 use Rattle.mob_typed.specs.Selects.{key_seen}
 use Rattle.mob_expression.proofs.Behind.{behind}
 use Rattle.mob_clauses.proofs.keys.typed_keys.Given as goal

@@ -1,9 +1,6 @@
-use Rattle.std.proofs.Common.{arith}
-use Rattle.std.proofs.lemmas.List.{drop_all}
-use Rattle.std.proofs.lemmas.Result.{err_from_is_err_and}
+use Rattle.std.{proofs.Common.{arith}, proofs.lemmas.List.{drop_all}, proofs.lemmas.Result.{err_from_is_err_and}}
 use Rattle.mob_scope.specs.Scopes.{scope_of}
-use Rattle.mob_clauses.specs.Outputs.{outputs_seen}
-use Rattle.mob_clauses.proofs.Listed.{item_fails, item_made, items_made}
+use Rattle.mob_clauses.{specs.Outputs.{outputs_seen}, proofs.Listed.{item_fails, item_made, items_made}}
 use Rattle.mob_clauses.proofs.outputs.outputs_of.Goals as goal
 
 pub loop-item-preserved : goal.loop-item-preserved

@@ -1,5 +1,4 @@
-use Rattle.std.proofs.Common.{◌∙◌, ap, arith, map}
-use Rattle.std.proofs.lemmas.Result.{err_from_is_err_and}
+use Rattle.std.{proofs.Common.{◌∙◌, ap, arith, map}, proofs.lemmas.Result.{err_from_is_err_and}}
 use Rattle.mob_typed.specs.Selects.{output_of}
 use Rattle.mob_clauses.proofs.Pushed.{good, column_pushed, columns_done, still_free}
 use Rattle.mob_clauses.proofs.outputs.push_columns.Goals as goal

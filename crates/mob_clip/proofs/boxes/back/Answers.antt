@@ -1,8 +1,6 @@
-use Rattle.std.proofs.Common.{refl}
-use Rattle.std.specs.Prelude.{not}
+use Rattle.std.{specs.Prelude.{not}, proofs.Common.{refl}}
 use Rattle.mob_span.specs.Span.{SpanOf}
-use Rattle.mob_clip.specs.Boxes.{back_span}
-use Rattle.mob_clip.proofs.Passing.{some_made}
+use Rattle.mob_clip.{specs.Boxes.{back_span}, proofs.Passing.{some_made}}
 use Rattle.mob_clip.proofs.boxes.back.Goals as goal
 
 pub returns : goal.returns

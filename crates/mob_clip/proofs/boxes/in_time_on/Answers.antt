@@ -1,16 +1,9 @@
 use Rattle.std.proofs.Common.{◌≡◌, sym, subst, true, false}
-use Rattle.mob_span.specs.Neighbours.{is_inside}
-use Rattle.mob_span.proofs.Insides.{inside_self, meet_left}
-use Rattle.mob_slice.specs.Cut.{slice_value}
-use Rattle.mob_slice.specs.Lines.{plane_value_of}
-use Rattle.mob_slice.specs.PlaneLaws.{plane_laws}
-use Rattle.mob_slice.specs.Entries.{IsFirst}
-use Rattle.mob_lifted.specs.OnPiece.{AreKeptOn}
-use Rattle.mob_cells.specs.Restricted.{kept_value}
-use Rattle.mob_cells.proofs.OwnEnds.{own_fit}
+use Rattle.mob_span.{specs.Neighbours.{is_inside}, proofs.Insides.{inside_self, meet_left}}
+use Rattle.mob_slice.{specs.Cut.{slice_value}, specs.Lines.{plane_value_of}, specs.PlaneLaws.{plane_laws}, specs.Entries.{IsFirst}, specs.OnPiece.{AreKeptOn}}
+use Rattle.mob_cells.{specs.Restricted.{kept_value}, proofs.OwnEnds.{own_fit}}
 use Rattle.mob_stbox.specs.Boxes.{in_space}
-use Rattle.mob_clip.specs.Boxes.{entries_of_space}
-use Rattle.mob_clip.proofs.InTime.{none_shared, cut_fails, time_kept}
+use Rattle.mob_clip.{specs.Boxes.{entries_of_space}, proofs.InTime.{none_shared, cut_fails, time_kept}}
 use Rattle.mob_clip.proofs.boxes.in_time_on.Goals as goal
 
 pub piece_on-requires-clause-holds : goal.piece_on-requires-clause-holds

@@ -1,5 +1,4 @@
-use Rattle.mob_slice.specs.Lines.{plane_continued}
-use Rattle.mob_slice.proofs.Orders.{ordered}
+use Rattle.mob_slice.{specs.Lines.{plane_continued}, proofs.Orders.{ordered}}
 use Rattle.mob_clip.proofs.boxes.to_box.Goals as goal
 
 pub restricted-requires : goal.restricted-requires

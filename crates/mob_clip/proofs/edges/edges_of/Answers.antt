@@ -1,6 +1,4 @@
-use Rattle.std.proofs.Common.{arith, ◌+◌, ◌∙◌, ap, drop, refl}
-use Rattle.std.proofs.Math.ListN.{drop_of_length-le}
-use Rattle.std.specs.Prelude.{◌++◌}
+use Rattle.std.{specs.Prelude.{◌++◌}, proofs.Common.{arith, ◌+◌, ◌∙◌, ap, drop, refl}, proofs.Math.ListN.{drop_of_length-le}}
 use Rattle.mob_list.proofs.Entries.{drop_read}
 use Rattle.mob_plane.specs.Rings.{rings_of, edges, all_edges}
 use Rattle.mob_clip.proofs.Listing.{walk_step, walk_end}

@@ -1,6 +1,5 @@
 use Rattle.std.proofs.Common.{drop, arith, ◌-◌}
-use Rattle.mob_plane.specs.Rings.{edges}
-use Rattle.mob_plane.proofs.Counts.{edges_end}
+use Rattle.mob_plane.{specs.Rings.{edges}, proofs.Counts.{edges_end}}
 use Rattle.mob_clip.proofs.Listing.{all_made}
 use Rattle.mob_clip.proofs.edges.push_edges.Goals as goal
 

@@ -1,5 +1,4 @@
-use Rattle.std.proofs.Common.{rules, ◌≡◌, ◌++◌, length}
-use Rattle.std.proofs.lemmas.List.{take-append-drop}
+use Rattle.std.{proofs.Common.{rules, ◌≡◌, ◌++◌, length}, proofs.lemmas.List.{take-append-drop}}
 use Rattle.mob_clip.proofs.Knowing.{single, one_fits, two_fit, two_values}
 use Rattle.mob_clip.proofs.membership.+together.Goals as goal
 

@@ -1,5 +1,4 @@
-use Rattle.mob_clip.specs.Signs.{signs_on}
-use Rattle.mob_clip.proofs.Knowing.{if_ok, tally_at, tally_fit}
+use Rattle.mob_clip.{specs.Signs.{signs_on}, proofs.Knowing.{if_ok, tally_at, tally_fit}}
 use Rattle.mob_clip.proofs.membership.edge_steps.Goals as goal
 
 pub returns-clause-values : goal.returns-clause-values

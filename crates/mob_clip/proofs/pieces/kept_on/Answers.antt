@@ -1,12 +1,8 @@
-use Rattle.std.proofs.Common.{rules, arith, ◌≡◌, ◌+◌, drop, subst, false}
-use Rattle.std.proofs.Math.ListN.{drop_of_length-le}
+use Rattle.std.{proofs.Common.{rules, arith, ◌≡◌, ◌+◌, drop, subst, false}, proofs.Math.ListN.{drop_of_length-le}}
 use Rattle.mob_list.proofs.Entries.{drop_read}
-use Rattle.mob_slice.specs.Cut.{slice_parts}
-use Rattle.mob_slice.specs.Lines.{plane_parts_of}
-use Rattle.mob_slice.specs.PlaneLaws.{plane_laws}
+use Rattle.mob_slice.{specs.Cut.{slice_parts}, specs.Lines.{plane_parts_of}, specs.PlaneLaws.{plane_laws}}
 use Rattle.mob_cells.proofs.OwnEnds.{own_fit}
-use Rattle.mob_clip.specs.Steps.{ChangesFit}
-use Rattle.mob_clip.proofs.Passing.{rest_holds, passing_start, passing_step, passing_ends}
+use Rattle.mob_clip.{specs.Timelines.{ChangesFit}, proofs.Passing.{rest_holds, passing_start, passing_step, passing_ends}}
 use Rattle.mob_clip.proofs.pieces.kept_on.Goals as goal
 
 pub loop-change-init : goal.loop-change-init

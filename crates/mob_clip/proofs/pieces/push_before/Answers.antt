@@ -1,6 +1,5 @@
 use Rattle.std.proofs.Common.{subst}
-use Rattle.mob_clip.specs.Pieces.{IsOnSlice}
-use Rattle.mob_clip.proofs.Passing.{left_holds}
+use Rattle.mob_clip.{specs.Pieces.{IsOnSlice}, proofs.Passing.{left_holds}}
 use Rattle.mob_clip.proofs.pieces.push_before.Goals as goal
 
 pub piece_on-requires-clause-holds : goal.piece_on-requires-clause-holds

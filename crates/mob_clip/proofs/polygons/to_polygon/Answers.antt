@@ -1,10 +1,7 @@
-use Rattle.std.proofs.Common.{rules, ◌≡◌, subst}
-use Rattle.std.specs.List.{flat_map}
+use Rattle.std.{specs.List.{flat_map}, proofs.Common.{rules, ◌≡◌, subst}}
 use Rattle.mob_slice.specs.Entries.{IsJudged}
 use Rattle.mob_plane.specs.Rings.{all_edges}
-use Rattle.mob_clip.specs.Polygons.{entries_of_edges}
-use Rattle.mob_clip.proofs.Knowing.{if_ok}
-use Rattle.mob_clip.proofs.EverInside.{restricted_same}
+use Rattle.mob_clip.{specs.Polygons.{entries_of_edges}, proofs.Knowing.{if_ok}, proofs.EverInside.{restricted_same}}
 use Rattle.mob_clip.proofs.polygons.to_polygon.Goals as goal
 
 pub returns-clause-value : goal.returns-clause-value

@@ -1,14 +1,8 @@
-use Rattle.std.proofs.Common.{arith, ◌+◌, drop, refl}
-use Rattle.std.proofs.Math.ListN.{drop_of_length-le}
-use Rattle.std.specs.List.{flat_map}
-use Rattle.mob_list.proofs.Each.{each_get}
-use Rattle.mob_list.proofs.Entries.{drop_read}
-use Rattle.mob_slice.specs.Cut.{slice_parts}
-use Rattle.mob_slice.specs.Lines.{plane_parts_of}
-use Rattle.mob_slice.specs.declared.formula.Formula.TheVariants.{F1}
+use Rattle.std.{specs.List.{flat_map}, proofs.Common.{arith, ◌+◌, drop, refl}, proofs.Math.ListN.{drop_of_length-le}}
+use Rattle.mob_list.{proofs.Each.{each_get}, proofs.Entries.{drop_read}}
+use Rattle.mob_slice.{specs.Cut.{slice_parts}, specs.Lines.{plane_parts_of}, specs.declared.formula.Formula.TheVariants.{F1}}
 use Rattle.mob_cells.proofs.Making.{read_of}
-use Rattle.mob_clip.specs.Roots.{IsBetweenEnds}
-use Rattle.mob_clip.proofs.Listing.{checking_step, checking_fails, checking_end, fault_of_all}
+use Rattle.mob_clip.{specs.Roots.{IsBetweenEnds}, proofs.Listing.{checking_step, checking_fails, checking_end, fault_of_all}}
 use Rattle.mob_clip.proofs.roots.all_fit.Goals as goal
 
 pub fits_at-requires : goal.fits_at-requires

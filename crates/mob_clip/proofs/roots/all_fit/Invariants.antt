@@ -1,6 +1,5 @@
 use Rattle.std.proofs.Common.{drop}
-use Rattle.mob_slice.specs.Cut.{slice_parts}
-use Rattle.mob_slice.specs.Lines.{plane_parts_of}
+use Rattle.mob_slice.{specs.Cut.{slice_parts}, specs.Lines.{plane_parts_of}}
 use Rattle.mob_clip.proofs.Listing.{IsChecking}
 use Rattle.mob_clip.proofs.roots.all_fit.Given as goal
 

@@ -1,14 +1,8 @@
-use Rattle.std.proofs.Common.{arith, ◌+◌, drop, refl}
-use Rattle.std.proofs.Math.ListN.{drop_of_length-le}
-use Rattle.std.specs.List.{flat_map, AllByRecursion}
-use Rattle.mob_list.proofs.Each.{each_get}
-use Rattle.mob_list.proofs.Entries.{drop_read}
+use Rattle.std.{specs.List.{flat_map, AllByRecursion}, proofs.Common.{arith, ◌+◌, drop, refl}, proofs.Math.ListN.{drop_of_length-le}}
+use Rattle.mob_list.{proofs.Each.{each_get}, proofs.Entries.{drop_read}}
 use Rattle.mob_slice.specs.declared.formula.Formula.TheVariants.{F3}
-use Rattle.mob_cells.specs.Roots.{IsLevel, roots_parts}
-use Rattle.mob_cells.proofs.Making.{read_of}
-use Rattle.mob_clip.specs.declared.sides.EdgeEnds.{EdgeEnds}
-use Rattle.mob_clip.specs.Roots.{listed_ends, place_edge}
-use Rattle.mob_clip.proofs.Listing.{checking_fails, fault_of_all, mapping_step, mapping_end}
+use Rattle.mob_cells.{specs.Roots.{IsLevel, roots_parts}, proofs.Making.{read_of}}
+use Rattle.mob_clip.{specs.declared.sides.EdgeEnds.{EdgeEnds}, specs.Roots.{listed_ends, place_edge}, proofs.Listing.{checking_fails, fault_of_all, mapping_step, mapping_end}}
 use Rattle.mob_clip.proofs.roots.placed.Goals as goal
 
 pub returns-in-Err : goal.returns-in-Err

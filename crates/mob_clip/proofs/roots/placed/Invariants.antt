@@ -1,7 +1,6 @@
 use Rattle.std.proofs.Common.{drop}
 use Rattle.mob_cells.specs.Roots.{roots_parts}
-use Rattle.mob_clip.specs.Roots.{place_edge, listed_ends}
-use Rattle.mob_clip.proofs.Listing.{IsMapping}
+use Rattle.mob_clip.{specs.Roots.{place_edge, listed_ends}, proofs.Listing.{IsMapping}}
 use Rattle.mob_clip.proofs.roots.placed.Given as goal
 
 abbrev pub invariant-loop-edge : goal.invariant-loop-edge

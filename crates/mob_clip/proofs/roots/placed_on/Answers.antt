@@ -1,6 +1,5 @@
 use Rattle.std.proofs.Common.{rules, ◌≡◌, map}
-use Rattle.mob_clip.specs.Roots.{place_edge}
-use Rattle.mob_clip.proofs.Judging.{all_known, besides_fail, turned_fail, placed_fail, cuts_fail, none_fails, are_ways, level_ways, are_placed}
+use Rattle.mob_clip.{specs.Roots.{place_edge}, proofs.Judging.{all_known, besides_fail, turned_fail, placed_fail, cuts_fail, none_fails, are_ways, level_ways, are_placed}}
 use Rattle.mob_clip.proofs.roots.placed_on.Goals as goal
 
 pub returns-in-Err : goal.returns-in-Err

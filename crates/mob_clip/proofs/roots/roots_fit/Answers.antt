@@ -1,7 +1,5 @@
-use Rattle.std.proofs.Common.{rules, ◌≡◌}
-use Rattle.std.specs.List.{flat_map}
-use Rattle.mob_clip.specs.Roots.{edge_roots}
-use Rattle.mob_clip.proofs.Judging.{within_all}
+use Rattle.std.{specs.List.{flat_map}, proofs.Common.{rules, ◌≡◌}}
+use Rattle.mob_clip.{specs.Roots.{edge_roots}, proofs.Judging.{within_all}}
 use Rattle.mob_clip.proofs.roots.roots_fit.Goals as goal
 
 pub all_fit-requires : goal.all_fit-requires

@@ -1,9 +1,6 @@
-use Rattle.std.proofs.Common.{arith, ◌+◌, drop, refl}
-use Rattle.std.proofs.Math.ListN.{drop_of_length-le}
-use Rattle.std.specs.List.{flat_map}
+use Rattle.std.{specs.List.{flat_map}, proofs.Common.{arith, ◌+◌, drop, refl}, proofs.Math.ListN.{drop_of_length-le}}
 use Rattle.mob_list.proofs.Entries.{drop_read}
-use Rattle.mob_clip.specs.Roots.{edge_roots}
-use Rattle.mob_clip.proofs.Listing.{walk_step, walk_end}
+use Rattle.mob_clip.{specs.Roots.{edge_roots}, proofs.Listing.{walk_step, walk_end}}
 use Rattle.mob_clip.proofs.roots.roots_of.Goals as goal
 
 pub loop-edge-preserved : goal.loop-edge-preserved

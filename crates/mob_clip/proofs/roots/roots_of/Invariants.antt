@@ -1,5 +1,4 @@
-use Rattle.std.proofs.Common.{◌≡◌, ◌++◌, drop}
-use Rattle.std.specs.List.{flat_map}
+use Rattle.std.{specs.List.{flat_map}, proofs.Common.{◌≡◌, ◌++◌, drop}}
 use Rattle.mob_clip.specs.Roots.{edge_roots}
 use Rattle.mob_clip.proofs.roots.roots_of.Given as goal
 

@@ -1,10 +1,7 @@
-use Rattle.std.proofs.Common.{arith, ap, ◌+◌, drop, refl}
-use Rattle.std.proofs.Math.ListN.{drop_of_length-le}
+use Rattle.std.{proofs.Common.{arith, ap, ◌+◌, drop, refl}, proofs.Math.ListN.{drop_of_length-le}}
 use Rattle.mob_list.proofs.Entries.{drop_read}
 use Rattle.mob_slice.proofs.Cuts.{all_second}
-use Rattle.mob_clip.specs.declared.sides.Beside.{Beside}
-use Rattle.mob_clip.specs.Sides.{beside, beside_parts, point_parts}
-use Rattle.mob_clip.proofs.Listing.{checking_fails, mapping_step, mapping_end}
+use Rattle.mob_clip.{specs.declared.sides.BesideEdge.{BesideEdge}, specs.Sides.{beside, beside_parts, point_parts}, proofs.Listing.{checking_fails, mapping_step, mapping_end}}
 use Rattle.mob_clip.proofs.sides.besides.Goals as goal
 
 pub loop-edge-preserved : goal.loop-edge-preserved
@@ -17,7 +14,7 @@ loop-edge-preserved c =
     let v = c.in-Ok.ensures.value in
     record {
       listed = mapping_step (beside p q) (beside_parts p q) xs (drop at.edge-index xs) (drop (at.edge-index + 1) xs) at.out.items c.add.new.out.items x c.in-Ok.next (drop_read xs at.edge-index x (omega arith) c.edge-item.is) c.in-Ok-add.ensures.added v.0 v.1 at.invariant.listed;
-      known = (ap (λ (b : Beside). b.to_b) v.0, all_second (point_parts p q x.0) (point_parts p q x.1) v.1);
+      known = (ap (λ (b : BesideEdge). b.to_b) v.0, all_second (point_parts p q x.0) (point_parts p q x.1) v.1);
     }
 
 pub returns-in-Err : goal.returns-in-Err

@@ -1,7 +1,5 @@
 use Rattle.std.proofs.Common.{drop}
-use Rattle.mob_clip.specs.Sides.{beside, beside_parts}
-use Rattle.mob_clip.specs.Known.{IsKnown}
-use Rattle.mob_clip.proofs.Listing.{IsMapping}
+use Rattle.mob_clip.{specs.Sides.{beside, beside_parts}, specs.Known.{IsKnown}, proofs.Listing.{IsMapping}}
 use Rattle.mob_clip.proofs.sides.besides.Given as goal
 
 abbrev pub invariant-loop-edge : goal.invariant-loop-edge

@@ -1,11 +1,7 @@
-use Rattle.std.proofs.Common.{arith, ◌+◌, drop, refl}
-use Rattle.std.proofs.Math.ListN.{drop_of_length-le}
-use Rattle.mob_list.proofs.Each.{each_get}
-use Rattle.mob_list.proofs.Entries.{drop_read}
+use Rattle.std.{proofs.Common.{arith, ◌+◌, drop, refl}, proofs.Math.ListN.{drop_of_length-le}}
+use Rattle.mob_list.{proofs.Each.{each_get}, proofs.Entries.{drop_read}}
 use Rattle.mob_cells.proofs.Making.{read_of}
-use Rattle.mob_clip.specs.declared.sides.Beside.{Beside}
-use Rattle.mob_clip.specs.Sides.{with_turn, turning_parts, IsBeside}
-use Rattle.mob_clip.proofs.Listing.{checking_fails, mapping_step, mapping_end}
+use Rattle.mob_clip.{specs.declared.sides.BesideEdge.{BesideEdge}, specs.Sides.{with_turn, turning_parts, IsBeside}, proofs.Listing.{checking_fails, mapping_step, mapping_end}}
 use Rattle.mob_clip.proofs.sides.turned.Goals as goal
 
 pub turning-requires : goal.turning-requires
@@ -20,7 +16,7 @@ returns-in-Err c =
     let at = c.loop-beside in
     let xs = c.args.edges.now in
     let x = c.beside-item.result in
-    record { made = (refl, checking_fails (λ (b : Beside). turning_parts c.args.p.now c.args.q.now b.edge) xs (drop at.beside-index xs) (drop (at.beside-index + 1) xs) x (drop_read xs at.beside-index x (omega arith) c.beside-item.is) c.in-Err.ensures.value at.invariant.checked) }
+    record { made = (refl, checking_fails (λ (b : BesideEdge). turning_parts c.args.p.now c.args.q.now b.edge) xs (drop at.beside-index xs) (drop (at.beside-index + 1) xs) x (drop_read xs at.beside-index x (omega arith) c.beside-item.is) c.in-Err.ensures.value at.invariant.checked) }
 
 pub loop-beside-preserved : goal.loop-beside-preserved
 loop-beside-preserved c =
@@ -30,7 +26,7 @@ loop-beside-preserved c =
     let p = c.args.p.now in
     let q = c.args.q.now in
     let v = c.in-Ok.ensures.value in
-    mapping_step (with_turn p q) (λ (b : Beside). turning_parts p q b.edge) xs (drop at.beside-index xs) (drop (at.beside-index + 1) xs) at.out.items c.add.new.out.items x _ (drop_read xs at.beside-index x (omega arith) c.beside-item.is) c.in-Ok-add.ensures.added (rw v.0 refl) v.1 at.invariant
+    mapping_step (with_turn p q) (λ (b : BesideEdge). turning_parts p q b.edge) xs (drop at.beside-index xs) (drop (at.beside-index + 1) xs) at.out.items c.add.new.out.items x _ (drop_read xs at.beside-index x (omega arith) c.beside-item.is) c.in-Ok-add.ensures.added (rw v.0 refl) v.1 at.invariant
 
 pub returns : goal.returns
 returns c =
@@ -38,4 +34,4 @@ returns c =
     let xs = c.args.edges.now in
     let p = c.args.p.now in
     let q = c.args.q.now in
-    record { made = mapping_end (with_turn p q) (λ (b : Beside). turning_parts p q b.edge) xs (drop at.beside-index xs) at.out.items (drop_of_length-le xs c.loop-beside-test.false) at.invariant }
+    record { made = mapping_end (with_turn p q) (λ (b : BesideEdge). turning_parts p q b.edge) xs (drop at.beside-index xs) at.out.items (drop_of_length-le xs c.loop-beside-test.false) at.invariant }

@@ -1,6 +1,5 @@
 use Rattle.std.proofs.Common.{drop}
-use Rattle.mob_clip.specs.Sides.{with_turn, turning_parts}
-use Rattle.mob_clip.proofs.Listing.{IsMapping}
+use Rattle.mob_clip.{specs.Sides.{with_turn, turning_parts}, proofs.Listing.{IsMapping}}
 use Rattle.mob_clip.proofs.sides.turned.Given as goal
 
 abbrev pub invariant-loop-beside : goal.invariant-loop-beside

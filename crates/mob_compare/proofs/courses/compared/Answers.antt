@@ -1,10 +1,6 @@
-use Rattle.mob_slice.specs.Sides.{piece_of, pieces, operand_of, HoldsPiece}
-use Rattle.mob_slice.proofs.Yielded.{clear_along, all_along}
-use Rattle.mob_sync.specs.Pieces.{pieces_left}
-use Rattle.mob_lift.proofs.Overall.{whole}
-use Rattle.mob_slice.specs.Operands.{steady_value, steady_limit}
-use Rattle.mob_compare.specs.Compared.{entries_of_gaps}
-use Rattle.mob_compare.proofs.Comparing.{memory_alone}
+use Rattle.mob_slice.{specs.Sides.{piece_of, pieces, operand_of, HoldsPiece}, specs.Operands.{steady_value, steady_limit}, proofs.Yielded.{clear_along, all_along}}
+use Rattle.mob_lift.{specs.Pieces.{pieces_left}, proofs.Overall.{whole}}
+use Rattle.mob_compare.{specs.Compared.{entries_of_gaps}, proofs.Comparing.{memory_alone}}
 use Rattle.mob_compare.proofs.courses.compared.Goals as goal
 
 pub lift-requires-clause-clear : goal.lift-requires-clause-clear

@@ -1,9 +1,6 @@
-use Rattle.std.proofs.Common.{rules, arith, ◌≡◌, [], refl, ap, sym, ◌∙◌, true≢false}
-use Rattle.std.proofs.lemmas.Grind.{common_steps}
-use Rattle.std.proofs.lemmas.List.{nil_from_length}
+use Rattle.std.{proofs.Common.{rules, arith, ◌≡◌, [], refl, ap, sym, ◌∙◌, true≢false}, proofs.lemmas.Grind.{common_steps}, proofs.lemmas.List.{nil_from_length}}
 use Rattle.mob_span.specs.Sets.{in_some}
-use Rattle.mob_slice.specs.Operands.{steady_limit}
-use Rattle.mob_slice.proofs.Orders.{ordered}
+use Rattle.mob_slice.{specs.Operands.{steady_limit}, proofs.Orders.{ordered}}
 use Rattle.mob_compare.proofs.TrueSpans.{all_taken, spans_at, never_true}
 use Rattle.mob_compare.proofs.times.when_true.Goals as goal
 

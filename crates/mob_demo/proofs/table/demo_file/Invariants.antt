@@ -1,7 +1,6 @@
 -- The text so far and the lines that are still to be written are the file.
 use Rattle.std.proofs.Common.{◌≡◌, ◌++◌, string_bytes}
-use Rattle.mob_demo.specs.Demo.{demo_file_text}
-use Rattle.mob_demo.proofs.Lines.{lines_from}
+use Rattle.mob_demo.{specs.Demo.{demo_file_text}, proofs.Lines.{lines_from}}
 use Rattle.mob_demo.proofs.table.demo_file.Given as goal
 
 abbrev pub invariant-loop-ship : goal.invariant-loop-ship

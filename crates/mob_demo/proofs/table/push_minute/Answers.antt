@@ -1,7 +1,5 @@
-use Rattle.std.proofs.Common.{◌≡◌, ◌++◌, arith, codes, refl, string_bytes}
-use Rattle.std.proofs.lemmas.Grind.{common_steps}
-use Rattle.mob_demo.specs.Demo.{minute_text}
-use Rattle.mob_demo.proofs.Positions.{minute_written}
+use Rattle.std.{proofs.Common.{◌≡◌, ◌++◌, arith, codes, refl, string_bytes}, proofs.lemmas.Grind.{common_steps}}
+use Rattle.mob_demo.{specs.Demo.{minute_text}, proofs.Positions.{minute_written}}
 use Rattle.mob_demo.proofs.table.push_minute.Goals as goal
 
 pub returns : goal.returns

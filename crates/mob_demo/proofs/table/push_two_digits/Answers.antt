@@ -1,5 +1,4 @@
-use Rattle.std.proofs.Common.{arith, string_bytes}
-use Rattle.std.proofs.lemmas.Result.{on_ok_weaker}
+use Rattle.std.{proofs.Common.{arith, string_bytes}, proofs.lemmas.Result.{on_ok_weaker}}
 use Rattle.mob_demo.proofs.Digits.{behind_zero}
 use Rattle.mob_demo.proofs.table.push_two_digits.Goals as goal
 

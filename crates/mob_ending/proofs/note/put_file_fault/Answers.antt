@@ -1,5 +1,4 @@
-use Rattle.std.proofs.Common.{rules}
-use Rattle.std.specs.Prelude.{codes}
+use Rattle.std.{specs.Prelude.{codes}, proofs.Common.{rules}}
 use Rattle.mob_ending.proofs.Joined.{puts_cut, puts_cut_behind, puts_then}
 use Rattle.mob_ending.proofs.note.put_file_fault.Goals as goal
 

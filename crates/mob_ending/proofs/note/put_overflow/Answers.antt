@@ -1,6 +1,5 @@
 use Rattle.std.proofs.Common.{rules}
-use Rattle.mob_ending.specs.Lines.{rows_text, statement_text}
-use Rattle.mob_ending.proofs.Joined.{puts_cut, puts_cut_behind, puts_then}
+use Rattle.mob_ending.{specs.Lines.{rows_text, statement_text}, proofs.Joined.{puts_cut, puts_cut_behind, puts_then}}
 use Rattle.mob_ending.proofs.note.put_overflow.Goals as goal
 
 pub returns-in_err-put_statement : goal.returns-in_err-put_statement

@@ -1,6 +1,5 @@
 use Rattle.std.proofs.Common.{rules}
-use Rattle.mob_ending.specs.Lines.{further_row}
-use Rattle.mob_ending.proofs.Joined.{each_on, each_part}
+use Rattle.mob_ending.{specs.Lines.{further_row}, proofs.Joined.{each_on, each_part}}
 use Rattle.mob_ending.proofs.pieces.put_further_rows.Goals as goal
 
 pub returns-in_err-put_further_row-clause-part : goal.returns-in_err-put_further_row-clause-part

@@ -1,6 +1,4 @@
-use Rattle.std.proofs.Common.{◌≤◌, map, take}
-use Rattle.std.specs.Io.KnownBytes.{Appends}
-use Rattle.std.specs.List.{concat}
+use Rattle.std.{specs.Io.KnownBytes.{Appends}, specs.List.{concat}, proofs.Common.{◌≤◌, map, take}}
 use Rattle.mob_ending.specs.Lines.{further_row}
 use Rattle.mob_ending.proofs.pieces.put_further_rows.Given as goal
 

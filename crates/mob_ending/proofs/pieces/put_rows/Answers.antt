@@ -1,9 +1,5 @@
-use Rattle.std.proofs.Common.{rules, map}
-use Rattle.std.specs.Io.KnownBytes.{Appends}
-use Rattle.std.specs.Prelude.{decimal}
-use Rattle.std.specs.List.{concat}
-use Rattle.mob_ending.specs.Lines.{further_row, row_number}
-use Rattle.mob_ending.proofs.Joined.{part_after}
+use Rattle.std.{specs.Io.KnownBytes.{Appends}, specs.Prelude.{decimal}, specs.List.{concat}, proofs.Common.{rules, map}}
+use Rattle.mob_ending.{specs.Lines.{further_row, row_number}, proofs.Joined.{part_after}}
 use Rattle.mob_ending.proofs.pieces.put_rows.Goals as goal
 
 pub returns-clause-part : goal.returns-clause-part

@@ -1,11 +1,9 @@
-use Rattle.std.proofs.Common.{map, sym, subst}
+use Rattle.std.{specs.Prelude.{Err}, proofs.Common.{map, sym, subst}}
 use Rattle.mob_meaning.specs.Evaluation.{EvaluatesTo}
-use Rattle.std.specs.Prelude.{Err}
 use Rattle.mob_value.specs.Held.{held}
-use Rattle.mob_eval.specs.Views.{scene_of}
-use Rattle.mob_eval.proofs.Nodes.{node_below, node_run, node_value, node_here}
-use Rattle.mob_eval.proofs.walk.applied.Goals as goal
+use Rattle.mob_eval.{specs.Views.{scene_of}, proofs.Nodes.{node_below, node_run, node_value, node_here}}
 use Rattle.mob_list.specs.Faults.{OnCause}
+use Rattle.mob_eval.proofs.walk.applied.Goals as goal
 
 pub returns-in-Err : goal.returns-in-Err
 returns-in-Err g c = record { says = node_below (scene_of c.args.view.now) c.args.e.now _ (map held c.args.values.now) c.in-Err.fault (rw c.in-Err.is at c.requires.given) }

@@ -1,5 +1,4 @@
-use Rattle.mob_eval.specs.Views.{scene_of}
-use Rattle.mob_eval.proofs.Recalled.{recalled_says}
+use Rattle.mob_eval.{specs.Views.{scene_of}, proofs.Recalled.{recalled_says}}
 use Rattle.mob_eval.proofs.walk.recalled.Goals as goal
 
 pub returns-in-Some : goal.returns-in-Some

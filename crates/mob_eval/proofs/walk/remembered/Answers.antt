@@ -1,5 +1,4 @@
-use Rattle.mob_eval.specs.Views.{scene_of}
-use Rattle.mob_eval.proofs.Recalled.{told_says, says_told}
+use Rattle.mob_eval.{specs.Views.{scene_of}, proofs.Recalled.{told_says, says_told}}
 use Rattle.mob_eval.proofs.walk.remembered.Goals as goal
 
 pub kept-requires : goal.kept-requires

@@ -1,12 +1,8 @@
-use Rattle.std.proofs.Common.{◌≡◌, ◌∙◌, [], ◌∷◌, ◌++◌, map, ap, arith, List}
-use Rattle.std.proofs.lemmas.List.{drop_all, map_push}
-use Rattle.std.proofs.lemmas.Result.{err_from_is_err_and}
-use Rattle.mob_ast.specs.declared.expression.Expr.{Expr}
-use Rattle.mob_ast.specs.Trees.{tree_of, trees_of}
+use Rattle.std.{proofs.Common.{◌≡◌, ◌∙◌, [], ◌∷◌, ◌++◌, map, ap, arith, List}, proofs.lemmas.List.{drop_all, map_push}, proofs.lemmas.Result.{err_from_is_err_and}}
+use Rattle.mob_ast.{specs.declared.expression.Expr.{Expr}, specs.Trees.{tree_of, trees_of}}
 use Rattle.mob_scope.specs.Scopes.{scope_of}
 use Rattle.mob_typed.specs.Trees.{typed_of}
-use Rattle.mob_expression.specs.Expressions.{typed_expression, typed_operands}
-use Rattle.mob_expression.proofs.Behind.{entries_made, entry_fails, entry_made}
+use Rattle.mob_expression.{specs.Expressions.{typed_expression, typed_operands}, proofs.Behind.{entries_made, entry_fails, entry_made}}
 use Rattle.mob_expression.proofs.ExpressionSteps.{early_fails, early_settles, operands_fail, all_typed, operands_more, operands_none}
 use Rattle.mob_expression.proofs.expression.+expression.Goals as goal
 

@@ -2,8 +2,7 @@ use Rattle.std.proofs.Common.{◌≡◌, drop, map}
 use Rattle.mob_ast.specs.Trees.{trees_of}
 use Rattle.mob_scope.specs.Scopes.{scope_of}
 use Rattle.mob_typed.specs.Trees.{typed_of}
-use Rattle.mob_expression.specs.Expressions.{typed_operands}
-use Rattle.mob_expression.proofs.Behind.{behind}
+use Rattle.mob_expression.{specs.Expressions.{typed_operands}, proofs.Behind.{behind}}
 use Rattle.mob_expression.proofs.expression.+expression.Given as goal
 
 abbrev pub invariant-type_operands-loop-operand : goal.invariant-type_operands-loop-operand

@@ -1,9 +1,6 @@
-use Rattle.std.proofs.Common.{◌≡◌, ◌∙◌, sym, ap, true}
-use Rattle.std.specs.Prelude.{option_map}
+use Rattle.std.{specs.Prelude.{option_map}, proofs.Common.{◌≡◌, ◌∙◌, sym, ap, true}}
 use Rattle.mob_ast.specs.Trees.{trees_of}
-use Rattle.mob_expression.specs.Words.{is_zero}
-use Rattle.mob_expression.specs.Expressions.{is_signed, digits_in}
-use Rattle.mob_expression.proofs.TreeFacts.{sign_none, sign_one, digits_of_one, digits_of_none, digits_of_more}
+use Rattle.mob_expression.{specs.Words.{is_zero}, specs.Expressions.{is_signed, digits_in}, proofs.TreeFacts.{sign_none, sign_one, digits_of_one, digits_of_none, digits_of_more}}
 use Rattle.mob_expression.proofs.operators.+literal_of.Goals as goal
 
 pub returns-then-is_signed : goal.returns-then-is_signed

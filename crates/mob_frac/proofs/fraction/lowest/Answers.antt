@@ -1,6 +1,4 @@
-use Rattle.std.proofs.Common.{rules, nat_abs, ◌≤◌, FitsSigned, arith}
-use Rattle.std.specs.Int.{w64}
-use Rattle.std.proofs.lemmas.Int.{to_z-of_z}
+use Rattle.std.{specs.Int.{w64}, proofs.Common.{rules, nat_abs, ◌≤◌, FitsSigned, arith}, proofs.lemmas.Int.{to_z-of_z}}
 use Rattle.mob_frac.proofs.Reductions.{common_positive, quotients}
 use Rattle.mob_frac.proofs.fraction.lowest.Goals as goal
 

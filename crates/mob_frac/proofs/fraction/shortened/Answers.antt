@@ -1,6 +1,4 @@
-use Rattle.std.proofs.Common.{rules, nat_abs, FitsSigned}
-use Rattle.std.specs.Int.{w128}
-use Rattle.std.proofs.lemmas.Int.{to_z-of_z}
+use Rattle.std.{specs.Int.{w128}, proofs.Common.{rules, nat_abs, FitsSigned}, proofs.lemmas.Int.{to_z-of_z}}
 use Rattle.mob_frac.proofs.Reductions.{gcd_positive, quotients, lowest_coprime}
 use Rattle.mob_frac.proofs.fraction.shortened.Goals as goal
 

@@ -1,11 +1,6 @@
-use Rattle.std.proofs.Common.{◌≡◌, rules, ℤ, pos, ◌+ℤ◌, ◌<ℤ◌, nat_abs, to_z, of_z, FitsSigned, arith, ap₂}
-use Rattle.std.specs.Int.{w64, w128}
-use Rattle.std.proofs.lemmas.Int.{to_z-of_z, ints}
-use Rattle.mob_ratio.specs.Gcd.{gcd}
-use Rattle.mob_ratio.specs.Ratio.{Ratio, over, ◌+ℚ◌}
-use Rattle.mob_frac.specs.Fits.{IsLowest}
-use Rattle.mob_frac.proofs.Reductions.{common_positive}
-use Rattle.mob_frac.proofs.Sharing.{den_positive, shared_positive, summed_parts}
+use Rattle.std.{specs.Int.{w64, w128}, proofs.Common.{◌≡◌, rules, ℤ, pos, ◌+ℤ◌, ◌<ℤ◌, nat_abs, to_z, of_z, FitsSigned, arith, ap₂}, proofs.lemmas.Int.{to_z-of_z, ints}}
+use Rattle.mob_ratio.{specs.Gcd.{gcd}, specs.Ratio.{Ratio, over, ◌+ℚ◌}}
+use Rattle.mob_frac.{specs.Fits.{IsLowest}, proofs.Reductions.{common_positive}, proofs.Sharing.{den_positive, shared_positive, summed_parts}}
 use Rattle.mob_frac.proofs.fraction.unlike_sum.Goals as goal
 
 -- the greatest common divisor of the denominators

@@ -1,8 +1,6 @@
 use Rattle.std.proofs.Common.{pos, sym, subst}
-use Rattle.mob_ratio.specs.Ratio.{whole, ◌<ℚ◌}
-use Rattle.mob_ratio.proofs.Order.{before-lt}
-use Rattle.mob_frac.proofs.PartsOfLines.{inner_last}
-use Rattle.mob_frac.proofs.Roughs.{apart_above}
+use Rattle.mob_ratio.{specs.Ratio.{whole, ◌<ℚ◌}, proofs.Order.{before-lt}}
+use Rattle.mob_frac.{proofs.PartsOfLines.{inner_last}, proofs.Roughs.{apart_above}}
 use Rattle.mob_frac.proofs.interpolation.roughly_within.Goals as goal
 
 pub over-requires : goal.over-requires

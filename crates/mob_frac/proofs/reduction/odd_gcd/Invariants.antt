@@ -1,5 +1,4 @@
-use Rattle.std.proofs.Common.{◌≡◌, ℕ, ◌+◌, ◌%◌}
-use Rattle.std.specs.Int.{IsGcd}
+use Rattle.std.{specs.Int.{IsGcd}, proofs.Common.{◌≡◌, ℕ, ◌+◌, ◌%◌}}
 use Rattle.mob_frac.proofs.reduction.odd_gcd.Given as goal
 
 abbrev pub invariant-loop-x : goal.invariant-loop-x

@@ -1,6 +1,4 @@
-use Rattle.std.proofs.Common.{nat_abs, arith}
-use Rattle.std.specs.Int.{w64, w128}
-use Rattle.std.proofs.lemmas.Int.{to_z_pos, ints}
+use Rattle.std.{specs.Int.{w64, w128}, proofs.Common.{nat_abs, arith}, proofs.lemmas.Int.{to_z_pos, ints}}
 use Rattle.mob_ratio.specs.Gcd.{gcd}
 use Rattle.mob_frac.proofs.Reductions.{gcd_fits, common_is, common_unit}
 use Rattle.mob_frac.proofs.reduction.wide_divisor.Goals as goal

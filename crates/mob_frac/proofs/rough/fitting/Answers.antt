@@ -1,6 +1,4 @@
-use Rattle.std.proofs.Common.{nat_abs, FitsSigned, ◌<◌, ◌^◌, arith, refl}
-use Rattle.std.specs.Int.{w64}
-use Rattle.std.proofs.lemmas.Int.{to_z-of_z, ints}
+use Rattle.std.{specs.Int.{w64}, proofs.Common.{nat_abs, FitsSigned, ◌<◌, ◌^◌, arith, refl}, proofs.lemmas.Int.{to_z-of_z, ints}}
 use Rattle.mob_frac.proofs.Roughs.{fits_over}
 use Rattle.mob_frac.proofs.rough.fitting.Goals as goal
 

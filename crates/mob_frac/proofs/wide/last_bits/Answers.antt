@@ -1,7 +1,4 @@
-use Rattle.std.proofs.Common.{rules, ◌≡◌, ◌%◌, ◌^◌, pos, length, get_or, FitsSigned, ap, ◌∙◌, sym}
-use Rattle.std.specs.Int.{w128}
-use Rattle.std.proofs.lemmas.Int.{to_z-of_z}
-use Rattle.std.proofs.lemmas.Nat.{mul-mod}
+use Rattle.std.{specs.Int.{w128}, proofs.Common.{rules, ◌≡◌, ◌%◌, ◌^◌, pos, length, get_or, FitsSigned, ap, ◌∙◌, sym}, proofs.lemmas.Int.{to_z-of_z}, proofs.lemmas.Nat.{mul-mod}}
 use Rattle.mob_frac.proofs.WideLemmas.{product_four}
 use Rattle.mob_frac.proofs.wide.last_bits.Goals as goal
 

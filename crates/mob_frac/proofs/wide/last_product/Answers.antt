@@ -1,5 +1,4 @@
-use Rattle.std.proofs.Common.{◌^◌, sym}
-use Rattle.std.proofs.lemmas.Nat.{mul-mod}
+use Rattle.std.{proofs.Common.{◌^◌, sym}, proofs.lemmas.Nat.{mul-mod}}
 use Rattle.mob_frac.proofs.wide.last_product.Goals as goal
 
 pub returns : goal.returns

@@ -1,7 +1,5 @@
-use Rattle.std.proofs.Common.{◌∙◌, sym, ap, ◌≡◌, true, subst}
-use Rattle.std.specs.Prelude.{Some, IfSome}
-use Rattle.mob_stbox.specs.Areas.{is_area}
-use Rattle.mob_stbox.proofs.BoxLaws.{made_box}
+use Rattle.std.{specs.Prelude.{Some, IfSome}, proofs.Common.{◌∙◌, sym, ap, ◌≡◌, true, subst}}
+use Rattle.mob_stbox.{specs.Areas.{is_area}, proofs.BoxLaws.{made_box}}
 use Rattle.mob_geotext.specs.Boxes.{box_in_both}
 use Rattle.mob_geotext.proofs.boxes.box_in_both.Goals as goal
 

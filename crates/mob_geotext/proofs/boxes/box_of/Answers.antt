@@ -1,7 +1,5 @@
 use Rattle.std.proofs.Common.{rules, ◌∙◌, sym, ap, ◌≡◌}
-use Rattle.mob_geotext.specs.Boxes.{area_of, box_in_both, sound_box}
-use Rattle.mob_geotext.specs.Spans.{bounds_of, sound_span}
-use Rattle.mob_geotext.proofs.BoxesRead.{both_sound}
+use Rattle.mob_geotext.{specs.Boxes.{area_of, box_in_both, sound_box}, specs.Spans.{bounds_of, sound_span}, proofs.BoxesRead.{both_sound}}
 use Rattle.mob_geotext.proofs.boxes.box_of.Goals as goal
 
 pub returns-in-Both : goal.returns-in-Both

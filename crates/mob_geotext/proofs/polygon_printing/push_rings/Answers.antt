@@ -1,9 +1,7 @@
-use Rattle.std.proofs.Common.{string_bytes, arith, ap}
-use Rattle.std.proofs.lemmas.List.{drop_all}
+use Rattle.std.{proofs.Common.{string_bytes, arith, ap}, proofs.lemmas.List.{drop_all}}
 use Rattle.mob_plane.specs.Rings.{rings_of}
 use Rattle.mob_scalar.proofs.Parted.{parted}
-use Rattle.mob_geotext.specs.PolygonText.{ring_text}
-use Rattle.mob_geotext.proofs.JoinedWritten.{joined_done}
+use Rattle.mob_geotext.{specs.PolygonText.{ring_text}, proofs.JoinedWritten.{joined_done}}
 use Rattle.mob_geotext.proofs.polygon_printing.push_rings.Goals as goal
 
 pub returns : goal.returns

@@ -1,7 +1,6 @@
 use Rattle.std.proofs.Common.{◌≡◌, ◌++◌, drop, string_bytes}
 use Rattle.mob_plane.specs.Rings.{rings_of}
-use Rattle.mob_geotext.specs.PolygonText.{ring_text}
-use Rattle.mob_geotext.proofs.JoinedWritten.{more_joined}
+use Rattle.mob_geotext.{specs.PolygonText.{ring_text}, proofs.JoinedWritten.{more_joined}}
 use Rattle.mob_geotext.proofs.polygon_printing.push_rings.Given as goal
 
 -- the text written so far, and the text still to be written

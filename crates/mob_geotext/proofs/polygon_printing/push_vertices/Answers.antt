@@ -1,8 +1,6 @@
-use Rattle.std.proofs.Common.{string_bytes, arith}
-use Rattle.std.proofs.lemmas.List.{drop_all}
+use Rattle.std.{proofs.Common.{string_bytes, arith}, proofs.lemmas.List.{drop_all}}
 use Rattle.mob_scalar.proofs.Parted.{parted}
-use Rattle.mob_geotext.specs.PolygonText.{vertex_text}
-use Rattle.mob_geotext.proofs.JoinedWritten.{joined_done}
+use Rattle.mob_geotext.{specs.PolygonText.{vertex_text}, proofs.JoinedWritten.{joined_done}}
 use Rattle.mob_geotext.proofs.polygon_printing.push_vertices.Goals as goal
 
 pub returns : goal.returns

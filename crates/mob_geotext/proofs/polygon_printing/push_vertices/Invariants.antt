@@ -1,6 +1,5 @@
 use Rattle.std.proofs.Common.{◌≡◌, ◌++◌, drop, string_bytes}
-use Rattle.mob_geotext.specs.PolygonText.{vertex_text}
-use Rattle.mob_geotext.proofs.JoinedWritten.{more_joined}
+use Rattle.mob_geotext.{specs.PolygonText.{vertex_text}, proofs.JoinedWritten.{more_joined}}
 use Rattle.mob_geotext.proofs.polygon_printing.push_vertices.Given as goal
 
 -- the text written so far, and the text still to be written

@@ -1,6 +1,5 @@
 use Rattle.std.proofs.Common.{◌≡◌, drop}
-use Rattle.mob_scalar.specs.Traverse.{traverse}
-use Rattle.mob_scalar.proofs.Traversed.{with_list}
+use Rattle.mob_scalar.{specs.Traverse.{traverse}, proofs.Traversed.{with_list}}
 use Rattle.mob_geotext.proofs.polygons.fitting_ring.Given as goal
 
 -- the points read so far, and those still to be read

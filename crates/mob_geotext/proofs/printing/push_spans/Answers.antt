@@ -1,6 +1,5 @@
 use Rattle.std.proofs.Common.{string_bytes, arith}
-use Rattle.mob_scalar.proofs.Parted.{parted}
-use Rattle.mob_scalar.proofs.CommasWritten.{commas_done}
+use Rattle.mob_scalar.{proofs.Parted.{parted}, proofs.CommasWritten.{commas_done}}
 use Rattle.mob_geotext.specs.SpanText.{span_text}
 use Rattle.mob_geotext.proofs.printing.push_spans.Goals as goal
 

@@ -1,6 +1,4 @@
-use Rattle.std.proofs.Common.{rules, FitsSigned, ◌∙◌}
-use Rattle.std.specs.Int.{w64, w128}
-use Rattle.std.proofs.lemmas.Int.{to_z-of_z}
+use Rattle.std.{specs.Int.{w64, w128}, proofs.Common.{rules, FitsSigned, ◌∙◌}, proofs.lemmas.Int.{to_z-of_z}}
 use Rattle.mob_grid.proofs.BandNumbers.{bottom_positive, band_by_parts}
 use Rattle.mob_grid.proofs.bands.band.Goals as goal
 

@@ -1,8 +1,5 @@
-use Rattle.std.proofs.Common.{rules, FitsSigned, subst, arith}
-use Rattle.std.specs.Int.{w64, w128}
-use Rattle.std.proofs.lemmas.Int.{to_z-of_z, ints}
-use Rattle.mob_frac.specs.Fits.{IsExact}
-use Rattle.mob_frac.proofs.Sharing.{den_positive}
+use Rattle.std.{specs.Int.{w64, w128}, proofs.Common.{rules, FitsSigned, subst, arith}, proofs.lemmas.Int.{to_z-of_z, ints}}
+use Rattle.mob_frac.{specs.Fits.{IsExact}, proofs.Sharing.{den_positive}}
 use Rattle.mob_grid.proofs.BandNumbers.{edge_is}
 use Rattle.mob_grid.proofs.bands.edge.Goals as goal
 

@@ -1,5 +1,4 @@
-use Rattle.std.proofs.Common.{refl, sym, ◌∙◌, true≢false}
-use Rattle.std.proofs.lemmas.Int.{to_z-of_z}
+use Rattle.std.{proofs.Common.{refl, sym, ◌∙◌, true≢false}, proofs.lemmas.Int.{to_z-of_z}}
 use Rattle.mob_grid.proofs.Ranges.{long_first, long_second, long_third, short}
 use Rattle.mob_grid.proofs.tile.are_many.Goals as goal
 

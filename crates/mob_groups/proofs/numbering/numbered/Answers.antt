@@ -1,6 +1,4 @@
-use Rattle.std.proofs.Common.{rules, ◌≡◌, ◌++◌, ◌∷◌, [], length, sym, ap, ap₂, ◌∙◌, append_assoc, append-nil}
-use Rattle.std.specs.List.{position_or_len}
-use Rattle.std.specs.Vec.Iter.{into_iter_items}
+use Rattle.std.{specs.List.{position_or_len}, specs.Vec.Iter.{into_iter_items}, proofs.Common.{rules, ◌≡◌, ◌++◌, ◌∷◌, [], length, sym, ap, ap₂, ◌∙◌, append_assoc, append-nil}}
 use Rattle.std.proofs.lemmas.List.{nil_from_length}
 use Rattle.mob_list.proofs.Entries.{counted_down}
 use Rattle.mob_groups.proofs.Numbers.{with_keys, with_key, numbers_on, keys_of_all, numbers_of_all}

@@ -1,5 +1,4 @@
-use Rattle.std.proofs.Common.{◌≡◌, ◌++◌, [], length}
-use Rattle.std.specs.Vec.Iter.{into_iter_items, into_iter_len}
+use Rattle.std.{specs.Vec.Iter.{into_iter_items, into_iter_len}, proofs.Common.{◌≡◌, ◌++◌, [], length}}
 use Rattle.mob_groups.proofs.Numbers.{with_keys, numbers_on}
 use Rattle.mob_groups.proofs.numbering.numbered.Given as goal
 

@@ -1,8 +1,6 @@
-use Rattle.std.proofs.Common.{rules, refl}
-use Rattle.std.specs.BinaryHeap.{heap_items}
+use Rattle.std.{specs.BinaryHeap.{heap_items}, proofs.Common.{rules, refl}}
 use Rattle.mob_slice.specs.Sides.{operand_of}
-use Rattle.mob_knn.specs.Nearest.{HasApproach}
-use Rattle.mob_knn.proofs.Advance.{looked_advanced}
+use Rattle.mob_knn.{specs.Nearest.{HasApproach}, proofs.Advance.{looked_advanced}}
 use Rattle.mob_knn.proofs.search.advance.Goals as goal
 
 pub returns-in-Entry-clause-ok : goal.returns-in-Entry-clause-ok

@@ -1,7 +1,6 @@
 use Rattle.std.proofs.Common.{sym, ◌≤◌, ◌+◌, subst}
 use Rattle.mob_slice.specs.Sides.{operand_of}
-use Rattle.mob_knn.specs.Nearest.{count_within, reach_of}
-use Rattle.mob_knn.proofs.Known.{asked_once}
+use Rattle.mob_knn.{specs.Nearest.{count_within, reach_of}, proofs.Known.{asked_once}}
 use Rattle.mob_knn.proofs.search.nearest.Goals as goal
 
 pub returns-in-Ok-clause-cost : goal.returns-in-Ok-clause-cost

@@ -1,13 +1,8 @@
-use Rattle.std.proofs.Common.{rules, sym, ◌∙◌, arith}
-use Rattle.std.specs.BinaryHeap.{heap_items}
+use Rattle.std.{specs.BinaryHeap.{heap_items}, proofs.Common.{rules, sym, ◌∙◌, arith}}
 use Rattle.mob_list.proofs.Faults.{cause_weaker}
 use Rattle.mob_slice.specs.Sides.{operand_of}
-use Rattle.mob_knn.specs.Nearest.{HasApproach, IsPassed}
-use Rattle.mob_knn.specs.Steps.{IsEntry, HasUnfitPart}
-use Rattle.mob_knn.proofs.Finishing.{nil_of, none_found, begun_from, reached, next_state, last_state, unfit_row}
-use Rattle.mob_knn.proofs.Known.{trips_known}
-use Rattle.mob_knn.proofs.Searching.{nothing_left}
-use Rattle.mob_knn.proofs.Sizes.{falls}
+use Rattle.mob_knn.{specs.Nearest.{HasApproach, IsPassed}, specs.Steps.{IsEntry, HasUnfitPart}, proofs.Finishing.{nil_of, none_found, begun_from, reached, next_state, last_state, unfit_row}}
+use Rattle.mob_knn.{proofs.Known.{trips_known}, proofs.Searching.{nothing_left}, proofs.Sizes.{falls}}
 use Rattle.mob_knn.proofs.search.search.Goals as goal
 
 pub returns-in_default-clause-nearest : goal.returns-in_default-clause-nearest

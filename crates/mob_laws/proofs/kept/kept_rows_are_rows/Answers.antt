@@ -1,7 +1,5 @@
-use Rattle.mob_catalog.proofs.TypedTables.{live_rise}
-use Rattle.mob_join.specs.Query.{IsMetAt, conditions}
-use Rattle.mob_catalog.specs.Catalogue.{live_rows}
-use Rattle.mob_join.proofs.KeptTuples.{meet_any, those_once}
+use Rattle.mob_catalog.{specs.Catalogue.{live_rows}, proofs.TypedTables.{live_rise}}
+use Rattle.mob_join.{specs.Query.{IsMetAt, conditions}, proofs.KeptTuples.{meet_any, those_once}}
 use Rattle.mob_laws.proofs.KeptTuples.{kept_live}
 use Rattle.mob_laws.proofs.kept.kept_rows_are_rows.Goals as goal
 

@@ -1,6 +1,4 @@
-use Rattle.std.proofs.Common.{◌≡◌, ℕ, List, [], ◌∷◌, Bool, true, false, Option, Some, None, MatchOption, Bor, refl, ap, rules}
-use Rattle.std.specs.Prelude.{◌≢◌, nat_eq}
-use Rattle.std.proofs.lemmas.Bool.{eqb-true}
+use Rattle.std.{specs.Prelude.{◌≢◌, nat_eq}, proofs.Common.{◌≡◌, ℕ, List, [], ◌∷◌, Bool, true, false, Option, Some, None, MatchOption, Bor, refl, ap, rules}, proofs.lemmas.Bool.{eqb-true}}
 use Rattle.std.proofs.lemmas.Str.Pattern.{strip_prefix_char}
 use Rattle.mob_literal.specs.Fields.{begins_with_backslash}
 use Rattle.mob_literal.proofs.fields.behind_backslash.Goals as goal

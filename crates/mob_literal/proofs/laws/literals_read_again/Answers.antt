@@ -1,5 +1,4 @@
-use Rattle.mob_literal.proofs.BehindPrefixes.{behind_prefixes}
-use Rattle.mob_literal.proofs.Drawn.{lawful}
+use Rattle.mob_literal.{proofs.BehindPrefixes.{behind_prefixes}, proofs.Drawn.{lawful}}
 use Rattle.mob_slice.specs.CourseOf.{course_of}
 use Rattle.mob_literal.proofs.laws.literals_read_again.Goals as goal
 

@@ -1,12 +1,9 @@
 use Rattle.std.proofs.Common.{false}
-use Rattle.mob_ratio.specs.Order.{same}
-use Rattle.mob_ratio.proofs.Order.{same_exact}
+use Rattle.mob_ratio.{specs.Order.{same}, proofs.Order.{same_exact}}
 use Rattle.mob_span.specs.Flags.{same_bool, same_bool_exact}
-use Rattle.mob_slice.specs.Sameness.{same_bytes, same_bytes_exact}
-use Rattle.mob_slice.specs.SteadyLaws.{steady_laws}
+use Rattle.mob_slice.{specs.Sameness.{same_bytes, same_bytes_exact}, specs.SteadyLaws.{steady_laws}}
 use Rattle.mob_written.specs.Values.{any_value, is_whole_number, truth_values, number_values, quoted_values}
-use Rattle.mob_literal.proofs.OneReading.{one_reading}
-use Rattle.mob_literal.proofs.SqlReading.{one_sql_reading}
+use Rattle.mob_literal.{proofs.OneReading.{one_reading}, proofs.SqlReading.{one_sql_reading}}
 use Rattle.mob_literal.proofs.laws.one_reading.Goals as goal
 
 pub returns : goal.returns

@@ -1,11 +1,7 @@
-use Rattle.std.proofs.Common.{refl, sym, ◌∙◌, rules}
-use Rattle.std.proofs.lemmas.List.{nil_from_length}
-use Rattle.std.proofs.lemmas.Result.{IfOk-weaker}
-use Rattle.std.specs.Vec.Iter.{into_iter_items}
+use Rattle.std.{specs.Vec.Iter.{into_iter_items}, proofs.Common.{refl, sym, ◌∙◌, rules}, proofs.lemmas.List.{nil_from_length}, proofs.lemmas.Result.{IfOk-weaker}}
 use Rattle.mob_list.proofs.Entries.{counted_down}
 use Rattle.mob_slice.specs.CourseOf.{course_of}
-use Rattle.mob_literal.specs.Slices.{made}
-use Rattle.mob_literal.proofs.Made.{made_begins, made_more, opens_before}
+use Rattle.mob_literal.{specs.Slices.{made}, proofs.Made.{made_begins, made_more, opens_before}}
 use Rattle.mob_literal.proofs.slicing.slices_of.Goals as goal
 
 pub loop-next-init : goal.loop-next-init

@@ -1,5 +1,4 @@
-use Rattle.std.proofs.Common.{◌≡◌, length}
-use Rattle.std.specs.Vec.Iter.{into_iter_items, into_iter_len}
+use Rattle.std.{specs.Vec.Iter.{into_iter_items, into_iter_len}, proofs.Common.{◌≡◌, length}}
 use Rattle.mob_slice.specs.CourseOf.{course_of}
 use Rattle.mob_literal.specs.Flat.{made_all}
 use Rattle.mob_scalar.proofs.Traversed.{with_list}

@@ -1,10 +1,8 @@
 use Rattle.std.proofs.Common.{Bool, Err, subst, sym, ◌∙◌, rules}
 use Rattle.mob_numeral.specs.Verdict.{Lit}
 use Rattle.mob_written.specs.Prefix.{admitted}
-use Rattle.mob_literal.specs.Sound.{written_literals}
-use Rattle.mob_literal.proofs.ReadLiterals.{same_fault, not_sound, made_of, defined, some_slices}
+use Rattle.mob_literal.{specs.Sound.{written_literals}, proofs.ReadLiterals.{same_fault, not_sound, made_of, defined, some_slices}, proofs.Drawn.{lawful}}
 use Rattle.mob_slice.specs.CourseOf.{course_of}
-use Rattle.mob_literal.proofs.Drawn.{lawful}
 use Rattle.mob_literal.proofs.temporal.read_moving.Goals as goal
 
 pub returns-in-Err : goal.returns-in-Err

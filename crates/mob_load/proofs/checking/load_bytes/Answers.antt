@@ -1,8 +1,5 @@
-use Rattle.std.proofs.Common.{rules, ◌≡◌, ◌∙◌, ◌-◌, ap, map}
-use Rattle.std.specs.Prelude.{option_map, slice_get}
-use Rattle.mob_load.specs.Loads.{columns_or_none, loaded_columns, greatest_rows, loaded_row_count, loaded_of}
-use Rattle.mob_load.proofs.Narrow.{columns_narrow}
-use Rattle.mob_load.proofs.Steps.{file_refused}
+use Rattle.std.{specs.Prelude.{option_map, slice_get}, proofs.Common.{rules, ◌≡◌, ◌∙◌, ◌-◌, ap, map}}
+use Rattle.mob_load.{specs.Loads.{columns_or_none, loaded_columns, greatest_rows, loaded_row_count, loaded_of}, proofs.Narrow.{columns_narrow}, proofs.Steps.{file_refused}}
 use Rattle.mob_load.proofs.checking.load_bytes.Goals as goal
 
 pub returns-in_ok-copy-in-Err-Because-clause-loads : goal.returns-in_ok-copy-in-Err-Because-clause-loads

@@ -1,11 +1,6 @@
-use Rattle.std.proofs.Common.{sym, subst, List, ℕ, Some}
-use Rattle.std.specs.Prelude.{IfSome}
+use Rattle.std.{specs.Prelude.{IfSome}, proofs.Common.{sym, subst, List, ℕ, Some}}
 use Rattle.mob_outside.specs.Told.{AsksFor}
-use Rattle.mob_load.specs.Fronts.{IsFront}
-use Rattle.mob_load.specs.Loads.{LoadsFile, loaded_of}
-use Rattle.mob_load.proofs.Narrow.{ok_on}
-use Rattle.mob_load.proofs.Reading.{bytes_read, on_loads, on_read}
-use Rattle.mob_load.proofs.Steps.{file_loads}
+use Rattle.mob_load.{specs.Fronts.{IsFront}, specs.Loads.{LoadsFile, loaded_of}, proofs.Narrow.{ok_on}, proofs.Reading.{bytes_read, on_loads, on_read}, proofs.Steps.{file_loads}}
 use Rattle.mob_load.proofs.checking.load_file.Goals as goal
 
 pub returns-in-Ok-clause-loads : goal.returns-in-Ok-clause-loads

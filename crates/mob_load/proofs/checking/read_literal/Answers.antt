@@ -1,7 +1,6 @@
 use Rattle.std.proofs.Common.{List, ap}
 use Rattle.mob_value.specs.declared.value.Value.{Value}
-use Rattle.mob_load.specs.Loads.{Loaded, loaded_of}
-use Rattle.mob_load.proofs.Literals.{literal_refused}
+use Rattle.mob_load.{specs.Loads.{Loaded, loaded_of}, proofs.Literals.{literal_refused}}
 use Rattle.mob_load.proofs.checking.read_literal.Goals as goal
 
 pub returns-in_ok-push-in-Ok-clause-read : goal.returns-in_ok-push-in-Ok-clause-read

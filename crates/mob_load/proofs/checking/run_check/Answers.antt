@@ -1,10 +1,6 @@
 use Rattle.std.proofs.Common.{◌≡◌, [], Ok, ap}
-use Rattle.mob_load.specs.Checks.{file}
-use Rattle.mob_load.specs.Loads.{LoadsCheck, LoadsLiteral, LoadsTo, loaded_of, one_row}
-use Rattle.mob_load.proofs.Asked.{asks_one, none_asked}
-use Rattle.mob_load.proofs.Narrow.{made_narrow, ok_on, same_narrow}
-use Rattle.mob_load.proofs.Reading.{on_loads, on_read, read_on}
-use Rattle.mob_load.proofs.Steps.{may_ask_some, of_told}
+use Rattle.mob_load.{specs.Checks.{file}, specs.Loads.{LoadsCheck, LoadsLiteral, LoadsTo, loaded_of, one_row}, proofs.Asked.{asks_one, none_asked}, proofs.Narrow.{made_narrow, ok_on, same_narrow}}
+use Rattle.mob_load.{proofs.Reading.{on_loads, on_read, read_on}, proofs.Steps.{may_ask_some, of_told}}
 use Rattle.mob_load.proofs.checking.run_check.Goals as goal
 
 pub returns-in-Literal-clause-narrow : goal.returns-in-Literal-clause-narrow

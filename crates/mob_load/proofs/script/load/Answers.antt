@@ -1,12 +1,7 @@
 use Rattle.std.proofs.Common.{◌≡◌, ◌∙◌, sym, ap, subst, map}
 use Rattle.mob_typed.specs.Statements.{script_seen}
-use Rattle.mob_load.specs.Checks.{check_seen, checks_of}
-use Rattle.mob_load.specs.Loads.{AreNarrow, loaded_of}
-use Rattle.mob_load.proofs.Narrow.{script_narrow}
-use Rattle.mob_load.proofs.Asked.{script_asks, script_asks_some, script_files}
-use Rattle.mob_load.proofs.Reading.{program_read}
-use Rattle.mob_load.proofs.Steps.{program_loaded, stopped_outcome}
-use Rattle.mob_load.proofs.Stopping.{script_stops}
+use Rattle.mob_load.{specs.Checks.{check_seen, checks_of}, specs.Loads.{AreNarrow, loaded_of}, proofs.Narrow.{script_narrow}, proofs.Asked.{script_asks, script_asks_some, script_files}}
+use Rattle.mob_load.{proofs.Reading.{program_read}, proofs.Steps.{program_loaded, stopped_outcome}, proofs.Stopping.{script_stops}}
 use Rattle.mob_load.proofs.script.load.Goals as goal
 
 pub returns-in-Ok-clause-loaded : goal.returns-in-Ok-clause-loaded

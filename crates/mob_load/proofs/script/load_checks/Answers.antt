@@ -1,13 +1,7 @@
-use Rattle.std.proofs.Common.{rules, ◌≡◌, ◌∙◌, ◌+◌, ◌∷◌, sym, ap, subst, map, drop, take, List, Ok}
-use Rattle.std.proofs.lemmas.List.{drop_more, drop_all, take_all}
-use Rattle.mob_load.specs.Checks.{check_seen}
-use Rattle.mob_load.specs.declared.check.Check.{Check}
-use Rattle.mob_load.specs.Loads.{IsNarrow, Loads, loaded_of, nothing_loaded}
-use Rattle.mob_load.proofs.Narrow.{check_narrow, nothing_narrow}
-use Rattle.mob_load.proofs.Asked.{around, asked_on, asked_some, files_here, front_more, asked_all, all_some, none_asked}
-use Rattle.mob_load.proofs.Reading.{all_unread, check_reads, none_unread}
-use Rattle.mob_load.proofs.Steps.{keeps_same, keeps_on, passes_more, rose_before}
-use Rattle.mob_load.proofs.Stopping.{check_stops}
+use Rattle.std.{proofs.Common.{rules, ◌≡◌, ◌∙◌, ◌+◌, ◌∷◌, sym, ap, subst, map, drop, take, List, Ok}, proofs.lemmas.List.{drop_more, drop_all, take_all}}
+use Rattle.mob_load.{specs.Checks.{check_seen}, specs.declared.check.Check.{Check}, specs.Loads.{IsNarrow, Loads, loaded_of, nothing_loaded}, proofs.Narrow.{check_narrow, nothing_narrow}}
+use Rattle.mob_load.{proofs.Asked.{around, asked_on, asked_some, files_here, front_more, asked_all, all_some, none_asked}, proofs.Reading.{all_unread, check_reads, none_unread}}
+use Rattle.mob_load.{proofs.Steps.{keeps_same, keeps_on, passes_more, rose_before}, proofs.Stopping.{check_stops}}
 use Rattle.mob_load.proofs.script.load_checks.Goals as goal
 
 pub loop-check-init : goal.loop-check-init

@@ -1,9 +1,6 @@
 use Rattle.std.proofs.Common.{◌≤◌, drop, map, take, Ok}
 use Rattle.mob_outside.specs.Told.{KeepsFiles}
-use Rattle.mob_load.specs.Checks.{check_seen}
-use Rattle.mob_load.specs.Fronts.{AsksForAll, OnFiles}
-use Rattle.mob_load.specs.Loads.{HasNarrow, Loads, loaded_of, names_in, nothing_loaded}
-use Rattle.mob_load.proofs.Reading.{ReadsOn}
+use Rattle.mob_load.{specs.Checks.{check_seen}, specs.Fronts.{AsksForAll, OnFiles}, specs.Loads.{HasNarrow, Loads, loaded_of, names_in, nothing_loaded}, proofs.Reading.{ReadsOn}}
 use Rattle.mob_load.proofs.script.load_checks.Given as goal
 
 abbrev pub invariant-loop-check : goal.invariant-loop-check

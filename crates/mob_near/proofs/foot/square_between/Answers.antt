@@ -1,5 +1,4 @@
-use Rattle.mob_near.specs.Legs.{foot_of, foot_square, square_quotients}
-use Rattle.mob_near.proofs.Formulas.{foot_unfit, foot_last}
+use Rattle.mob_near.{specs.Legs.{foot_of, foot_square, square_quotients}, proofs.Formulas.{foot_unfit, foot_last}}
 use Rattle.mob_near.proofs.foot.square_between.Goals as goal
 
 pub returns-in-Err : goal.returns-in-Err

@@ -1,5 +1,4 @@
-use Rattle.std.specs.Prelude.{◌≡◌}
-use Rattle.std.proofs.Common.{◌∙◌, sym, subst}
+use Rattle.std.{specs.Prelude.{◌≡◌}, proofs.Common.{◌∙◌, sym, subst}}
 use Rattle.mob_ratio.proofs.Order.{same_exact}
 use Rattle.mob_near.specs.Known.{SquaredOf}
 use Rattle.mob_near.proofs.known.is_squared.Goals as goal

@@ -1,8 +1,6 @@
-use Rattle.std.specs.Prelude.{◌≡◌, true, false, Ok, refl}
-use Rattle.std.proofs.Common.{◌∙◌, sym}
+use Rattle.std.{specs.Prelude.{◌≡◌, true, false, Ok, refl}, proofs.Common.{◌∙◌, sym}}
 use Rattle.mob_ratio.specs.Order.{same}
-use Rattle.mob_slice.specs.PlaneLaws.{plane_laws}
-use Rattle.mob_slice.proofs.Cuts.{at_low, at_high}
+use Rattle.mob_slice.{specs.PlaneLaws.{plane_laws}, proofs.Cuts.{at_low, at_high}}
 use Rattle.mob_near.proofs.known.point_at.Goals as goal
 
 pub returns-then-is_same : goal.returns-then-is_same

@@ -1,6 +1,4 @@
-use Rattle.mob_slice.specs.LineComparison.{point_gaps}
-use Rattle.mob_slice.specs.Lines.{plane_value_of, plane_parts_of}
-use Rattle.mob_slice.specs.Sides.{piece_of}
+use Rattle.mob_slice.{specs.LineComparison.{point_gaps}, specs.Lines.{plane_value_of, plane_parts_of}, specs.Sides.{piece_of}}
 use Rattle.mob_cells.proofs.AtEnds.{left_fails, right_fails}
 use Rattle.mob_near.proofs.Judging.{leg_decided}
 use Rattle.mob_near.proofs.leg.leg_on.Goals as goal

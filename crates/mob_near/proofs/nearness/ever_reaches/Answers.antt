@@ -1,19 +1,9 @@
-use Rattle.std.proofs.Common.{sym, subst}
-use Rattle.std.specs.List.{AllByRecursion}
-use Rattle.mob_ratio.specs.Order.{up_to}
-use Rattle.mob_ratio.specs.Sign.{nil}
-use Rattle.mob_ratio.proofs.Order.{not-up_to-le}
+use Rattle.std.{specs.List.{AllByRecursion}, proofs.Common.{sym, subst}}
+use Rattle.mob_ratio.{specs.Order.{up_to}, specs.Sign.{nil}, proofs.Order.{not-up_to-le}}
 use Rattle.mob_span.specs.Pieces.{PiecesAreClear}
-use Rattle.mob_slice.specs.Lines.{plane_value_of}
-use Rattle.mob_slice.specs.Sides.{operand_of, pieces, piece_of, given_at}
-use Rattle.mob_sync.specs.Pieces.{pieces_left}
-use Rattle.mob_lift.specs.Sometime.{IsEver, either}
-use Rattle.mob_lift.proofs.Walking.{walking_end, walking_fails}
-use Rattle.mob_lift.proofs.AllPieces.{is_ever}
-use Rattle.mob_near.specs.Distances.{distance_squared}
-use Rattle.mob_near.specs.Entries.{entries_of_reach}
-use Rattle.mob_near.specs.Legs.{piece_reaches}
-use Rattle.mob_near.proofs.OnPieces.{IsHeld, all_reached}
+use Rattle.mob_slice.{specs.Lines.{plane_value_of}, specs.Sides.{operand_of, pieces, piece_of, given_at}}
+use Rattle.mob_lift.{specs.Pieces.{pieces_left}, specs.Sometime.{IsEver, either}, proofs.Walking.{walking_end, walking_fails}, proofs.AllPieces.{is_ever}}
+use Rattle.mob_near.{specs.Distances.{distance_squared}, specs.Entries.{entries_of_reach}, specs.Legs.{piece_reaches}, proofs.OnPieces.{IsHeld, all_reached}}
 use Rattle.mob_near.proofs.nearness.ever_reaches.Goals as goal
 
 pub returns-clause-value : goal.returns-clause-value

@@ -1,13 +1,6 @@
-use Rattle.std.proofs.Common.{rules, ap, sym, ◌∙◌, subst}
-use Rattle.std.specs.List.{flat_map}
-use Rattle.std.specs.Prelude.{cond, None, Ok, Err}
-use Rattle.mob_slice.specs.Entries.{IsDecided}
-use Rattle.mob_slice.specs.Lines.{plane_value_of}
-use Rattle.mob_slice.specs.Sides.{operand_of, pieces, given_at}
-use Rattle.mob_slice.specs.declared.formula.Formula.TheVariants.{F6}
-use Rattle.mob_near.specs.Entries.{entries_of_within, entries_of_reach}
-use Rattle.mob_near.proofs.Answering.{never_within, none_within, within_by_squares, square_up_to}
-use Rattle.mob_near.proofs.Judging.{within_fits, within_unfit}
+use Rattle.std.{specs.List.{flat_map}, specs.Prelude.{cond, None, Ok, Err}, proofs.Common.{rules, ap, sym, ◌∙◌, subst}}
+use Rattle.mob_slice.{specs.Entries.{IsDecided}, specs.Lines.{plane_value_of}, specs.Sides.{operand_of, pieces, given_at}, specs.declared.formula.Formula.TheVariants.{F6}}
+use Rattle.mob_near.{specs.Entries.{entries_of_within, entries_of_reach}, proofs.Answering.{never_within, none_within, within_by_squares, square_up_to}, proofs.Judging.{within_fits, within_unfit}}
 use Rattle.mob_near.proofs.nearness.ever_within.Goals as goal
 
 pub returns-then-is_before-clause-value : goal.returns-then-is_before-clause-value

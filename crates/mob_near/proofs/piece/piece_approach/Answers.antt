@@ -1,7 +1,6 @@
 use Rattle.mob_frac.specs.Formula.{approach_parts}
 use Rattle.mob_slice.specs.Sides.{piece_of}
-use Rattle.mob_near.specs.Entries.{parts_between}
-use Rattle.mob_near.proofs.Judging.{leg_fails, squares_fail}
+use Rattle.mob_near.{specs.Entries.{parts_between}, proofs.Judging.{leg_fails, squares_fail}}
 use Rattle.mob_near.proofs.piece.piece_approach.Goals as goal
 
 pub returns-in-Err-clause-first : goal.returns-in-Err-clause-first

@@ -1,6 +1,5 @@
 use Rattle.mob_slice.specs.Sides.{piece_of}
-use Rattle.mob_near.proofs.Answering.{square_up_to}
-use Rattle.mob_near.proofs.Widely.{far_piece}
+use Rattle.mob_near.{proofs.Answering.{square_up_to}, proofs.Widely.{far_piece}}
 use Rattle.mob_near.proofs.wide.comes_within.Goals as goal
 
 pub returns-then-is_far : goal.returns-then-is_far

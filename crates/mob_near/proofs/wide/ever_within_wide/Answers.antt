@@ -1,6 +1,5 @@
 use Rattle.std.proofs.Common.{rules}
-use Rattle.mob_slice.specs.Lines.{plane_value_of}
-use Rattle.mob_slice.specs.Sides.{operand_of, given_at}
+use Rattle.mob_slice.{specs.Lines.{plane_value_of}, specs.Sides.{operand_of, given_at}}
 use Rattle.mob_near.proofs.Answering.{within_by_squares}
 use Rattle.mob_near.proofs.wide.ever_within_wide.Goals as goal
 

@@ -1,11 +1,7 @@
-use Rattle.std.specs.Prelude.{ℕ, List}
-use Rattle.std.proofs.Common.{arith}
-use Rattle.std.proofs.KnownBytes.{Keeps-refl}
+use Rattle.std.{specs.Prelude.{ℕ, List}, proofs.Common.{arith}, proofs.KnownBytes.{Keeps-refl}}
 use Rattle.mob_outside.specs.EndsSeen.{stream_seen}
-use Rattle.mob_trips.proofs.Whole.{ends_unread, ends_on, ends_put}
-use Rattle.mob_trips.specs.Seen.{TripsSeen, trips_seen}
-use Rattle.mob_near_run.specs.NearProgram.{near_program}
-use Rattle.mob_near_run.proofs.NearLaws.{fault_ends}
+use Rattle.mob_trips.{specs.Seen.{TripsSeen, trips_seen}, proofs.Whole.{ends_unread, ends_on, ends_put}}
+use Rattle.mob_near_run.{specs.NearProgram.{near_program}, proofs.NearLaws.{fault_ends}}
 use Rattle.mob_near_run.proofs.decide.answer_table.Goals as goal
 
 pub near_text-requires : goal.near_text-requires

@@ -1,5 +1,4 @@
-use Rattle.std.proofs.Common.{arith, refl, inl}
-use Rattle.std.proofs.KnownBytes.{Keeps-refl}
+use Rattle.std.{proofs.Common.{arith, refl, inl}, proofs.KnownBytes.{Keeps-refl}}
 use Rattle.mob_outside.proofs.Known.{reads_none}
 use Rattle.mob_catalog.specs.TableFile.{file_limit}
 use Rattle.mob_near_run.proofs.decide.decide.Goals as goal

@@ -1,10 +1,7 @@
-use Rattle.std.proofs.Common.{refl, sym, subst, ap, ◌∙◌, codes}
-use Rattle.std.specs.Prelude.{option_map, map, string_bytes, Ok}
+use Rattle.std.{specs.Prelude.{option_map, map, string_bytes, Ok}, proofs.Common.{refl, sym, subst, ap, ◌∙◌, codes}}
 use Rattle.mob_literal.specs.SqlText.{SaysAs}
-use Rattle.mob_words.specs.Arguments.{IsCount, IsEpoch, IsRequired, option_value}
-use Rattle.mob_words.proofs.Readings.{one_day}
-use Rattle.mob_near_run.specs.CommandLine.{near_command, target_type, target_value}
-use Rattle.mob_near_run.proofs.Targets.{one_text}
+use Rattle.mob_arguments.{specs.Arguments.{IsCount, IsEpoch, IsRequired, option_value}, proofs.Readings.{one_day}}
+use Rattle.mob_near_run.{specs.CommandLine.{near_command, target_type, target_value}, proofs.Targets.{one_text}}
 use Rattle.mob_near_run.proofs.reading.settings.Goals as goal
 
 pub returns-in_default-count_of-clause-refused : goal.returns-in_default-count_of-clause-refused

@@ -1,6 +1,5 @@
 use Rattle.mob_trips.proofs.Statuses.{is_trips_run}
-use Rattle.mob_near_run.specs.NearProgram.{near_program, near_usage}
-use Rattle.mob_near_run.proofs.NearLaws.{is_program}
+use Rattle.mob_near_run.{specs.NearProgram.{near_program, near_usage}, proofs.NearLaws.{is_program}}
 use Rattle.mob_near_run.proofs.top.run_near.Goals as goal
 
 pub returns : goal.returns

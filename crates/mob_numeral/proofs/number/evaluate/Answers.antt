@@ -1,11 +1,6 @@
 use Rattle.std.proofs.Common.{◌≡◌, ℕ, ◌+◌, ◌*◌, ◌^◌, ◌<◌, Option, true, subst, arith}
-use Rattle.mob_numeral.specs.declared.numeral.Figures.{Figures}
-use Rattle.mob_numeral.specs.declared.numeral.Exponent.{Exponent}
-use Rattle.mob_numeral.specs.declared.numeral.Tail.{Tail}
-use Rattle.mob_numeral.specs.declared.numeral.Tail.TheVariants.{Decimal}
-use Rattle.mob_numeral.specs.declared.numeral.Numeral.{Numeral}
-use Rattle.mob_numeral.specs.Number.{count_of, has_digits}
-use Rattle.mob_numeral.specs.NumberValue.{value_in, IsTailSmall, IsBounded}
+use Rattle.mob_numeral.{specs.declared.numeral.Figures.{Figures}, specs.declared.numeral.Exponent.{Exponent}, specs.declared.numeral.Tail.{Tail}, specs.declared.numeral.Tail.TheVariants.{Decimal}}
+use Rattle.mob_numeral.{specs.declared.numeral.Numeral.{Numeral}, specs.Number.{count_of, has_digits}, specs.NumberValue.{value_in, IsTailSmall, IsBounded}}
 use Rattle.mob_numeral.proofs.Bounded.{small_lt, enough, joined_lt}
 use Rattle.mob_numeral.proofs.number.evaluate.Goals as goal
 

@@ -1,6 +1,5 @@
 use Rattle.std.proofs.Common.{sym}
-use Rattle.mob_numeral.proofs.NumberExact.{number_exact}
-use Rattle.mob_numeral.proofs.Bounded.{number_bounded}
+use Rattle.mob_numeral.{proofs.NumberExact.{number_exact}, proofs.Bounded.{number_bounded}}
 use Rattle.mob_numeral.proofs.number.number_value_at.Goals as goal
 
 pub fitting_number-requires : goal.fitting_number-requires

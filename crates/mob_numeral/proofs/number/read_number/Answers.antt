@@ -1,6 +1,5 @@
 use Rattle.std.proofs.Common.{refl}
-use Rattle.mob_numeral.proofs.WholeTexts.{number_whole, inner_of}
-use Rattle.mob_numeral.proofs.Bounded.{number_bounded}
+use Rattle.mob_numeral.{proofs.WholeTexts.{number_whole, inner_of}, proofs.Bounded.{number_bounded}}
 use Rattle.mob_language.proofs.Exact.{is_said, not_said}
 use Rattle.mob_numeral.proofs.number.read_number.Goals as goal
 

@@ -1,6 +1,5 @@
 use Rattle.std.proofs.Common.{ap, subst, sym}
-use Rattle.mob_language.specs.Language.{Text, is_digit}
-use Rattle.mob_language.proofs.Exact.{split_parts}
+use Rattle.mob_language.{specs.Language.{Text, is_digit}, proofs.Exact.{split_parts}}
 use Rattle.mob_numeral.specs.Figures.{AreFigures}
 use Rattle.mob_numeral.proofs.numeral.digits_at.Goals as goal
 

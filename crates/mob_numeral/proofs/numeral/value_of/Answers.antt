@@ -1,5 +1,4 @@
-use Rattle.std.proofs.Common.{◌≡◌, length, get_or, take, arith, rules}
-use Rattle.std.specs.Str.Parse.{digits_value}
+use Rattle.std.{specs.Str.Parse.{digits_value}, proofs.Common.{◌≡◌, length, get_or, take, arith, rules}}
 use Rattle.mob_numeral.proofs.Digits.{front_lt, front_more, figure_at, digit_range}
 use Rattle.mob_numeral.proofs.numeral.value_of.Goals as goal
 

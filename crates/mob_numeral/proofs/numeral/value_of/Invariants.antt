@@ -1,5 +1,4 @@
-use Rattle.std.proofs.Common.{◌≡◌, take}
-use Rattle.std.specs.Str.Parse.{digits_value}
+use Rattle.std.{specs.Str.Parse.{digits_value}, proofs.Common.{◌≡◌, take}}
 use Rattle.mob_numeral.proofs.numeral.value_of.Given as goal
 
 abbrev pub invariant-loop-c : goal.invariant-loop-c

@@ -1,6 +1,4 @@
-use Rattle.mob_operands.proofs.Casts.{casts_have_meanings}
-use Rattle.mob_operands.proofs.Meanings.{rows_have_meanings, settled_is_the_value}
-use Rattle.mob_operands.proofs.Nulls.{null_gives_null}
+use Rattle.mob_operands.{proofs.Casts.{casts_have_meanings}, proofs.Meanings.{rows_have_meanings, settled_is_the_value}, proofs.Nulls.{null_gives_null}}
 use Rattle.mob_operands.proofs.laws.rows_have_meanings.Goals as goal
 
 pub returns : goal.returns

@@ -1,6 +1,4 @@
-use Rattle.std.proofs.Common.{◌≤◌, map, take}
-use Rattle.std.specs.Io.KnownBytes.{Appends}
-use Rattle.std.specs.List.{concat}
+use Rattle.std.{specs.Io.KnownBytes.{Appends}, specs.List.{concat}, proofs.Common.{◌≤◌, map, take}}
 use Rattle.mob_outside.proofs.putting.put_pieces.Given as goal
 
 abbrev pub invariant-loop-piece : goal.invariant-loop-piece

@@ -1,5 +1,4 @@
-use Rattle.std.proofs.Common.{◌≡◌, ◌≤◌, ◌+◌, ◌-◌, length, true}
-use Rattle.std.specs.Io.KnownBytes.{Consumes}
+use Rattle.std.{specs.Io.KnownBytes.{Consumes}, proofs.Common.{◌≡◌, ◌≤◌, ◌+◌, ◌-◌, length, true}}
 use Rattle.mob_outside.specs.Told.{KeepsFiles, KeepsNames}
 use Rattle.mob_outside.proofs.reading.read_through.Given as goal
 

@@ -1,6 +1,5 @@
 use Rattle.std.proofs.Common.{length, drop, ◌-◌, ◌<◌}
-use Rattle.mob_plane.specs.Rings.{edges}
-use Rattle.mob_plane.proofs.Counts.{IsCounting}
+use Rattle.mob_plane.{specs.Rings.{edges}, proofs.Counts.{IsCounting}}
 use Rattle.mob_plane.proofs.edges.count_ring.Given as goal
 
 abbrev pub invariant-loop-i : goal.invariant-loop-i

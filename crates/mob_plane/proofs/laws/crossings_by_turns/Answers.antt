@@ -1,5 +1,4 @@
-use Rattle.mob_plane.proofs.BySigns.{right_turn}
-use Rattle.mob_plane.proofs.Crossings.{crossing_on}
+use Rattle.mob_plane.{proofs.BySigns.{right_turn}, proofs.Crossings.{crossing_on}}
 use Rattle.mob_plane.proofs.laws.crossings_by_turns.Goals as goal
 
 pub returns : goal.returns

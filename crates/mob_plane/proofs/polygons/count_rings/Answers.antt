@@ -1,6 +1,5 @@
 use Rattle.std.proofs.Common.{◌+◌, drop, arith}
-use Rattle.mob_plane.specs.Rings.{edges, all_edges, rings_of}
-use Rattle.mob_plane.proofs.Counts.{counting_ring, counting_ring_fails, rings_read}
+use Rattle.mob_plane.{specs.Rings.{edges, all_edges, rings_of}, proofs.Counts.{counting_ring, counting_ring_fails, rings_read}}
 use Rattle.mob_plane.proofs.polygons.count_rings.Goals as goal
 
 pub loop-ring-preserved : goal.loop-ring-preserved

@@ -1,7 +1,5 @@
 use Rattle.std.proofs.Common.{drop}
-use Rattle.mob_plane.specs.Rings.{all_edges, rings_of}
-use Rattle.mob_plane.specs.EdgeWise.{none_yet}
-use Rattle.mob_plane.proofs.Counts.{IsCounting}
+use Rattle.mob_plane.{specs.Rings.{all_edges, rings_of}, specs.EdgeWise.{none_yet}, proofs.Counts.{IsCounting}}
 use Rattle.mob_plane.proofs.polygons.count_rings.Given as goal
 
 abbrev pub invariant-loop-ring : goal.invariant-loop-ring

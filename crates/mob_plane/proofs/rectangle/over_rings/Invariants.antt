@@ -1,6 +1,5 @@
 use Rattle.std.proofs.Common.{◌≡◌, fold, drop}
-use Rattle.mob_plane.specs.Rings.{rings_of}
-use Rattle.mob_plane.specs.Corners.{widened, all_points}
+use Rattle.mob_plane.{specs.Rings.{rings_of}, specs.Corners.{widened, all_points}}
 use Rattle.mob_plane.proofs.rectangle.over_rings.Given as goal
 
 abbrev pub invariant-loop-ring : goal.invariant-loop-ring

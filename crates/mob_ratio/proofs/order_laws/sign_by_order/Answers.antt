@@ -1,6 +1,4 @@
-use Rattle.mob_ratio.specs.Sign.{nil}
-use Rattle.mob_ratio.proofs.Order.{lt-before}
-use Rattle.mob_ratio.proofs.Signs.{sign_above, sign_below, sign_nil}
+use Rattle.mob_ratio.{specs.Sign.{nil}, proofs.Order.{lt-before}, proofs.Signs.{sign_above, sign_below, sign_nil}}
 use Rattle.mob_ratio.proofs.order_laws.sign_by_order.Goals as goal
 
 pub returns : goal.returns

@@ -1,5 +1,4 @@
-use Rattle.mob_records.proofs.Within.{all_written}
-use Rattle.mob_records.proofs.text.end_record.Goals.{in-Ok, in-Err}
+use Rattle.mob_records.{proofs.Within.{all_written}, proofs.text.end_record.Goals.{in-Ok, in-Err}}
 use Rattle.mob_records.proofs.text.end_record.Goals as goal
 
 pub returns-clause-text : goal.returns-clause-text

@@ -1,8 +1,6 @@
-use Rattle.std.proofs.Common.{◌≡◌, ◌∙◌, ◌++◌, ◌∷◌, [], ◌<◌, ◌+◌, ◌-◌, ◌^◌, get_or, length, subst, sym, ap, take, arith, rules}
-use Rattle.std.proofs.lemmas.List.{take_all, take_more}
+use Rattle.std.{proofs.Common.{◌≡◌, ◌∙◌, ◌++◌, ◌∷◌, [], ◌<◌, ◌+◌, ◌-◌, ◌^◌, get_or, length, subst, sym, ap, take, arith, rules}, proofs.lemmas.List.{take_all, take_more}}
 use Rattle.std.proofs.lemmas.Result.{on_ok_weaker}
-use Rattle.mob_records.specs.Writers.{IsWithinRecord}
-use Rattle.mob_records.proofs.Within.{held, none_written}
+use Rattle.mob_records.{specs.Writers.{IsWithinRecord}, proofs.Within.{held, none_written}}
 use Rattle.mob_records.proofs.text.print_record.Goals as goal
 
 pub loop-number-init : goal.loop-number-init

@@ -1,9 +1,5 @@
-use Rattle.std.proofs.Common.{◌≡◌, ◌∷◌, ◌∙◌, [], List, ℕ, Option, refl, map, take, ap, arith}
-use Rattle.std.specs.Prelude.{unwrap_or}
-use Rattle.std.specs.List.{concat}
-use Rattle.std.proofs.lemmas.List.{take_all}
-use Rattle.mob_records.specs.AnswerText.{record_line}
-use Rattle.mob_records.proofs.RecordText.{records_more_by}
+use Rattle.std.{specs.Prelude.{unwrap_or}, specs.List.{concat}, proofs.Common.{◌≡◌, ◌∷◌, ◌∙◌, [], List, ℕ, Option, refl, map, take, ap, arith}, proofs.lemmas.List.{take_all}}
+use Rattle.mob_records.{specs.AnswerText.{record_line}, proofs.RecordText.{records_more_by}}
 use Rattle.mob_records.proofs.text.records_by.Goals as goal
 
 pub loop-row-preserved : goal.loop-row-preserved

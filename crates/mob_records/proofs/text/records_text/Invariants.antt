@@ -1,8 +1,6 @@
-use Rattle.std.proofs.Common.{◌≡◌, ◌∷◌, map, take, Some}
-use Rattle.std.specs.List.{concat}
+use Rattle.std.{specs.List.{concat}, proofs.Common.{◌≡◌, ◌∷◌, map, take, Some}}
 use Rattle.csv.specs.Writing.{text_written}
-use Rattle.mob_records.specs.AnswerText.{record_line}
-use Rattle.mob_records.specs.Writers.{IsBetweenRecords}
+use Rattle.mob_records.{specs.AnswerText.{record_line}, specs.Writers.{IsBetweenRecords}}
 use Rattle.mob_records.proofs.text.records_text.Given as goal
 
 abbrev pub invariant-loop-row : goal.invariant-loop-row

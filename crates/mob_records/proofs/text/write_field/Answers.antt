@@ -1,5 +1,4 @@
-use Rattle.mob_records.proofs.Within.{one_more}
-use Rattle.mob_records.proofs.text.write_field.Goals.{in-Ok, in-Err}
+use Rattle.mob_records.{proofs.Within.{one_more}, proofs.text.write_field.Goals.{in-Ok, in-Err}}
 use Rattle.mob_records.proofs.text.write_field.Goals as goal
 
 pub returns : goal.returns

@@ -1,8 +1,5 @@
-use Rattle.std.proofs.Common.{◌≡◌, ◌∙◌, ◌++◌, ◌∷◌, [], ◌<◌, ◌+◌, ◌-◌, ◌^◌, length, subst, sym, ap, take, arith, rules}
-use Rattle.std.proofs.lemmas.List.{take_all, take_more}
-use Rattle.std.proofs.lemmas.Result.{on_ok_weaker}
-use Rattle.mob_records.specs.Writers.{IsWithinRecord}
-use Rattle.mob_records.proofs.Within.{held, none_written}
+use Rattle.std.{proofs.Common.{◌≡◌, ◌∙◌, ◌++◌, ◌∷◌, [], ◌<◌, ◌+◌, ◌-◌, ◌^◌, length, subst, sym, ap, take, arith, rules}, proofs.lemmas.List.{take_all, take_more}, proofs.lemmas.Result.{on_ok_weaker}}
+use Rattle.mob_records.{specs.Writers.{IsWithinRecord}, proofs.Within.{held, none_written}}
 use Rattle.mob_records.proofs.text.write_record.Goals as goal
 
 pub loop-field-init : goal.loop-field-init

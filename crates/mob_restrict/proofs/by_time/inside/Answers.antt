@@ -1,8 +1,5 @@
-use Rattle.std.proofs.Common.{subst, IfOk, true}
-use Rattle.std.specs.List.{flat_map}
-use Rattle.mob_span.specs.Meets.{shared_pieces}
-use Rattle.mob_span.specs.Sets.{in_some}
-use Rattle.mob_span.proofs.Leaving.{set_clear}
+use Rattle.std.{specs.List.{flat_map}, proofs.Common.{subst, IfOk, true}}
+use Rattle.mob_span.{specs.Meets.{shared_pieces}, specs.Sets.{in_some}, proofs.Leaving.{set_clear}}
 use Rattle.mob_slice.specs.Entries.{IsJudged}
 use Rattle.mob_cells.specs.Restricted.{AreRestricted}
 use Rattle.mob_restrict.specs.Cuts.{entry_of_cut}

@@ -1,9 +1,5 @@
-use Rattle.std.proofs.Common.{subst, ap, sym, ◌∙◌, ◌≡◌, true}
-use Rattle.std.proofs.lemmas.Result.{IfOk-weaker}
-use Rattle.std.specs.List.{AllByRecursion}
-use Rattle.mob_span.specs.Neighbours.{is_inside}
-use Rattle.mob_span.specs.Remainders.{AreRemainders, remainders_of}
-use Rattle.mob_span.proofs.Leaving.{set_clear}
+use Rattle.std.{specs.List.{AllByRecursion}, proofs.Common.{subst, ap, sym, ◌∙◌, ◌≡◌, true}, proofs.lemmas.Result.{IfOk-weaker}}
+use Rattle.mob_span.{specs.Neighbours.{is_inside}, specs.Remainders.{AreRemainders, remainders_of}, proofs.Leaving.{set_clear}}
 use Rattle.mob_slice.proofs.Orders.{ordered, ordered-clear}
 use Rattle.mob_restrict.proofs.Outside.{outside_values, judged_by_set}
 use Rattle.mob_restrict.proofs.by_time.outside.Goals as goal

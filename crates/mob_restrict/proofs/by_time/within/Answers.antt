@@ -1,10 +1,6 @@
 use Rattle.std.proofs.Common.{refl, ◌≡◌}
-use Rattle.mob_span.specs.Meets.{shared_pieces}
-use Rattle.mob_span.specs.Walk.{met_of, meets_left}
-use Rattle.mob_span.proofs.MeetLaws.{meets_clear}
-use Rattle.mob_slice.specs.Parts.{HoldsMet}
-use Rattle.mob_slice.proofs.Orders.{ordered, ordered-clear}
-use Rattle.mob_slice.proofs.Yielded.{clear_along, all_along}
+use Rattle.mob_span.{specs.Meets.{shared_pieces}, specs.Walk.{met_of, meets_left}, proofs.MeetLaws.{meets_clear}}
+use Rattle.mob_slice.{specs.Parts.{HoldsMet}, proofs.Orders.{ordered, ordered-clear}, proofs.Yielded.{clear_along, all_along}}
 use Rattle.mob_restrict.proofs.Cutting.{met_hold, whole_within}
 use Rattle.mob_restrict.proofs.by_time.within.Goals as goal
 

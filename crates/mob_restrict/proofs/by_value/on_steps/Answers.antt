@@ -1,6 +1,5 @@
 use Rattle.std.proofs.Common.{rules, ◌∙◌, ap}
-use Rattle.mob_span.proofs.Insides.{inside_self}
-use Rattle.mob_span.specs.Flags.{same_bool}
+use Rattle.mob_span.{specs.Flags.{same_bool}, proofs.Insides.{inside_self}}
 use Rattle.mob_restrict.proofs.ToOne.{steady_first, steady_nothing, steady_all, steady_fails}
 use Rattle.mob_restrict.proofs.by_value.on_steps.Goals as goal
 

@@ -1,7 +1,5 @@
 use Rattle.std.proofs.Common.{rules, ap, sym, ◌∙◌}
-use Rattle.mob_slice.specs.Lines.{line_value_of}
-use Rattle.mob_slice.specs.Slices.{value_at}
-use Rattle.mob_slice.proofs.Orders.{ordered}
+use Rattle.mob_slice.{specs.Lines.{line_value_of}, specs.Slices.{value_at}, proofs.Orders.{ordered}}
 use Rattle.mob_restrict.proofs.Axes.{coordinate_ordered, coordinate_at, not_empty, all_lines}
 use Rattle.mob_restrict.proofs.coordinates.coordinate.Goals as goal
 

@@ -1,5 +1,4 @@
-use Rattle.std.proofs.Common.{ap, ◌∙◌}
-use Rattle.std.proofs.lemmas.Result.{IfOk-weaker}
+use Rattle.std.{proofs.Common.{ap, ◌∙◌}, proofs.lemmas.Result.{IfOk-weaker}}
 use Rattle.mob_span.specs.Sets.{in_some}
 use Rattle.mob_restrict.proofs.SpansOf.{all_taken, spans_at}
 use Rattle.mob_restrict.proofs.defined.get_time.Goals as goal

@@ -1,6 +1,4 @@
-use Rattle.std.proofs.Common.{rules, ◌≡◌, ◌∙◌, sym, ap, negsuc, FitsSigned, to_z, of_z}
-use Rattle.std.specs.Int.{w8}
-use Rattle.std.proofs.lemmas.Int.{to_z-of_z}
+use Rattle.std.{specs.Int.{w8}, proofs.Common.{rules, ◌≡◌, ◌∙◌, sym, ap, negsuc, FitsSigned, to_z, of_z}, proofs.lemmas.Int.{to_z-of_z}}
 use Rattle.mob_root.proofs.Zeros.{below_by, not_below_by}
 use Rattle.mob_root.proofs.zero.is_below.Goals as goal
 

@@ -1,8 +1,6 @@
-use Rattle.std.proofs.Common.{ap, ◌∙◌, not}
-use Rattle.std.specs.Prelude.{count_by}
+use Rattle.std.{specs.Prelude.{count_by}, proofs.Common.{ap, ◌∙◌, not}}
 use Rattle.mob_stbox.specs.Boxes.{is_whole}
-use Rattle.mob_rtree_nodes.specs.Tree.{Kid}
-use Rattle.mob_rtree_nodes.proofs.Covers.{fit_whole}
+use Rattle.mob_rtree_nodes.{specs.Tree.{Kid}, proofs.Covers.{fit_whole}}
 use Rattle.mob_rtree_nodes.proofs.build.close.Goals as goal
 
 pub cover_all-area-requires-clause-whole : goal.cover_all-area-requires-clause-whole

@@ -1,9 +1,5 @@
-use Rattle.std.proofs.Common.{ℕ, ap, sym, ◌∙◌, map}
-use Rattle.std.specs.Prelude.{sum_by}
-use Rattle.std.proofs.lemmas.List.Sorted.{sum_by-IsPermutation}
-use Rattle.mob_rtree_nodes.specs.Tree.{Kid}
-use Rattle.mob_rtree_nodes.proofs.Sums.{mapped_sum}
-use Rattle.mob_rtree_nodes.proofs.Builds.{if_ok}
+use Rattle.std.{specs.Prelude.{sum_by}, proofs.Common.{ℕ, ap, sym, ◌∙◌, map}, proofs.lemmas.List.Sorted.{sum_by-IsPermutation}}
+use Rattle.mob_rtree_nodes.{specs.Tree.{Kid}, proofs.Sums.{mapped_sum}, proofs.Builds.{if_ok}}
 use Rattle.mob_rtree_nodes.proofs.build.gather_near.Goals as goal
 
 pub returns-clause-kids : goal.returns-clause-kids

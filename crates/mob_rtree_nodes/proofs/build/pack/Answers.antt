@@ -1,9 +1,5 @@
-use Rattle.std.proofs.Common.{◌≡◌, ap, ◌∙◌, sym, subst, arith, ◌+◌, ◌++◌, ◌∷◌, [], List, length, take, take_all, length-append}
-use Rattle.std.proofs.lemmas.List.{take_more}
-use Rattle.mob_rtree_nodes.specs.Tree.{Kid}
-use Rattle.mob_rtree_nodes.specs.Builds.{IsPacking}
-use Rattle.mob_rtree_nodes.proofs.Builds.{packing_start, packing_close, forest_up}
-use Rattle.mob_rtree_nodes.proofs.Inserts.{leaf_nil}
+use Rattle.std.{proofs.Common.{◌≡◌, ap, ◌∙◌, sym, subst, arith, ◌+◌, ◌++◌, ◌∷◌, [], List, length, take, take_all, length-append}, proofs.lemmas.List.{take_more}}
+use Rattle.mob_rtree_nodes.{specs.Tree.{Kid}, specs.Builds.{IsPacking}, proofs.Builds.{packing_start, packing_close, forest_up}, proofs.Inserts.{leaf_nil}}
 use Rattle.mob_rtree_nodes.proofs.build.pack.Goals as goal
 
 pub loop-kid-init : goal.loop-kid-init

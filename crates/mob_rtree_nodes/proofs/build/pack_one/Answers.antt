@@ -1,6 +1,5 @@
 use Rattle.std.proofs.Common.{ap, ◌∙◌, sym, subst, ◌++◌, ◌∷◌, []}
-use Rattle.mob_rtree_nodes.specs.Builds.{IsPacking}
-use Rattle.mob_rtree_nodes.proofs.Builds.{packing_close, packing_push, full_some}
+use Rattle.mob_rtree_nodes.{specs.Builds.{IsPacking}, proofs.Builds.{packing_close, packing_push, full_some}}
 use Rattle.mob_rtree_nodes.proofs.build.pack_one.Goals as goal
 
 pub returns-then-is_full-clause-packing : goal.returns-then-is_full-clause-packing

@@ -1,12 +1,7 @@
-use Rattle.std.proofs.Common.{arith, ◌≡◌, sym, ◌∙◌, ap, subst, ◌+◌, ◌≤◌, true, length, set, List}
-use Rattle.std.specs.Prelude.{MatchOption}
-use Rattle.std.proofs.lemmas.List.{length-set, get_or-set_same}
+use Rattle.std.{specs.Prelude.{MatchOption}, proofs.Common.{arith, ◌≡◌, sym, ◌∙◌, ap, subst, ◌+◌, ◌≤◌, true, length, set, List}, proofs.lemmas.List.{length-set, get_or-set_same}}
 use Rattle.std.proofs.lemmas.List.Elements.{All-set}
-use Rattle.mob_rtree_nodes.specs.Tree.{Kid, target, is_fit, IsSoundNode, height_at}
-use Rattle.mob_rtree_nodes.specs.declared.node.TreeNode.{TreeNode}
-use Rattle.mob_rtree_nodes.proofs.Sums.{height_of, kids_of}
-use Rattle.mob_rtree_nodes.proofs.Inserts.{grown_leaf, grown_none, grown_some, lower, beneath, still_live}
-use Rattle.mob_rtree_nodes.proofs.Frees.{reused_trans}
+use Rattle.mob_rtree_nodes.{specs.Tree.{Kid, target, is_fit, IsSoundNode, height_at}, specs.declared.node.TreeNode.{TreeNode}, proofs.Sums.{height_of, kids_of}}
+use Rattle.mob_rtree_nodes.{proofs.Inserts.{grown_leaf, grown_none, grown_some, lower, beneath, still_live}, proofs.Frees.{reused_trans}}
 use Rattle.mob_rtree_nodes.proofs.insert.+insert_at.Goals as goal
 
 pub place-requires-clause-fit : goal.place-requires-clause-fit

@@ -1,8 +1,6 @@
-use Rattle.std.proofs.Common.{ap, ◌∙◌, not}
-use Rattle.std.specs.Prelude.{count_by}
+use Rattle.std.{specs.Prelude.{count_by}, proofs.Common.{ap, ◌∙◌, not}}
 use Rattle.mob_stbox.specs.Boxes.{is_whole}
-use Rattle.mob_rtree_nodes.specs.Tree.{Kid, is_fit}
-use Rattle.mob_rtree_nodes.proofs.Covers.{none_parted, none_pushed, fit_whole}
+use Rattle.mob_rtree_nodes.{specs.Tree.{Kid, is_fit}, proofs.Covers.{none_parted, none_pushed, fit_whole}}
 use Rattle.mob_rtree_nodes.proofs.insert.add.Goals as goal
 
 pub cover_all-part-requires-clause-whole : goal.cover_all-part-requires-clause-whole

@@ -1,5 +1,4 @@
-use Rattle.std.proofs.Common.{refl, subst}
-use Rattle.std.specs.Prelude.{IsPermutation}
+use Rattle.std.{specs.Prelude.{IsPermutation}, proofs.Common.{refl, subst}}
 use Rattle.mob_rtree_nodes.proofs.Covers.{sum_arranged}
 use Rattle.mob_rtree_nodes.proofs.insert.arrange.Goals as goal
 

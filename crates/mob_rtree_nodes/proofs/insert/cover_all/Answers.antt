@@ -1,8 +1,6 @@
-use Rattle.std.proofs.Common.{◌≡◌, true, subst, take_all, ◌∙◌, ap, arith}
-use Rattle.std.specs.Prelude.{All}
+use Rattle.std.{specs.Prelude.{All}, proofs.Common.{◌≡◌, true, subst, take_all, ◌∙◌, ap, arith}}
 use Rattle.mob_stbox.specs.Boxes.{contains, is_whole}
-use Rattle.mob_rtree_nodes.specs.Tree.{Kid}
-use Rattle.mob_rtree_nodes.proofs.Covers.{cover_more, cover_still_least, none_fails}
+use Rattle.mob_rtree_nodes.{specs.Tree.{Kid}, proofs.Covers.{cover_more, cover_still_least, none_fails}}
 use Rattle.mob_rtree_nodes.proofs.insert.cover_all.Goals as goal
 
 pub loop-kid-init : goal.loop-kid-init

@@ -1,5 +1,4 @@
-use Rattle.std.proofs.Common.{◌≡◌, true, take}
-use Rattle.std.specs.Prelude.{All}
+use Rattle.std.{specs.Prelude.{All}, proofs.Common.{◌≡◌, true, take}}
 use Rattle.mob_stbox.specs.Boxes.{contains, is_whole}
 use Rattle.mob_rtree_nodes.specs.Tree.{IsLeastOver}
 use Rattle.mob_rtree_nodes.proofs.insert.cover_all.Given as goal

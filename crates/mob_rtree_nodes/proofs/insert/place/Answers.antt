@@ -1,8 +1,5 @@
-use Rattle.std.proofs.Common.{arith, refl, sym, ◌∙◌, ap, Some, None, List, length}
-use Rattle.std.specs.Prelude.{sum_by}
-use Rattle.mob_rtree_nodes.specs.Tree.{Kid, is_fit, kids_of_more}
-use Rattle.mob_rtree_nodes.proofs.Sums.{kids_of, height_of}
-use Rattle.mob_rtree_nodes.proofs.Frees.{free_set, reused_set, reused_trans}
+use Rattle.std.{specs.Prelude.{sum_by}, proofs.Common.{arith, refl, sym, ◌∙◌, ap, Some, None, List, length}}
+use Rattle.mob_rtree_nodes.{specs.Tree.{Kid, is_fit, kids_of_more}, proofs.Sums.{kids_of, height_of}, proofs.Frees.{free_set, reused_set, reused_trans}}
 use Rattle.mob_rtree_nodes.proofs.insert.place.Goals as goal
 
 pub add-more-requires-clause-fit : goal.add-more-requires-clause-fit

@@ -1,6 +1,5 @@
 use Rattle.std.proofs.Common.{refl, sym, ◌∙◌, subst, arith, append-nil, inl}
-use Rattle.mob_rtree_nodes.specs.Tree.{IsFree, IsReused}
-use Rattle.mob_rtree_nodes.proofs.Frees.{popped, free_over, free_behind, live_of_free, reused_behind}
+use Rattle.mob_rtree_nodes.{specs.Tree.{IsFree, IsReused}, proofs.Frees.{popped, free_over, free_behind, live_of_free, reused_behind}}
 use Rattle.mob_rtree_nodes.proofs.insert.put_node.Goals as goal
 
 pub index_mut-requires : goal.index_mut-requires

@@ -1,5 +1,4 @@
-use Rattle.std.proofs.Common.{◌≡◌, ℕ, ◌+◌}
-use Rattle.std.specs.Prelude.{sum_by}
+use Rattle.std.{specs.Prelude.{sum_by}, proofs.Common.{◌≡◌, ℕ, ◌+◌}}
 use Rattle.arrayvec.specs.ArrayVec.{array_vec_len}
 use Rattle.mob_rtree_nodes.specs.Tree.{Kid}
 use Rattle.mob_rtree_nodes.proofs.insert.split.Given as goal

@@ -1,13 +1,9 @@
-use Rattle.std.proofs.Common.{arith, ap, sym, ◌∙◌, subst, refl, List, length, ◌≡◌, ◌+◌, Bool}
-use Rattle.std.specs.Vec.{vec_capacity}
+use Rattle.std.{specs.Vec.{vec_capacity}, proofs.Common.{arith, ap, sym, ◌∙◌, subst, refl, List, length, ◌≡◌, ◌+◌, Bool}}
 use Rattle.mob_stbox.specs.Boxes.{BoxOf, contains}
-use Rattle.mob_rtree_nodes.specs.Tree.{Kid, EntryOf, target, IsTree, height_at, walk_sum}
-use Rattle.mob_rtree_nodes.specs.Removes.{hit}
-use Rattle.mob_rtree_nodes.proofs.Sums.{kids_of, height_of}
-use Rattle.mob_rtree_nodes.proofs.Visits.{step_skip, step_down}
+use Rattle.mob_rtree_nodes.{specs.Tree.{Kid, EntryOf, target, IsTree, height_at, walk_sum}, specs.Removes.{hit}, proofs.Sums.{kids_of, height_of}, proofs.Visits.{step_skip, step_down}}
 use Rattle.mob_rtree_nodes.proofs.Shrinks.{lower_again, left_beneath, removed_beneath, found_beneath, one_missing, all_missing}
-use Rattle.mob_rtree_nodes.proofs.remove.+remove_at.Goals as goal
 use Rattle.mob_rtree_nodes.proofs.remove.+remove_at.Goals.{then-contains+in-Missing, else-contains}
+use Rattle.mob_rtree_nodes.proofs.remove.+remove_at.Goals as goal
 
 pub remove_entry-requires-clause-leaf : goal.remove_entry-requires-clause-leaf
 remove_entry-requires-clause-leaf t c = height_of c.args.nodes.now.items c.args.node c.index-part.result.now c.requires.there c.index-part.ensures ∙ c.if-part-eq0.true

@@ -1,9 +1,6 @@
-use Rattle.std.proofs.Common.{◌≡◌, take}
-use Rattle.std.specs.Prelude.{sum_by}
-use Rattle.std.specs.Vec.{vec_capacity}
+use Rattle.std.{specs.Prelude.{sum_by}, specs.Vec.{vec_capacity}, proofs.Common.{◌≡◌, take}}
 use Rattle.mob_stbox.specs.Boxes.{contains}
-use Rattle.mob_rtree_nodes.specs.Tree.{IsFree, height_at, kids_at, step_sum}
-use Rattle.mob_rtree_nodes.specs.Removes.{hit}
+use Rattle.mob_rtree_nodes.{specs.Tree.{IsFree, height_at, kids_at, step_sum}, specs.Removes.{hit}}
 use Rattle.mob_rtree_nodes.proofs.remove.+remove_at.Given as goal
 
 abbrev pub decreases-remove_at : goal.decreases-remove_at

@@ -1,5 +1,4 @@
-use Rattle.std.proofs.Common.{◌≡◌, take}
-use Rattle.std.specs.Prelude.{count_by}
+use Rattle.std.{specs.Prelude.{count_by}, proofs.Common.{◌≡◌, take}}
 use Rattle.mob_rtree_nodes.specs.Removes.{is_entry}
 use Rattle.mob_rtree_nodes.proofs.remove.position.Given as goal
 

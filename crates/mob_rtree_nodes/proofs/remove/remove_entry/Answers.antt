@@ -1,9 +1,6 @@
-use Rattle.std.proofs.Common.{arith, ap, sym, ◌∙◌, subst, List, length, get_or, set, ◌<◌}
-use Rattle.std.specs.Prelude.{count_by}
+use Rattle.std.{specs.Prelude.{count_by}, proofs.Common.{arith, ap, sym, ◌∙◌, subst, List, length, get_or, set, ◌<◌}}
 use Rattle.mob_stbox.specs.Boxes.{contains}
-use Rattle.mob_rtree_nodes.specs.Tree.{Kid, EntryOf}
-use Rattle.mob_rtree_nodes.specs.Removes.{is_entry, IsRemoved}
-use Rattle.mob_rtree_nodes.proofs.Sums.{kids_of, height_of}
+use Rattle.mob_rtree_nodes.{specs.Tree.{Kid, EntryOf}, specs.Removes.{is_entry, IsRemoved}, proofs.Sums.{kids_of, height_of}}
 use Rattle.mob_rtree_nodes.proofs.Shrinks.{at_place, leaf_missing, shrunk_leaf, told_removed, held_is}
 use Rattle.mob_rtree_nodes.proofs.remove.remove_entry.Goals as goal
 

@@ -1,7 +1,5 @@
 use Rattle.std.proofs.Common.{arith, ap, List, length, ◌<◌}
-use Rattle.mob_rtree_nodes.specs.Tree.{Kid}
-use Rattle.mob_rtree_nodes.proofs.Sums.{kids_of}
-use Rattle.mob_rtree_nodes.proofs.Frees.{free_few, free_drop, free_set}
+use Rattle.mob_rtree_nodes.{specs.Tree.{Kid}, proofs.Sums.{kids_of}, proofs.Frees.{free_few, free_drop, free_set}}
 use Rattle.mob_rtree_nodes.proofs.remove.settle_at.Goals as goal
 
 pub settle-left-requires-clause-slot : goal.settle-left-requires-clause-slot

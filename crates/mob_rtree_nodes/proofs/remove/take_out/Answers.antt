@@ -1,10 +1,6 @@
-use Rattle.std.proofs.Common.{◌≡◌, refl, ap, ◌∙◌, sym, length, not, subst, true}
-use Rattle.std.specs.Prelude.{count_by, All}
+use Rattle.std.{specs.Prelude.{count_by, All}, proofs.Common.{◌≡◌, refl, ap, ◌∙◌, sym, length, not, subst, true}}
 use Rattle.mob_stbox.specs.Boxes.{is_whole, contains}
-use Rattle.mob_rtree_nodes.specs.Tree.{Kid, IsLeastOver, is_fit}
-use Rattle.mob_rtree_nodes.specs.declared.node.TreeNode.{TreeNode}
-use Rattle.mob_rtree_nodes.proofs.Covers.{fit_whole, none_out, some_left}
-use Rattle.mob_rtree_nodes.proofs.Shrinks.{kids_without}
+use Rattle.mob_rtree_nodes.{specs.Tree.{Kid, IsLeastOver, is_fit}, specs.declared.node.TreeNode.{TreeNode}, proofs.Covers.{fit_whole, none_out, some_left}, proofs.Shrinks.{kids_without}}
 use Rattle.mob_rtree_nodes.proofs.remove.take_out.Goals as goal
 
 pub cover_all-part-requires-clause-whole : goal.cover_all-part-requires-clause-whole

@@ -1,9 +1,8 @@
 use Rattle.std.proofs.Common.{arith, sym, ◌∙◌, ap, append_assoc, ◌+◌, ◌++◌, Bool, [], ◌∷◌}
 use Rattle.mob_stbox.specs.Boxes.{BoxOf, overlaps}
-use Rattle.mob_rtree_nodes.specs.Tree.{target, height_at, walk_sum}
-use Rattle.mob_rtree_nodes.proofs.Visits.{down, found_all, cost_all, cost_more, found_skip, found_leaf, found_down, step_down}
-use Rattle.mob_rtree_nodes.proofs.search.+visit.Goals as goal
+use Rattle.mob_rtree_nodes.{specs.Tree.{target, height_at, walk_sum}, proofs.Visits.{down, found_all, cost_all, cost_more, found_skip, found_leaf, found_down, step_down}}
 use Rattle.mob_rtree_nodes.proofs.search.+visit.Goals.{then-overlaps+then-part-eq0+in_ok-push, then-overlaps+else-part-eq0+in_ok-visit, else-overlaps}
+use Rattle.mob_rtree_nodes.proofs.search.+visit.Goals as goal
 
 pub returns-in_err-push-clause-cost : goal.returns-in_err-push-clause-cost
 returns-in_err-push-clause-cost g t c =

@@ -1,5 +1,4 @@
-use Rattle.std.proofs.Common.{◌≡◌, ℕ, ◌+◌, ◌*◌, ◌≤◌, List, ◌++◌, take}
-use Rattle.std.specs.Prelude.{sum_by}
+use Rattle.std.{specs.Prelude.{sum_by}, proofs.Common.{◌≡◌, ℕ, ◌+◌, ◌*◌, ◌≤◌, List, ◌++◌, take}}
 use Rattle.mob_stbox.specs.Boxes.{overlaps}
 use Rattle.mob_rtree_nodes.specs.Tree.{height_at, step_sum}
 use Rattle.mob_rtree_nodes.proofs.search.+visit.Given as goal

@@ -1,9 +1,5 @@
-use Rattle.std.proofs.Common.{◌∙◌, ap, sym, arith, List, get_or, length}
-use Rattle.std.proofs.lemmas.List.{get_or_default}
-use Rattle.mob_rtree_nodes.specs.Tree.{Kid, kids_at}
-use Rattle.mob_rtree_nodes.proofs.Sums.{kids_of}
-use Rattle.mob_rtree_nodes.proofs.Covers.{none_left, some_left}
-use Rattle.mob_rtree_nodes.proofs.Frees.{none_freed, one_freed}
+use Rattle.std.{proofs.Common.{◌∙◌, ap, sym, arith, List, get_or, length}, proofs.lemmas.List.{get_or_default}}
+use Rattle.mob_rtree_nodes.{specs.Tree.{Kid, kids_at}, proofs.Sums.{kids_of}, proofs.Covers.{none_left, some_left}, proofs.Frees.{none_freed, one_freed}}
 use Rattle.mob_rtree_nodes.proofs.sift.free_one.Goals as goal
 
 pub returns-then-is_empty-clause-numbered : goal.returns-then-is_empty-clause-numbered

@@ -1,9 +1,5 @@
-use Rattle.std.proofs.Common.{◌∙◌, ◌++◌, [], ap, sym, arith, take, List, ◌<◌, length}
-use Rattle.std.specs.Prelude.{slice_index_or}
-use Rattle.std.specs.List.{cons_option, filter_map}
-use Rattle.mob_rtree_nodes.specs.Tree.{Kid}
-use Rattle.mob_rtree_nodes.specs.Sifts.{left_kid}
-use Rattle.mob_rtree_nodes.proofs.Sifts.{left_more}
+use Rattle.std.{specs.Prelude.{slice_index_or}, specs.List.{cons_option, filter_map}, proofs.Common.{◌∙◌, ◌++◌, [], ap, sym, arith, take, List, ◌<◌, length}}
+use Rattle.mob_rtree_nodes.{specs.Tree.{Kid}, specs.Sifts.{left_kid}, proofs.Sifts.{left_more}}
 use Rattle.mob_rtree_nodes.proofs.sift.kids_after.Goals as goal
 
 pub loop-kid-preserved : goal.loop-kid-preserved

@@ -1,5 +1,4 @@
-use Rattle.std.proofs.Common.{◌≡◌, ◌≤◌, take}
-use Rattle.std.specs.List.{filter_map}
+use Rattle.std.{specs.List.{filter_map}, proofs.Common.{◌≡◌, ◌≤◌, take}}
 use Rattle.arrayvec.specs.ArrayVec.{array_vec_len}
 use Rattle.mob_rtree_nodes.specs.Sifts.{left_kid}
 use Rattle.mob_rtree_nodes.proofs.sift.kids_after.Given as goal

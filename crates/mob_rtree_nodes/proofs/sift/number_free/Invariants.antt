@@ -1,6 +1,4 @@
-use Rattle.std.proofs.Common.{◌≡◌, ℕ, ◌≤◌, take}
-use Rattle.std.specs.Prelude.{sum_by}
-use Rattle.std.specs.Vec.{vec_len, vec_capacity}
+use Rattle.std.{specs.Prelude.{sum_by}, specs.Vec.{vec_len, vec_capacity}, proofs.Common.{◌≡◌, ℕ, ◌≤◌, take}}
 use Rattle.mob_rtree_nodes.specs.Tree.{dropped_sum}
 use Rattle.mob_rtree_nodes.proofs.sift.number_free.Given as goal
 

@@ -1,6 +1,5 @@
 use Rattle.std.proofs.Common.{◌≡◌, ◌+◌, ◌∙◌, arith, subst, sym}
-use Rattle.mob_rtree_nodes.specs.Sifts.{IsSiftedUpTo}
-use Rattle.mob_rtree_nodes.proofs.Sifts.{all_sifted}
+use Rattle.mob_rtree_nodes.{specs.Sifts.{IsSiftedUpTo}, proofs.Sifts.{all_sifted}}
 use Rattle.mob_rtree_nodes.proofs.sift.sift.Goals as goal
 
 pub loop-height-preserved : goal.loop-height-preserved

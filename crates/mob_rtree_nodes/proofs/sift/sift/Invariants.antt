@@ -1,8 +1,5 @@
-use Rattle.std.proofs.Common.{◌≡◌, ◌≤◌}
-use Rattle.std.specs.Prelude.{All}
-use Rattle.std.specs.Vec.{vec_capacity}
-use Rattle.mob_rtree_nodes.specs.Tree.{IsSoundNode, IsTree, Ref}
-use Rattle.mob_rtree_nodes.specs.Sifts.{IsSiftedUpTo}
+use Rattle.std.{specs.Prelude.{All}, specs.Vec.{vec_capacity}, proofs.Common.{◌≡◌, ◌≤◌}}
+use Rattle.mob_rtree_nodes.{specs.Tree.{IsSoundNode, IsTree, Ref}, specs.Sifts.{IsSiftedUpTo}}
 use Rattle.mob_rtree_nodes.proofs.sift.sift.Given as goal
 
 abbrev pub invariant-loop-height : goal.invariant-loop-height

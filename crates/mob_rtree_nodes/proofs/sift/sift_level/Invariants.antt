@@ -1,9 +1,5 @@
-use Rattle.std.proofs.Common.{◌≡◌, List, length}
-use Rattle.std.specs.Prelude.{All}
-use Rattle.std.specs.Vec.{vec_capacity}
-use Rattle.mob_rtree_nodes.specs.Tree.{IsSoundNode, IsTree, Ref}
-use Rattle.mob_rtree_nodes.specs.Sifts.{IsSiftedUpTo}
-use Rattle.mob_rtree_nodes.specs.declared.node.TreeNode.{TreeNode}
+use Rattle.std.{specs.Prelude.{All}, specs.Vec.{vec_capacity}, proofs.Common.{◌≡◌, List, length}}
+use Rattle.mob_rtree_nodes.{specs.Tree.{IsSoundNode, IsTree, Ref}, specs.Sifts.{IsSiftedUpTo}, specs.declared.node.TreeNode.{TreeNode}}
 use Rattle.mob_rtree_nodes.proofs.sift.sift_level.Given as goal
 
 abbrev pub invariant-loop-node : goal.invariant-loop-node

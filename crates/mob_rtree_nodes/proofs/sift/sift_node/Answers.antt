@@ -1,8 +1,5 @@
-use Rattle.std.proofs.Common.{◌∙◌, ap, not}
-use Rattle.std.specs.Prelude.{count_by}
-use Rattle.mob_rtree_nodes.specs.Tree.{Kid, is_fit}
-use Rattle.mob_rtree_nodes.proofs.Sums.{sound_at}
-use Rattle.mob_rtree_nodes.proofs.Sifts.{after_fit, read_left, sifted_at}
+use Rattle.std.{specs.Prelude.{count_by}, proofs.Common.{◌∙◌, ap, not}}
+use Rattle.mob_rtree_nodes.{specs.Tree.{Kid, is_fit}, proofs.Sums.{sound_at}, proofs.Sifts.{after_fit, read_left, sifted_at}}
 use Rattle.mob_rtree_nodes.proofs.sift.sift_node.Goals as goal
 
 pub settle_left-requires-clause-fit : goal.settle_left-requires-clause-fit

@@ -1,9 +1,6 @@
-use Rattle.std.proofs.Common.{arith, ◌≡◌, sym, ◌∙◌, ap, ℕ, ◌++◌, [], append-nil}
-use Rattle.std.proofs.lemmas.List.Sorted.{sum_by-IsPermutation}
-use Rattle.std.specs.Prelude.{sum_by}
+use Rattle.std.{specs.Prelude.{sum_by}, proofs.Common.{arith, ◌≡◌, sym, ◌∙◌, ap, ℕ, ◌++◌, [], append-nil}, proofs.lemmas.List.Sorted.{sum_by-IsPermutation}}
 use Rattle.mob_stbox.specs.Boxes.{overlaps}
-use Rattle.mob_rtree_nodes.specs.Tree.{ref, height_at, walk_sum}
-use Rattle.mob_rtree_nodes.proofs.Roots.{root_there, walk_finds, walk_misses, walk_meets}
+use Rattle.mob_rtree_nodes.{specs.Tree.{ref, height_at, walk_sum}, proofs.Roots.{root_there, walk_finds, walk_misses, walk_meets}}
 use Rattle.mob_rtree_nodes.proofs.whole.gather.Goals as goal
 
 pub returns-then-not-overlaps-clause-found : goal.returns-then-not-overlaps-clause-found

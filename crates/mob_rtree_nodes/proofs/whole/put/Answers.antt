@@ -1,10 +1,6 @@
 use Rattle.std.proofs.Common.{arith, ◌≡◌, refl, ◌∙◌, ap, ◌+◌, ◌<◌, List, length, length-append, [], ◌∷◌, ◌++◌}
-use Rattle.mob_rtree_nodes.specs.declared.node.TreeNode.{TreeNode}
-use Rattle.mob_rtree_nodes.specs.Tree.{Kid, entry_of, ref}
-use Rattle.mob_rtree_nodes.specs.declared.node.Child.TheVariants.{Node}
-use Rattle.mob_rtree_nodes.proofs.Roots.{root_alive, root_there, root_height, tree_none, tree_some, added, added_root}
-use Rattle.mob_rtree_nodes.proofs.Inserts.{put_in}
-use Rattle.mob_rtree_nodes.proofs.Frees.{reused_trans}
+use Rattle.mob_rtree_nodes.{specs.declared.node.TreeNode.{TreeNode}, specs.Tree.{Kid, entry_of, ref}, specs.declared.node.Child.TheVariants.{Node}}
+use Rattle.mob_rtree_nodes.{proofs.Roots.{root_alive, root_there, root_height, tree_none, tree_some, added, added_root}, proofs.Inserts.{put_in}, proofs.Frees.{reused_trans}}
 use Rattle.mob_rtree_nodes.proofs.whole.put.Goals as goal
 
 pub insert_at-grown-requires-clause-there : goal.insert_at-grown-requires-clause-there

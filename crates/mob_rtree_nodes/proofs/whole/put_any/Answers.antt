@@ -1,6 +1,5 @@
 use Rattle.std.proofs.Common.{sym, ◌∙◌, arith}
-use Rattle.mob_rtree_nodes.proofs.Covers.{none_left}
-use Rattle.mob_rtree_nodes.proofs.Frees.{free_first}
+use Rattle.mob_rtree_nodes.{proofs.Covers.{none_left}, proofs.Frees.{free_first}}
 use Rattle.mob_rtree_nodes.proofs.whole.put_any.Goals as goal
 
 pub returns-then-is_empty-clause-free : goal.returns-then-is_empty-clause-free

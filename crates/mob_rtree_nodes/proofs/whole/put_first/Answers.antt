@@ -1,8 +1,5 @@
-use Rattle.std.proofs.Common.{arith, ◌≡◌, refl, sym, ◌∙◌, ap, subst, ◌++◌, ◌<◌, ◌∷◌, [], List, length}
-use Rattle.mob_rtree_nodes.specs.Tree.{Kid, entry_of, IsTree, entries_list, IsAdded, AreLive}
-use Rattle.mob_rtree_nodes.specs.declared.node.TreeNode.{TreeNode}
-use Rattle.std.proofs.lemmas.List.Elements.{All-cons, All-nil}
-use Rattle.mob_rtree_nodes.proofs.Roots.{tree_one, added_one}
+use Rattle.std.{proofs.Common.{arith, ◌≡◌, refl, sym, ◌∙◌, ap, subst, ◌++◌, ◌<◌, ◌∷◌, [], List, length}, proofs.lemmas.List.Elements.{All-cons, All-nil}}
+use Rattle.mob_rtree_nodes.{specs.Tree.{Kid, entry_of, IsTree, entries_list, IsAdded, AreLive}, specs.declared.node.TreeNode.{TreeNode}, proofs.Roots.{tree_one, added_one}}
 use Rattle.mob_rtree_nodes.proofs.whole.put_first.Goals as goal
 
 pub returns-clause-tree : goal.returns-clause-tree

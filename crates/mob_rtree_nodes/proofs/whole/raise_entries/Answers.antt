@@ -1,8 +1,5 @@
-use Rattle.std.proofs.Common.{ap, ◌∙◌, sym, subst, ◌+◌, not, []}
-use Rattle.std.specs.Prelude.{count_by, sum_by}
-use Rattle.mob_rtree_nodes.specs.Tree.{Kid, is_fit, entries_sum}
-use Rattle.mob_rtree_nodes.specs.Builds.{IsForest, leaf_sum}
-use Rattle.mob_rtree_nodes.proofs.Builds.{entry_fits, fits_arranged, forest_start, built_same, on_ok}
+use Rattle.std.{specs.Prelude.{count_by, sum_by}, proofs.Common.{ap, ◌∙◌, sym, subst, ◌+◌, not, []}}
+use Rattle.mob_rtree_nodes.{specs.Tree.{Kid, is_fit, entries_sum}, specs.Builds.{IsForest, leaf_sum}, proofs.Builds.{entry_fits, fits_arranged, forest_start, built_same, on_ok}}
 use Rattle.mob_rtree_nodes.proofs.whole.raise_entries.Goals as goal
 
 pub raise-requires-clause-forest : goal.raise-requires-clause-forest

@@ -1,7 +1,5 @@
 use Rattle.std.proofs.Common.{sym, ◌∙◌}
-use Rattle.mob_rtree_nodes.specs.Tree.{ref}
-use Rattle.mob_rtree_nodes.proofs.Roots.{root_there, root_height}
-use Rattle.mob_rtree_nodes.proofs.Shrinks.{taken_out, taken_early}
+use Rattle.mob_rtree_nodes.{specs.Tree.{ref}, proofs.Roots.{root_there, root_height}, proofs.Shrinks.{taken_out, taken_early}}
 use Rattle.mob_rtree_nodes.proofs.whole.take_entry.Goals as goal
 
 pub returns-then-not-contains-clause-taken : goal.returns-then-not-contains-clause-taken

@@ -1,8 +1,5 @@
 use Rattle.std.proofs.Common.{◌∙◌, sym, arith, length}
-use Rattle.mob_rtree_nodes.specs.Tree.{ref}
-use Rattle.mob_rtree_nodes.proofs.Covers.{none_left, some_left}
-use Rattle.mob_rtree_nodes.proofs.Roots.{root_there}
-use Rattle.mob_rtree_nodes.proofs.Sifts.{tree_gone, tree_left}
+use Rattle.mob_rtree_nodes.{specs.Tree.{ref}, proofs.Covers.{none_left, some_left}, proofs.Roots.{root_there}, proofs.Sifts.{tree_gone, tree_left}}
 use Rattle.mob_rtree_nodes.proofs.whole.take_ids.Goals as goal
 
 pub index-part-requires : goal.index-part-requires

@@ -1,6 +1,5 @@
 use Rattle.std.proofs.Common.{suc, length, sym, arith, Ok}
-use Rattle.mob_language.specs.Readers.{separated_at}
-use Rattle.mob_language.proofs.Lists.{loop_more, loop_ends, loop_fails, loop_done}
+use Rattle.mob_language.{specs.Readers.{separated_at}, proofs.Lists.{loop_more, loop_ends, loop_fails, loop_done}}
 use Rattle.mob_scalar.specs.Brackets.{comma_at}
 use Rattle.mob_scalar.proofs.brackets.separated_at.Goals as goal
 

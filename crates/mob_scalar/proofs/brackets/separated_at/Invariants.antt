@@ -1,6 +1,5 @@
 use Rattle.std.proofs.Common.{◌≡◌, ◌-◌, suc, length, IfOk, option_map}
-use Rattle.mob_language.specs.Readers.{TextReader, items_at, separated_at}
-use Rattle.mob_language.proofs.Lists.{with_front}
+use Rattle.mob_language.{specs.Readers.{TextReader, items_at, separated_at}, proofs.Lists.{with_front}}
 use Rattle.mob_scalar.specs.Brackets.{comma_at}
 use Rattle.mob_scalar.proofs.brackets.separated_at.Given as goal
 

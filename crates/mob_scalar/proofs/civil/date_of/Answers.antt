@@ -1,9 +1,6 @@
-use Rattle.std.proofs.Common.{◌≡◌, ℕ, ap, subst, sym, ◌∙◌, unsigned_abs, arith}
-use Rattle.std.proofs.lemmas.Int.{to_z-of_z}
+use Rattle.std.{proofs.Common.{◌≡◌, ℕ, ap, subst, sym, ◌∙◌, unsigned_abs, arith}, proofs.lemmas.Int.{to_z-of_z}}
 use Rattle.jiff_core.specs.Date.{epoch_day}
-use Rattle.mob_scalar.specs.Calendar.{IsInYears}
-use Rattle.mob_scalar.proofs.DaysDated.{date_of_day}
-use Rattle.mob_scalar.proofs.Dates.{year_back, year_is_natural, year_small, civil_again, dated_date}
+use Rattle.mob_scalar.{specs.Calendar.{IsInYears}, proofs.DaysDated.{date_of_day}, proofs.Dates.{year_back, year_is_natural, year_small, civil_again, dated_date}}
 use Rattle.mob_scalar.proofs.civil.date_of.Goals as goal
 
 pub overflow_cast-result : goal.overflow_cast-result

@@ -1,6 +1,4 @@
-use Rattle.std.proofs.Common.{Ok, sym, ◌∙◌}
-use Rattle.std.proofs.lemmas.List.{nil_from_length}
-use Rattle.std.specs.Vec.Iter.{into_iter_items}
+use Rattle.std.{specs.Vec.Iter.{into_iter_items}, proofs.Common.{Ok, sym, ◌∙◌}, proofs.lemmas.List.{nil_from_length}}
 use Rattle.mob_list.proofs.Entries.{counted_down}
 use Rattle.mob_scalar.proofs.Traversed.{traverse_more, traverse_fails, traverse_ends}
 use Rattle.mob_scalar.proofs.each.fitting_each.Goals as goal

@@ -1,7 +1,5 @@
-use Rattle.std.proofs.Common.{◌≡◌, length, Option, IfOk}
-use Rattle.std.specs.Vec.Iter.{into_iter_items, into_iter_len}
-use Rattle.mob_scalar.specs.Traverse.{traverse}
-use Rattle.mob_scalar.proofs.Traversed.{with_list}
+use Rattle.std.{specs.Vec.Iter.{into_iter_items, into_iter_len}, proofs.Common.{◌≡◌, length, Option, IfOk}}
+use Rattle.mob_scalar.{specs.Traverse.{traverse}, proofs.Traversed.{with_list}}
 use Rattle.mob_scalar.proofs.each.fitting_each.Given as goal
 
 -- the values made so far, and those still to be made

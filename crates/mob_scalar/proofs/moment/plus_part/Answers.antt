@@ -1,5 +1,4 @@
-use Rattle.std.proofs.Common.{◌≡◌, ℕ, ◌*◌, arith}
-use Rattle.std.proofs.lemmas.Int.{to_z-of_z}
+use Rattle.std.{proofs.Common.{◌≡◌, ℕ, ◌*◌, arith}, proofs.lemmas.Int.{to_z-of_z}}
 use Rattle.mob_scalar.proofs.Parts.{whole_fits, part_fits}
 use Rattle.mob_scalar.proofs.moment.plus_part.Goals as goal
 

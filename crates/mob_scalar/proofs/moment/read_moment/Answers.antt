@@ -1,7 +1,6 @@
 use Rattle.std.proofs.Common.{refl}
 use Rattle.mob_numeral.proofs.WholeTexts.{inner_of}
-use Rattle.mob_scalar.proofs.WholeTexts.{moment_whole}
-use Rattle.mob_scalar.proofs.MomentBounds.{moment_small}
+use Rattle.mob_scalar.{proofs.WholeTexts.{moment_whole}, proofs.MomentBounds.{moment_small}}
 use Rattle.mob_language.proofs.Exact.{is_said, not_said}
 use Rattle.mob_scalar.proofs.moment.read_moment.Goals as goal
 

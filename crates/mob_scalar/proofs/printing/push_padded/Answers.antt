@@ -1,5 +1,4 @@
-use Rattle.std.proofs.Common.{◌≡◌, ◌+◌, length, ap, arith}
-use Rattle.std.proofs.lemmas.Grind.{common_steps}
+use Rattle.std.{proofs.Common.{◌≡◌, ◌+◌, length, ap, arith}, proofs.lemmas.Grind.{common_steps}}
 use Rattle.mob_scalar.proofs.Padding.{decimal_short}
 use Rattle.mob_scalar.proofs.printing.push_padded.Goals as goal
 

@@ -1,6 +1,4 @@
-use Rattle.std.proofs.Common.{◌≤◌, length, ap, arith}
-use Rattle.std.proofs.lemmas.Fmt.{length-decimal-le}
-use Rattle.std.proofs.lemmas.Grind.{common_steps}
+use Rattle.std.{proofs.Common.{◌≤◌, length, ap, arith}, proofs.lemmas.Fmt.{length-decimal-le}, proofs.lemmas.Grind.{common_steps}}
 use Rattle.mob_scalar.proofs.printing.push_whole.Goals as goal
 
 pub returns-clause-len : goal.returns-clause-len

@@ -1,7 +1,6 @@
 use Rattle.std.proofs.Common.{sym, ◌∙◌, refl, arith}
-use Rattle.mob_scalar.specs.Quoted.{is_plain}
+use Rattle.mob_scalar.{specs.Quoted.{is_plain}, proofs.BareLemmas.{blank_more, other_more, nothing_trimmed}}
 use Rattle.mob_numeral.proofs.Runs.{split_more}
-use Rattle.mob_scalar.proofs.BareLemmas.{blank_more, other_more, nothing_trimmed}
 use Rattle.mob_scalar.proofs.quoted.bare_len.Goals as goal
 
 pub loop-i-init : goal.loop-i-init

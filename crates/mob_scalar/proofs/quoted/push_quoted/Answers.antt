@@ -1,8 +1,5 @@
-use Rattle.std.proofs.Common.{◌≡◌, ◌++◌, ◌∙◌, string_bytes, codes, arith}
-use Rattle.std.proofs.lemmas.List.{nil_from_length}
-use Rattle.std.proofs.lemmas.Grind.{common_steps}
-use Rattle.mob_scalar.specs.Quoted.{quoted_text}
-use Rattle.mob_scalar.proofs.EscapedLemmas.{escape_step, quoted_end}
+use Rattle.std.{proofs.Common.{◌≡◌, ◌++◌, ◌∙◌, string_bytes, codes, arith}, proofs.lemmas.List.{nil_from_length}, proofs.lemmas.Grind.{common_steps}}
+use Rattle.mob_scalar.{specs.Quoted.{quoted_text}, proofs.EscapedLemmas.{escape_step, quoted_end}}
 use Rattle.mob_scalar.proofs.quoted.push_quoted.Goals as goal
 
 pub loop-c-preserved : goal.loop-c-preserved

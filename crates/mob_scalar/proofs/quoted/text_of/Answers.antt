@@ -1,6 +1,4 @@
-use Rattle.std.proofs.Common.{◌≡◌, List, ℕ, Bool, true, false, sym, refl, ap, subst, Vec, Global}
-use Rattle.std.specs.Prelude.{IsUtf8}
-use Rattle.std.specs.Str.{is_utf8}
+use Rattle.std.{specs.Prelude.{IsUtf8}, specs.Str.{is_utf8}, proofs.Common.{◌≡◌, List, ℕ, Bool, true, false, sym, refl, ap, subst, Vec, Global}}
 use Rattle.std.proofs.lemmas.Str.{is_utf8-from_IsUtf8, IsUtf8-from_is_utf8, IsUtf8-string_bytes}
 use Rattle.mob_scalar.proofs.quoted.text_of.Goals as goal
 

@@ -1,7 +1,5 @@
 use Rattle.std.proofs.Common.{◌≡◌, drop}
-use Rattle.mob_scope.specs.Scopes.{sources_of}
-use Rattle.mob_scope.specs.Columns.{matches}
-use Rattle.mob_scope.proofs.Matches.{listed}
+use Rattle.mob_scope.{specs.Scopes.{sources_of}, specs.Columns.{matches}, proofs.Matches.{listed}}
 use Rattle.mob_scope.proofs.columns.bare_column.Given as goal
 
 abbrev pub invariant-loop-index : goal.invariant-loop-index

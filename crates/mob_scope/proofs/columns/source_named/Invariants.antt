@@ -1,6 +1,5 @@
 use Rattle.std.proofs.Common.{◌≡◌, drop}
-use Rattle.mob_scope.specs.Scopes.{sources_of}
-use Rattle.mob_scope.specs.Names.{entry_from}
+use Rattle.mob_scope.{specs.Scopes.{sources_of}, specs.Names.{entry_from}}
 use Rattle.mob_scope.proofs.columns.source_named.Given as goal
 
 abbrev pub invariant-loop-index : goal.invariant-loop-index

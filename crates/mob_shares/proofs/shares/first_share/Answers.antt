@@ -1,8 +1,5 @@
 use Rattle.std.proofs.Common.{sym, true≢false, ◌∙◌}
-use Rattle.mob_shares.specs.Shares.{cut_of}
-use Rattle.mob_shares.proofs.Begins.{begin_back, none_front}
-use Rattle.mob_shares.proofs.Next.{front_left, front_right, meet_both}
-use Rattle.mob_shares.proofs.Spans.{share_some}
+use Rattle.mob_shares.{specs.Shares.{cut_of}, proofs.Begins.{begin_back, none_front}, proofs.Next.{front_left, front_right, meet_both}, proofs.Spans.{share_some}}
 use Rattle.mob_shares.proofs.shares.first_share.Goals as goal
 
 pub returns-then-begin_together : goal.returns-then-begin_together

@@ -1,6 +1,5 @@
 use Rattle.std.proofs.Common.{◌∙◌, sym}
-use Rattle.mob_ratio.proofs.Divide.{sub_ne-zero}
-use Rattle.mob_ratio.proofs.Order.{before-lt}
+use Rattle.mob_ratio.{proofs.Divide.{sub_ne-zero}, proofs.Order.{before-lt}}
 use Rattle.mob_simplify.proofs.Reaching.{part_is}
 use Rattle.mob_simplify.proofs.passing.part_gone.Goals as goal
 

@@ -1,5 +1,4 @@
-use Rattle.std.specs.Prelude.{refl}
-use Rattle.std.proofs.Common.{sym, ◌∙◌}
+use Rattle.std.{specs.Prelude.{refl}, proofs.Common.{sym, ◌∙◌}}
 use Rattle.mob_ratio.proofs.Order.{before-trans}
 use Rattle.mob_simplify.proofs.Reaching.{level, time_unfit, place_unfit, place}
 use Rattle.mob_simplify.proofs.passing.straight_at.Goals as goal

@@ -1,11 +1,7 @@
-use Rattle.std.specs.Prelude.{◌≡◌, Ok, Err}
-use Rattle.std.proofs.Common.{ap, sym, ◌∙◌, subst, refl}
+use Rattle.std.{specs.Prelude.{◌≡◌, Ok, Err}, proofs.Common.{ap, sym, ◌∙◌, subst, refl}}
 use Rattle.mob_ratio.specs.Ratio.{Ratio}
 use Rattle.mob_list.specs.declared.fault.Fault.TheVariants.{NoMemory}
-use Rattle.mob_simplify.specs.Walk.{all_legs}
-use Rattle.mob_simplify.proofs.Answering.{At, legs_ordered, is_thin, is_near, is_same, is_judged}
-use Rattle.mob_simplify.proofs.Convexity.{no_square}
-use Rattle.mob_simplify.proofs.Ordered.{AreOrderedLines, all_some}
+use Rattle.mob_simplify.{specs.Walk.{all_legs}, proofs.Answering.{At, legs_ordered, is_thin, is_near, is_same, is_judged}, proofs.Convexity.{no_square}, proofs.Ordered.{AreOrderedLines, all_some}}
 use Rattle.mob_simplify.proofs.thinning.thin.Goals as goal
 
 pub normal-requires : goal.normal-requires

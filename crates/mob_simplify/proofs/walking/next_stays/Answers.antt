@@ -1,6 +1,5 @@
 use Rattle.std.proofs.Common.{rules, ◌≡◌, [], ◌∷◌, ◌++◌, ap, ◌∙◌}
-use Rattle.mob_simplify.specs.Breaks.{start_of}
-use Rattle.mob_simplify.specs.Walk.{stays}
+use Rattle.mob_simplify.{specs.Breaks.{start_of}, specs.Walk.{stays}}
 use Rattle.mob_simplify.proofs.walking.next_stays.Goals as goal
 
 pub stays-requires : goal.stays-requires

@@ -1,5 +1,4 @@
-use Rattle.std.proofs.Common.{rules, drop, ◌+◌, arith, sym, ◌∙◌, subst}
-use Rattle.std.proofs.lemmas.Result.{err_from_is_err_and}
+use Rattle.std.{proofs.Common.{rules, drop, ◌+◌, arith, sym, ◌∙◌, subst}, proofs.lemmas.Result.{err_from_is_err_and}}
 use Rattle.mob_list.proofs.Entries.{drop_read}
 use Rattle.mob_simplify.proofs.Along.{IsWalking, walking_start, within_end, walking_refused, walking_stays, walking_breaks}
 use Rattle.mob_simplify.proofs.walking.walked.Goals as goal

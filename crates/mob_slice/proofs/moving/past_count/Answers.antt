@@ -1,5 +1,4 @@
-use Rattle.std.proofs.Common.{rules, of_calls}
-use Rattle.std.proofs.lemmas.Fn.{always_returns_same}
+use Rattle.std.{proofs.Common.{rules, of_calls}, proofs.lemmas.Fn.{always_returns_same}}
 use Rattle.mob_span.specs.Remainders.{follows}
 use Rattle.mob_slice.proofs.Bisection.{parted}
 use Rattle.mob_slice.proofs.moving.past_count.Goals as goal

@@ -1,8 +1,6 @@
-use Rattle.std.proofs.Common.{◌+◌, drop, arith, refl}
-use Rattle.std.proofs.Math.ListN.{drop_of_length-le}
+use Rattle.std.{proofs.Common.{◌+◌, drop, arith, refl}, proofs.Math.ListN.{drop_of_length-le}}
 use Rattle.mob_list.proofs.Entries.{drop_read}
-use Rattle.mob_span.proofs.Leaving.{front_added, no_front, left_on, left_all, left_last}
-use Rattle.mob_span.proofs.remainder.left_by.Goals.{in-Some+in_ok-push, in_default}
+use Rattle.mob_span.{proofs.Leaving.{front_added, no_front, left_on, left_all, left_last}, proofs.remainder.left_by.Goals.{in-Some+in_ok-push, in_default}}
 use Rattle.mob_span.proofs.remainder.left_by.Goals as goal
 
 pub returns-in-None : goal.returns-in-None

@@ -1,6 +1,5 @@
 use Rattle.std.proofs.Common.{◌≡◌, ◌++◌, true, drop}
-use Rattle.mob_span.specs.Span.{has_instant}
-use Rattle.mob_span.specs.Remainders.{remainders_of}
+use Rattle.mob_span.{specs.Span.{has_instant}, specs.Remainders.{remainders_of}}
 use Rattle.mob_span.proofs.remainder.left_by.Given as goal
 
 abbrev pub invariant-loop-next : goal.invariant-loop-next

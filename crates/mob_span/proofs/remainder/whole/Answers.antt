@@ -1,7 +1,5 @@
 use Rattle.std.proofs.Common.{◌≡◌, refl}
-use Rattle.mob_span.specs.Span.{SpanOf}
-use Rattle.mob_span.specs.Neighbours.{joined}
-use Rattle.mob_span.proofs.Hulls.{whole_holds}
+use Rattle.mob_span.{specs.Span.{SpanOf}, specs.Neighbours.{joined}, proofs.Hulls.{whole_holds}}
 use Rattle.mob_span.proofs.remainder.whole.Goals as goal
 
 pub returns : goal.returns

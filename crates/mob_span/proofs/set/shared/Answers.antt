@@ -1,9 +1,5 @@
-use Rattle.std.proofs.Common.{◌≡◌, map, ap, ◌∙◌}
-use Rattle.std.proofs.lemmas.Result.{IfOk-weaker}
-use Rattle.mob_span.specs.Meets.{shared_pieces}
-use Rattle.mob_span.specs.Sets.{in_some}
-use Rattle.mob_span.specs.Walk.{meets_left}
-use Rattle.mob_span.proofs.Sharing.{pieces_in, pieces_all}
+use Rattle.std.{proofs.Common.{◌≡◌, map, ap, ◌∙◌}, proofs.lemmas.Result.{IfOk-weaker}}
+use Rattle.mob_span.{specs.Meets.{shared_pieces}, specs.Sets.{in_some}, specs.Walk.{meets_left}, proofs.Sharing.{pieces_in, pieces_all}}
 use Rattle.mob_span.proofs.set.shared.Goals as goal
 
 pub returns-clause-same : goal.returns-clause-same

@@ -1,6 +1,5 @@
 use Rattle.std.proofs.Common.{◌≡◌, ◌++◌, map}
-use Rattle.mob_span.specs.Meets.{shared_pieces}
-use Rattle.mob_span.specs.Walk.{meets_left}
+use Rattle.mob_span.{specs.Meets.{shared_pieces}, specs.Walk.{meets_left}}
 use Rattle.mob_span.proofs.set.shared.Given as goal
 
 abbrev pub invariant-loop-met : goal.invariant-loop-met

@@ -1,10 +1,6 @@
-use Rattle.std.proofs.Common.{rules, refl, subst, ◌+◌, length}
-use Rattle.std.proofs.lemmas.Option.{slice_get_read}
-use Rattle.std.specs.Io.KnownBytes.{Appends}
-use Rattle.mob_outside.specs.Streams.{PutsPart}
-use Rattle.mob_outside.specs.EndsSeen.{stream_seen}
-use Rattle.mob_statements.specs.Calls.{CallRuns, CallStops}
-use Rattle.mob_statements.proofs.Running.{halted, ran_next, puts_front}
+use Rattle.std.{specs.Io.KnownBytes.{Appends}, proofs.Common.{rules, refl, subst, ◌+◌, length}, proofs.lemmas.Option.{slice_get_read}}
+use Rattle.mob_outside.{specs.Streams.{PutsPart}, specs.EndsSeen.{stream_seen}}
+use Rattle.mob_statements.{specs.Calls.{CallRuns, CallStops}, proofs.Running.{halted, ran_next, puts_front}}
 use Rattle.mob_statements.proofs.engine.run_each.Goals as goal
 
 pub returns-in-Err-clause-ends : goal.returns-in-Err-clause-ends

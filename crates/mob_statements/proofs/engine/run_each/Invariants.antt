@@ -1,6 +1,5 @@
 use Rattle.std.proofs.Common.{◌≡◌, ◌+◌, ◌≤◌, length}
-use Rattle.mob_statements.specs.Calls.{CallRuns}
-use Rattle.mob_statements.specs.Statements.{RanFirst}
+use Rattle.mob_statements.{specs.Calls.{CallRuns}, specs.Statements.{RanFirst}}
 use Rattle.mob_statements.proofs.engine.run_each.Given as goal
 
 abbrev pub invariant-loop-statement : goal.invariant-loop-statement

@@ -1,5 +1,4 @@
-use Rattle.mob_stbox.proofs.Sides.{in_area_exact}
-use Rattle.mob_stbox.proofs.BoxLaws.{in_box_exact}
+use Rattle.mob_stbox.{proofs.Sides.{in_area_exact}, proofs.BoxLaws.{in_box_exact}}
 use Rattle.mob_stbox.proofs.laws.membership.Goals as goal
 
 pub returns : goal.returns

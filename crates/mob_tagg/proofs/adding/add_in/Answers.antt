@@ -1,8 +1,6 @@
-use Rattle.std.proofs.Common.{[], ◌∷◌}
-use Rattle.std.proofs.lemmas.Result.{IfOk-weaker}
+use Rattle.std.{proofs.Common.{[], ◌∷◌}, proofs.lemmas.Result.{IfOk-weaker}}
 use Rattle.mob_frac.specs.Formula.{sum_parts}
-use Rattle.mob_slice.specs.Sides.{side_at, at_ends}
-use Rattle.mob_slice.specs.declared.formula.Formula.TheVariants.{F2}
+use Rattle.mob_slice.{specs.Sides.{side_at, at_ends}, specs.declared.formula.Formula.TheVariants.{F2}}
 use Rattle.mob_tagg.proofs.United.{given_value, given_judged, still_judged}
 use Rattle.mob_tagg.proofs.adding.add_in.Goals as goal
 

@@ -1,7 +1,5 @@
 use Rattle.std.proofs.Common.{◌≡◌, refl, pos, arith, sym, subst, ◌∙◌}
-use Rattle.mob_ratio.specs.Gcd.{gcd, gcd_steps}
-use Rattle.mob_ratio.specs.Ratio.{whole, over}
-use Rattle.mob_ratio.proofs.Divide.{over-pos}
+use Rattle.mob_ratio.{specs.Gcd.{gcd, gcd_steps}, specs.Ratio.{whole, over}, proofs.Divide.{over-pos}}
 use Rattle.mob_frac.specs.Fits.{Fits, ratio}
 use Rattle.mob_tagg.proofs.adding.one.Goals as goal
 

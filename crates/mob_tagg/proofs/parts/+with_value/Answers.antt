@@ -1,5 +1,4 @@
-use Rattle.std.proofs.Common.{◌∙◌}
-use Rattle.std.proofs.lemmas.Result.{IfOk-weaker}
+use Rattle.std.{proofs.Common.{◌∙◌}, proofs.lemmas.Result.{IfOk-weaker}}
 use Rattle.mob_tagg.proofs.Three.{united_last, united_two}
 use Rattle.mob_tagg.proofs.parts.+with_value.Goals as goal
 

@@ -1,6 +1,4 @@
-use Rattle.std.proofs.Common.{refl, ◌∙◌}
-use Rattle.std.specs.Fn.{FnReturnsAt}
-use Rattle.std.proofs.lemmas.Result.{IfOk-weaker}
+use Rattle.std.{specs.Fn.{FnReturnsAt}, proofs.Common.{refl, ◌∙◌}, proofs.lemmas.Result.{IfOk-weaker}}
 use Rattle.mob_lift.proofs.Errors.{err_as}
 use Rattle.mob_tagg.proofs.United.{taken_as, first_from, passes_of}
 use Rattle.mob_tagg.proofs.taking.either.Goals as goal

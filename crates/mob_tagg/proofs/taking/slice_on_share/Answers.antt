@@ -1,5 +1,4 @@
-use Rattle.std.proofs.Common.{refl}
-use Rattle.std.proofs.iter.Next.{says_at}
+use Rattle.std.{proofs.Common.{refl}, proofs.iter.Next.{says_at}}
 use Rattle.mob_tagg.proofs.taking.slice_on_share.Goals as goal
 
 pub returns-in-Both : goal.returns-in-Both

@@ -1,15 +1,8 @@
-use Rattle.std.proofs.Common.{◌≡◌, true, refl, subst, ◌∙◌, sym, ap}
-use Rattle.std.specs.Fn.{FnReturnsAt}
-use Rattle.std.proofs.lemmas.Result.{IfOk-weaker}
+use Rattle.std.{specs.Fn.{FnReturnsAt}, proofs.Common.{◌≡◌, true, refl, subst, ◌∙◌, sym, ap}, proofs.lemmas.Result.{IfOk-weaker}}
 use Rattle.mob_slice.proofs.Orders.{ordered, ordered-clear}
-use Rattle.mob_span.specs.Span.{has}
-use Rattle.mob_span.proofs.SpanLemmas.{instant_some}
-use Rattle.mob_shares.specs.Cuts.{wholes}
-use Rattle.mob_shares.specs.Shares.{rest_of}
-use Rattle.mob_shares.proofs.Walked.{shares_clear, shares_hold}
-use Rattle.mob_shares.proofs.Together.{pair_fit, are_taken, first_refused}
-use Rattle.mob_tagg.proofs.Pairs.{share_sound, wholes_are}
-use Rattle.mob_tagg.proofs.United.{taken_some}
+use Rattle.mob_span.{specs.Span.{has}, proofs.SpanLemmas.{instant_some}}
+use Rattle.mob_shares.{specs.Cuts.{wholes}, specs.Shares.{rest_of}, proofs.Walked.{shares_clear, shares_hold}, proofs.Together.{pair_fit, are_taken, first_refused}}
+use Rattle.mob_tagg.{proofs.Pairs.{share_sound, wholes_are}, proofs.United.{taken_some}}
 use Rattle.mob_tagg.proofs.taking.together.Goals as goal
 
 pub new-requires-clause-left_order : goal.new-requires-clause-left_order

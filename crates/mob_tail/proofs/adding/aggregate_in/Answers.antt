@@ -1,8 +1,5 @@
 use Rattle.std.proofs.Common.{sym, ap, ◌∙◌, true≢false}
-use Rattle.mob_tail.specs.Aggregated.{leaves_out}
-use Rattle.mob_tail.specs.Made.{made_in}
-use Rattle.mob_tail.specs.States.{is_in_parts}
-use Rattle.mob_tail.proofs.Aggregating.{at_kind}
+use Rattle.mob_tail.{specs.Aggregated.{leaves_out}, specs.Made.{made_in}, specs.States.{is_in_parts}, proofs.Aggregating.{at_kind}}
 use Rattle.mob_tail.proofs.adding.aggregate_in.Goals as goal
 
 pub returns-in-CountAll-clause-with : goal.returns-in-CountAll-clause-with

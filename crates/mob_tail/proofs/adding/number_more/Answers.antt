@@ -1,8 +1,6 @@
 use Rattle.std.proofs.Common.{Ok, false, sym, subst}
 use Rattle.mob_operators.specs.declared.aggregate.AggKind.TheVariants.{Sum}
-use Rattle.mob_tail.specs.Aggregated.{IsAggregateWith}
-use Rattle.mob_tail.specs.Made.{made_in}
-use Rattle.mob_tail.proofs.Aggregating.{no_number_more, sum_first, sum_next}
+use Rattle.mob_tail.{specs.Aggregated.{IsAggregateWith}, specs.Made.{made_in}, proofs.Aggregating.{no_number_more, sum_first, sum_next}}
 use Rattle.mob_tail.proofs.adding.number_more.Goals as goal
 
 pub returns-in_default : goal.returns-in_default

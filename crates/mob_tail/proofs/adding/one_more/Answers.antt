@@ -1,6 +1,5 @@
 use Rattle.std.proofs.Common.{sym}
-use Rattle.mob_tail.specs.Made.{made_in}
-use Rattle.mob_tail.proofs.Aggregating.{no_count, no_count_known, count_with, count_known_with}
+use Rattle.mob_tail.{specs.Made.{made_in}, proofs.Aggregating.{no_count, no_count_known, count_with, count_known_with}}
 use Rattle.mob_tail.proofs.adding.one_more.Goals as goal
 
 pub returns-in-None : goal.returns-in-None

@@ -1,7 +1,5 @@
-use Rattle.std.proofs.Common.{refl}
-use Rattle.std.proofs.lemmas.Result.{IfOk-weaker}
-use Rattle.mob_value.specs.declared.value.Value.TheVariants.{MovingBool, MovingInt, MovingFrac, MovingText, MovingPoint}
-use Rattle.mob_value.specs.Moving.{or_nothing}
+use Rattle.std.{proofs.Common.{refl}, proofs.lemmas.Result.{IfOk-weaker}}
+use Rattle.mob_value.{specs.declared.value.Value.TheVariants.{MovingBool, MovingInt, MovingFrac, MovingText, MovingPoint}, specs.Moving.{or_nothing}}
 use Rattle.mob_tail.proofs.Aggregating.{ones_over}
 use Rattle.mob_tail.proofs.adding.ones_on.Goals as goal
 

@@ -1,5 +1,4 @@
-use Rattle.mob_tail.specs.Made.{made_in}
-use Rattle.mob_tail.proofs.Aggregating.{int_sum_with, frac_sum_with, other_sum}
+use Rattle.mob_tail.{specs.Made.{made_in}, proofs.Aggregating.{int_sum_with, frac_sum_with, other_sum}}
 use Rattle.mob_tail.proofs.adding.sum_more.Goals as goal
 
 pub returns-in-TInt : goal.returns-in-TInt

@@ -1,8 +1,7 @@
 use Rattle.std.proofs.Common.{ap, map, sym, subst, ◌∙◌}
 use Rattle.mob_typed.specs.Selects.{select_seen}
 use Rattle.mob_eval.specs.Remembered.{root_seen}
-use Rattle.mob_tail.specs.Recalling.{AnswerFits}
-use Rattle.mob_tail.proofs.Fitting.{answer_fits}
+use Rattle.mob_tail.{specs.Recalling.{AnswerFits}, proofs.Fitting.{answer_fits}}
 use Rattle.mob_tail.proofs.answers.answer_with.Goals as goal
 
 pub memory_of-memory-requires : goal.memory_of-memory-requires

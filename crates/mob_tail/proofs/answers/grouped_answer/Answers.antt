@@ -1,9 +1,6 @@
 use Rattle.std.proofs.Common.{map}
 use Rattle.mob_typed.specs.Selects.{select_seen}
-use Rattle.mob_tail.specs.Groups.{groups_on}
-use Rattle.mob_tail.specs.GroupedAnswers.{IsGroupRow}
-use Rattle.mob_tail.specs.AnswerRows.{answer_row}
-use Rattle.mob_tail.proofs.AnswerRows.{all_seen}
+use Rattle.mob_tail.{specs.Groups.{groups_on}, specs.GroupedAnswers.{IsGroupRow}, specs.AnswerRows.{answer_row}, proofs.AnswerRows.{all_seen}}
 use Rattle.mob_tail.proofs.answers.grouped_answer.Goals as goal
 
 pub returns-in_ok-text_of-in-Ok-clause-text : goal.returns-in_ok-text_of-in-Ok-clause-text

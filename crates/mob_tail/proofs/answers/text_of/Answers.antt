@@ -1,9 +1,7 @@
 use Rattle.std.proofs.Common.{◌≡◌, ◌∙◌, IfOk, length, map, ap, subst}
 use Rattle.mob_typed.specs.Selects.{select_seen, output_of, key_seen}
-use Rattle.mob_arrange.specs.Keyed.{row_of_values}
-use Rattle.mob_arrange.specs.RowsText.{IsTextOfArranged}
-use Rattle.mob_tail.specs.AnswerRows.{falls_of}
-use Rattle.mob_tail.specs.AnswerTexts.{answer_names}
+use Rattle.mob_arrange.{specs.Keyed.{row_of_values}, specs.RowsText.{IsTextOfArranged}}
+use Rattle.mob_tail.{specs.AnswerRows.{falls_of}, specs.AnswerTexts.{answer_names}}
 use Rattle.mob_tail.proofs.answers.text_of.Goals as goal
 
 pub returns : goal.returns

@@ -1,10 +1,6 @@
-use Rattle.std.proofs.Common.{◌∙◌, ◌+◌, ◌++◌, ◌∷◌, [], ap, sym, map, drop, append-nil}
-use Rattle.std.proofs.lemmas.List.{drop_all, map-append}
-use Rattle.mob_typed.specs.Trees.{typed_of}
-use Rattle.mob_typed.specs.Selects.{output_of}
-use Rattle.mob_tail.specs.GroupedAnswers.{columns_from}
-use Rattle.mob_tail.specs.GroupSteps.{column_seen}
-use Rattle.mob_tail.proofs.ColumnValues.{next_column}
+use Rattle.std.{proofs.Common.{◌∙◌, ◌+◌, ◌++◌, ◌∷◌, [], ap, sym, map, drop, append-nil}, proofs.lemmas.List.{drop_all, map-append}}
+use Rattle.mob_typed.{specs.Trees.{typed_of}, specs.Selects.{output_of}}
+use Rattle.mob_tail.{specs.GroupedAnswers.{columns_from}, specs.GroupSteps.{column_seen}, proofs.ColumnValues.{next_column}}
 use Rattle.mob_tail.proofs.columns.columns_of.Goals as goal
 
 pub loop-number-preserved : goal.loop-number-preserved

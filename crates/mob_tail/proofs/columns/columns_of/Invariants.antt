@@ -1,7 +1,6 @@
 use Rattle.std.proofs.Common.{◌≡◌, ◌++◌, map, drop}
 use Rattle.mob_typed.specs.Selects.{output_of}
-use Rattle.mob_tail.specs.GroupedAnswers.{columns_from}
-use Rattle.mob_tail.specs.GroupSteps.{column_seen}
+use Rattle.mob_tail.{specs.GroupedAnswers.{columns_from}, specs.GroupSteps.{column_seen}}
 use Rattle.mob_tail.proofs.columns.columns_of.Given as goal
 
 abbrev pub invariant-loop-number : goal.invariant-loop-number

@@ -1,17 +1,10 @@
-use Rattle.std.proofs.Common.{ℕ, List, Ok, Err, IfOk, IfErr, sym, subst}
-use Rattle.std.specs.List.{AllByRecursion}
-use Rattle.std.proofs.lemmas.Result.{IfErr-weaker, IfOk-weaker}
-use Rattle.mob_list.proofs.Each.{each_parts}
+use Rattle.std.{specs.List.{AllByRecursion}, proofs.Common.{ℕ, List, Ok, Err, IfOk, IfErr, sym, subst}, proofs.lemmas.Result.{IfErr-weaker, IfOk-weaker}}
+use Rattle.mob_list.{specs.Faults.{OnCause}, proofs.Each.{each_parts}, proofs.Faults.{cause_weaker}}
 use Rattle.mob_typed.specs.Selects.{select_seen}
 use Rattle.mob_meaning.specs.Scene.{scene}
 use Rattle.mob_eval.specs.Remembered.{Fits}
-use Rattle.mob_tail.specs.Answers.{IsRowOf}
-use Rattle.mob_tail.specs.AnswerRows.{answer_row}
-use Rattle.mob_tail.specs.Recalling.{SelectFits, item_trees, key_trees}
-use Rattle.mob_tail.proofs.AnswerRows.{row_seen, row_fails}
+use Rattle.mob_tail.{specs.Answers.{IsRowOf}, specs.AnswerRows.{answer_row}, specs.Recalling.{SelectFits, item_trees, order_trees}, proofs.AnswerRows.{row_seen, row_fails}}
 use Rattle.mob_tail.proofs.evaluation.row_of.Goals as goal
-use Rattle.mob_list.specs.Faults.{OnCause}
-use Rattle.mob_list.proofs.Faults.{cause_weaker}
 
 pub row_on-requires : goal.row_on-requires
 row_on-requires g c =
@@ -20,8 +13,8 @@ row_on-requires g c =
     let there = λ (from : List ℕ). scene c.args.store.now from c.args.tuple.now c.args.epoch.now in
     let P = Fits remembered (there c.as_slice.result.now) in
     let fits = subst (λ from. SelectFits remembered select (there from)) (sym c.as_slice.ensures.same) c.requires.fits in record {
-      fit = subst (AllByRecursion P) (sym c.requires.items) (each_parts P (item_trees select) (key_trees select) fits).0;
-      fit_too = subst (AllByRecursion P) (sym c.requires.keys) (each_parts P (item_trees select) (key_trees select) fits).1;
+      fit = subst (AllByRecursion P) (sym c.requires.items) (each_parts P (item_trees select) (order_trees select) fits).0;
+      fit_too = subst (AllByRecursion P) (sym c.requires.keys) (each_parts P (item_trees select) (order_trees select) fits).1;
     }
 
 pub returns-clause-row : goal.returns-clause-row

@@ -1,14 +1,10 @@
-use Rattle.std.proofs.Common.{inl, inr, Err, map}
-use Rattle.std.proofs.lemmas.Result.{IfErr-weaker, IfOk-weaker}
+use Rattle.std.{proofs.Common.{inl, inr, Err, map}, proofs.lemmas.Result.{IfErr-weaker, IfOk-weaker}}
 use Rattle.mob_meaning.specs.Evaluation.{TreeEvaluatesTo}
-use Rattle.mob_eval.specs.Views.{scene_of}
-use Rattle.mob_eval.specs.Remembered.{root_seen}
+use Rattle.mob_eval.{specs.Views.{scene_of}, specs.Remembered.{root_seen}}
 use Rattle.mob_arrange.specs.RowValues.{row_value}
-use Rattle.mob_tail.specs.IsMadeOfEach.{IsMadeOfEach}
-use Rattle.mob_tail.specs.Evaluated.{AreEvaluated}
+use Rattle.mob_tail.{specs.IsMadeOfEach.{IsMadeOfEach}, specs.Evaluated.{AreEvaluated}}
+use Rattle.mob_list.{specs.Faults.{OnCause}, proofs.Faults.{cause_weaker}}
 use Rattle.mob_tail.proofs.evaluation.row_on.Goals as goal
-use Rattle.mob_list.specs.Faults.{OnCause}
-use Rattle.mob_list.proofs.Faults.{cause_weaker}
 
 pub returns-in-Ok-clause-row : goal.returns-in-Ok-clause-row
 returns-in-Ok-clause-row g c =

@@ -1,14 +1,10 @@
-use Rattle.std.proofs.Common.{rules, ◌≡◌, ◌++◌, ◌∷◌, [], Ok, Err, ℕ, List, map, ap, ◌∙◌, arith, subst}
+use Rattle.std.{proofs.Common.{rules, ◌≡◌, ◌++◌, ◌∷◌, [], Ok, Err, ℕ, List, map, ap, ◌∙◌, arith, subst}, proofs.lemmas.List.{map-append}}
 use Rattle.mob_typed.specs.Selects.{select_seen}
 use Rattle.mob_meaning.specs.Scene.{scene}
 use Rattle.mob_eval.proofs.QueryFaults.{on_tuple}
-use Rattle.mob_tail.specs.IsMadeOfEach.{IsMadeOfEach}
-use Rattle.std.proofs.lemmas.List.{map-append}
-use Rattle.mob_tail.specs.Answers.{IsTupleRow, IsRowOf}
-use Rattle.mob_tail.specs.AnswerRows.{answer_row}
-use Rattle.mob_tail.proofs.Making.{each_next, each_fault, each_all}
-use Rattle.mob_tail.proofs.evaluation.rows_on.Goals as goal
+use Rattle.mob_tail.{specs.IsMadeOfEach.{IsMadeOfEach}, specs.Answers.{IsTupleRow, IsRowOf}, specs.AnswerRows.{answer_row}, proofs.Making.{each_next, each_fault, each_all}}
 use Rattle.mob_list.specs.Faults.{OnCause}
+use Rattle.mob_tail.proofs.evaluation.rows_on.Goals as goal
 
 pub loop-tuple-preserved : goal.loop-tuple-preserved
 loop-tuple-preserved g c =

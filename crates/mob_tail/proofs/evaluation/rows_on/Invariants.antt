@@ -1,8 +1,6 @@
 use Rattle.std.proofs.Common.{Ok, map, take}
 use Rattle.mob_typed.specs.Selects.{select_seen}
-use Rattle.mob_tail.specs.IsMadeOfEach.{IsMadeOfEach}
-use Rattle.mob_tail.specs.Answers.{IsTupleRow}
-use Rattle.mob_tail.specs.AnswerRows.{answer_row}
+use Rattle.mob_tail.{specs.IsMadeOfEach.{IsMadeOfEach}, specs.Answers.{IsTupleRow}, specs.AnswerRows.{answer_row}}
 use Rattle.mob_tail.proofs.evaluation.rows_on.Given as goal
 
 abbrev pub invariant-loop-tuple : goal.invariant-loop-tuple

@@ -1,15 +1,11 @@
-use Rattle.std.proofs.Common.{rules, ◌≡◌, ◌++◌, ◌∷◌, [], map, ap, ◌∙◌, arith}
-use Rattle.std.specs.Borrow.{Bor}
-use Rattle.std.proofs.lemmas.List.{map-append}
+use Rattle.std.{specs.Borrow.{Bor}, proofs.Common.{rules, ◌≡◌, ◌++◌, ◌∷◌, [], map, ap, ◌∙◌, arith}, proofs.lemmas.List.{map-append}}
 use Rattle.mob_typed.specs.declared.typed.TExpr.{TExpr}
 use Rattle.mob_meaning.specs.Evaluation.{TreeEvaluatesTo}
-use Rattle.mob_eval.specs.Views.{scene_of}
-use Rattle.mob_eval.specs.Remembered.{Fits, root_seen}
+use Rattle.mob_eval.{specs.Views.{scene_of}, specs.Remembered.{Fits, root_seen}}
 use Rattle.mob_arrange.specs.RowValues.{row_value}
-use Rattle.mob_tail.proofs.Fitting.{each_at}
-use Rattle.mob_tail.proofs.Making.{each_next, each_fault, each_all, made_seen, fault_seen}
-use Rattle.mob_tail.proofs.evaluation.values_on.Goals as goal
+use Rattle.mob_tail.{proofs.Fitting.{each_at}, proofs.Making.{each_next, each_fault, each_all, made_seen, fault_seen}}
 use Rattle.mob_list.proofs.Faults.{cause_weaker}
+use Rattle.mob_tail.proofs.evaluation.values_on.Goals as goal
 
 pub value_of-requires : goal.value_of-requires
 value_of-requires g c = record { fits = each_at (Fits g.K.Remembering.recollection (scene_of c.args.view.now)) root_seen c.args.roots.now c.loop-root.root-index c.root-item.result c.loop-root-test.true c.root-item.is c.requires.fit }

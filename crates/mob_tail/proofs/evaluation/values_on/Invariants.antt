@@ -1,9 +1,7 @@
-use Rattle.std.proofs.Common.{Ok, map, take}
-use Rattle.std.specs.Borrow.{Bor}
+use Rattle.std.{specs.Borrow.{Bor}, proofs.Common.{Ok, map, take}}
 use Rattle.mob_typed.specs.declared.typed.TExpr.{TExpr}
 use Rattle.mob_meaning.specs.Evaluation.{TreeEvaluatesTo}
-use Rattle.mob_eval.specs.Views.{scene_of}
-use Rattle.mob_eval.specs.Remembered.{root_seen}
+use Rattle.mob_eval.{specs.Views.{scene_of}, specs.Remembered.{root_seen}}
 use Rattle.mob_arrange.specs.RowValues.{row_value}
 use Rattle.mob_tail.specs.IsMadeOfEach.{IsMadeOfEach}
 use Rattle.mob_tail.proofs.evaluation.values_on.Given as goal

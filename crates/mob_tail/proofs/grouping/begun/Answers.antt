@@ -1,7 +1,6 @@
 use Rattle.std.proofs.Common.{◌∙◌}
 use Rattle.mob_typed.specs.Selects.{select_seen}
-use Rattle.mob_tail.specs.GroupSteps.{keys_on}
-use Rattle.mob_tail.proofs.GroupLoop.{start_groups}
+use Rattle.mob_tail.{specs.GroupSteps.{keys_on}, proofs.GroupLoop.{start_groups}}
 use Rattle.mob_tail.proofs.grouping.begun.Goals as goal
 
 pub returns-clause-groups : goal.returns-clause-groups

@@ -1,8 +1,7 @@
 use Rattle.mob_typed.specs.Trees.{typed_of}
 use Rattle.mob_literal.specs.Fields.{field_text}
 use Rattle.mob_eval.specs.Views.{scene_of}
-use Rattle.mob_tail.specs.Groups.{column_on}
-use Rattle.mob_tail.proofs.TupleSteps.{mapped_more}
+use Rattle.mob_tail.{specs.Groups.{column_on}, proofs.TupleSteps.{mapped_more}}
 use Rattle.mob_tail.proofs.grouping.fields_on.Goals as goal
 
 pub loop-column-preserved : goal.loop-column-preserved

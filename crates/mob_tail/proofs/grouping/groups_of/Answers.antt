@@ -1,8 +1,7 @@
 use Rattle.std.proofs.Common.{ap, ◌∙◌, map}
 use Rattle.mob_typed.specs.Selects.{select_seen}
 use Rattle.mob_groups.specs.Groups.{group_number}
-use Rattle.mob_tail.specs.Groups.{same_texts}
-use Rattle.mob_tail.proofs.GroupLoop.{numbers_on_kept}
+use Rattle.mob_tail.{specs.Groups.{same_texts}, proofs.GroupLoop.{numbers_on_kept}}
 use Rattle.mob_tail.proofs.grouping.groups_of.Goals as goal
 
 pub returns-clause-numbers : goal.returns-clause-numbers

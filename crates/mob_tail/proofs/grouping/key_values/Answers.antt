@@ -1,5 +1,4 @@
-use Rattle.std.proofs.Common.{◌∙◌, ◌+◌, ◌++◌, ◌∷◌, [], ap, sym, map, drop, append_assoc, append-nil}
-use Rattle.std.proofs.lemmas.List.{drop_all}
+use Rattle.std.{proofs.Common.{◌∙◌, ◌+◌, ◌++◌, ◌∷◌, [], ap, sym, map, drop, append_assoc, append-nil}, proofs.lemmas.List.{drop_all}}
 use Rattle.mob_typed.specs.Selects.{select_seen, key_seen}
 use Rattle.mob_list.proofs.Entries.{drop_read}
 use Rattle.mob_tail.specs.GroupedAnswers.{keys_from}

@@ -1,7 +1,6 @@
 use Rattle.std.proofs.Common.{◌≡◌, ◌++◌, List, ℕ, map, drop}
 use Rattle.mob_typed.specs.Selects.{select_seen, key_seen}
-use Rattle.mob_tail.specs.GroupedAnswers.{keys_from}
-use Rattle.mob_tail.specs.GroupSteps.{first_of}
+use Rattle.mob_tail.{specs.GroupedAnswers.{keys_from}, specs.GroupSteps.{first_of}}
 use Rattle.mob_tail.proofs.grouping.key_values.Given as goal
 
 abbrev pub invariant-loop-number : goal.invariant-loop-number

@@ -1,7 +1,6 @@
 use Rattle.std.proofs.Common.{◌≡◌, ◌∙◌, ◌++◌, ◌∷◌, [], ap₂}
 use Rattle.mob_typed.specs.Selects.{select_seen}
-use Rattle.mob_tail.specs.Groups.{group_fields}
-use Rattle.mob_tail.proofs.TupleSteps.{map_more}
+use Rattle.mob_tail.{specs.Groups.{group_fields}, proofs.TupleSteps.{map_more}}
 use Rattle.mob_tail.proofs.grouping.keys_of.Goals as goal
 
 pub loop-tuple-preserved : goal.loop-tuple-preserved

@@ -1,8 +1,6 @@
-use Rattle.std.proofs.Common.{ap, ◌∙◌, map, length}
-use Rattle.std.proofs.lemmas.Result.{IfOk-weaker}
+use Rattle.std.{proofs.Common.{ap, ◌∙◌, map, length}, proofs.lemmas.Result.{IfOk-weaker}}
 use Rattle.mob_groups.specs.Groups.{first_keys, group_number}
-use Rattle.mob_tail.specs.Groups.{same_texts}
-use Rattle.mob_tail.proofs.KeysSeen.{numbers_seen, firsts_seen}
+use Rattle.mob_tail.{specs.Groups.{same_texts}, proofs.KeysSeen.{numbers_seen, firsts_seen}}
 use Rattle.mob_tail.proofs.grouping.numbers_of.Goals as goal
 
 pub returns : goal.returns

@@ -1,8 +1,6 @@
-use Rattle.std.proofs.Common.{sym, subst}
-use Rattle.std.specs.List.{AllZip}
+use Rattle.std.{specs.List.{AllZip}, proofs.Common.{sym, subst}}
 use Rattle.mob_typed.specs.Selects.{select_seen}
-use Rattle.mob_tail.specs.GroupedAnswers.{columns_of, IsColumnValue}
-use Rattle.mob_tail.proofs.GroupLoop.{values_made}
+use Rattle.mob_tail.{specs.GroupedAnswers.{columns_of, IsColumnValue}, proofs.GroupLoop.{values_made}}
 use Rattle.mob_tail.proofs.grouping.row_of.Goals as goal
 
 pub returns : goal.returns

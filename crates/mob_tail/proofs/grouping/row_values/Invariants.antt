@@ -1,5 +1,4 @@
-use Rattle.std.proofs.Common.{◌≡◌, ◌++◌, length, map}
-use Rattle.std.specs.Vec.Iter.{into_iter_items, into_iter_len}
+use Rattle.std.{specs.Vec.Iter.{into_iter_items, into_iter_len}, proofs.Common.{◌≡◌, ◌++◌, length, map}}
 use Rattle.mob_arrange.specs.RowValues.{row_value}
 use Rattle.mob_tail.proofs.grouping.row_values.Given as goal
 

@@ -1,8 +1,6 @@
-use Rattle.std.proofs.Common.{◌≡◌, ◌++◌, ap₂, ◌∙◌, subst}
-use Rattle.std.proofs.lemmas.Result.{MatchResult-weaker}
+use Rattle.std.{proofs.Common.{◌≡◌, ◌++◌, ap₂, ◌∙◌, subst}, proofs.lemmas.Result.{MatchResult-weaker}}
 use Rattle.mob_typed.specs.Selects.{select_seen}
-use Rattle.mob_tail.specs.GroupedAnswers.{keys_from}
-use Rattle.mob_tail.proofs.AnswerRows.{group_row}
+use Rattle.mob_tail.{specs.GroupedAnswers.{keys_from}, proofs.AnswerRows.{group_row}}
 use Rattle.mob_tail.proofs.grouping.row_with.Goals as goal
 
 pub returns : goal.returns

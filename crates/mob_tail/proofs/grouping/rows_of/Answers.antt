@@ -1,12 +1,7 @@
-use Rattle.std.proofs.Common.{◌≡◌, [], sym, ◌∙◌, subst, rules}
-use Rattle.std.specs.List.{AllZip}
-use Rattle.std.proofs.lemmas.List.{nil_from_length}
-use Rattle.std.specs.Vec.Iter.{into_iter_items}
+use Rattle.std.{specs.List.{AllZip}, specs.Vec.Iter.{into_iter_items}, proofs.Common.{◌≡◌, [], sym, ◌∙◌, subst, rules}, proofs.lemmas.List.{nil_from_length}}
 use Rattle.mob_list.proofs.Entries.{counted_down}
 use Rattle.mob_typed.specs.Selects.{select_seen}
-use Rattle.mob_tail.specs.AnswerRows.{IsGroupRowOf}
-use Rattle.mob_tail.specs.GroupSteps.{IsGroupOf}
-use Rattle.mob_tail.proofs.MadeSoFar.{made_none, made_more, made_all}
+use Rattle.mob_tail.{specs.AnswerRows.{IsGroupRowOf}, specs.GroupSteps.{IsGroupOf}, proofs.MadeSoFar.{made_none, made_more, made_all}}
 use Rattle.mob_tail.proofs.grouping.rows_of.Goals as goal
 
 pub loop-group-init : goal.loop-group-init

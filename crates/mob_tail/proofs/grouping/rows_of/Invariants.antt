@@ -1,10 +1,6 @@
-use Rattle.std.proofs.Common.{◌≡◌, List, ℕ, length}
-use Rattle.std.specs.List.{AllZip}
-use Rattle.std.specs.Vec.Iter.{into_iter_items, into_iter_len}
+use Rattle.std.{specs.List.{AllZip}, specs.Vec.Iter.{into_iter_items, into_iter_len}, proofs.Common.{◌≡◌, List, ℕ, length}}
 use Rattle.mob_typed.specs.Selects.{select_seen}
-use Rattle.mob_tail.specs.AnswerRows.{IsGroupRowOf}
-use Rattle.mob_tail.specs.GroupSteps.{IsGroupOf}
-use Rattle.mob_tail.proofs.MadeSoFar.{IsMadeSoFar}
+use Rattle.mob_tail.{specs.AnswerRows.{IsGroupRowOf}, specs.GroupSteps.{IsGroupOf}, proofs.MadeSoFar.{IsMadeSoFar}}
 use Rattle.mob_tail.proofs.grouping.rows_of.Given as goal
 
 abbrev pub invariant-loop-group : goal.invariant-loop-group

@@ -1,12 +1,7 @@
-use Rattle.std.proofs.Common.{◌∙◌, ◌+◌, ◌++◌, ◌∷◌, [], ap, length, map, option_map, refl}
-use Rattle.std.specs.Prelude.{is_some}
-use Rattle.std.proofs.lemmas.List.{drop_all}
-use Rattle.std.proofs.lemmas.Option.{slice_get_read}
-use Rattle.mob_typed.specs.Trees.{typed_of}
-use Rattle.mob_typed.specs.Selects.{on_of}
+use Rattle.std.{specs.Prelude.{is_some}, proofs.Common.{◌∙◌, ◌+◌, ◌++◌, ◌∷◌, [], ap, length, map, option_map, refl}, proofs.lemmas.List.{drop_all}, proofs.lemmas.Option.{slice_get_read}}
+use Rattle.mob_typed.{specs.Trees.{typed_of}, specs.Selects.{on_of}}
 use Rattle.mob_plan.specs.Plans.{step_seen}
-use Rattle.mob_tail.specs.PlanAnswers.{plan_line}
-use Rattle.mob_tail.proofs.PlanRows.{next_made, rows_behind, steps_end}
+use Rattle.mob_tail.{specs.PlanAnswers.{plan_line}, proofs.PlanRows.{next_made, rows_behind, steps_end}}
 use Rattle.mob_tail.proofs.plans.lines_of.Goals as goal
 
 pub loop-place-preserved : goal.loop-place-preserved

@@ -1,8 +1,7 @@
 use Rattle.std.proofs.Common.{◌≡◌, ◌++◌, map, option_map}
 use Rattle.mob_typed.specs.Trees.{typed_of}
 use Rattle.mob_plan.specs.Plans.{step_seen}
-use Rattle.mob_tail.specs.PlanAnswers.{plan_rows}
-use Rattle.mob_tail.proofs.PlanRows.{rows_behind}
+use Rattle.mob_tail.{specs.PlanAnswers.{plan_rows}, proofs.PlanRows.{rows_behind}}
 use Rattle.mob_tail.proofs.plans.lines_of.Given as goal
 
 abbrev pub invariant-loop-place : goal.invariant-loop-place

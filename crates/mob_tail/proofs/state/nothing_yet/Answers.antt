@@ -1,8 +1,7 @@
 use Rattle.std.proofs.Common.{refl, ap}
 use Rattle.mob_operators.specs.declared.aggregate.AggKind.TheVariants.{CountAll, Count, Sum, TSum}
 use Rattle.mob_value.specs.declared.value.Value.TheVariants.{Number, Null}
-use Rattle.mob_tail.proofs.Aggregating.{no_sum}
-use Rattle.mob_tail.proofs.StateSteps.{start_whole, start_counts, start_all, start_any}
+use Rattle.mob_tail.{proofs.Aggregating.{no_sum}, proofs.StateSteps.{start_whole, start_counts, start_all, start_any}}
 use Rattle.mob_tail.proofs.state.nothing_yet.Goals as goal
 
 pub returns-in-CountAll : goal.returns-in-CountAll

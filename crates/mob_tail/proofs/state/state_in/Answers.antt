@@ -1,7 +1,4 @@
-use Rattle.mob_tail.specs.Aggregated.{leaves_out}
-use Rattle.mob_tail.proofs.StateSteps.{left_out_state, whole_in, counts_at, all_step, any_step}
-use Rattle.mob_tail.specs.Made.{made_in}
-use Rattle.mob_tail.specs.declared.state.State.TheVariants.{Counts}
+use Rattle.mob_tail.{specs.Aggregated.{leaves_out}, specs.Made.{made_in}, specs.declared.state.State.TheVariants.{Counts}, proofs.StateSteps.{left_out_state, whole_in, counts_at, all_step, any_step}}
 use Rattle.mob_tail.proofs.state.state_in.Goals as goal
 
 pub returns-then-leaves_out : goal.returns-then-leaves_out

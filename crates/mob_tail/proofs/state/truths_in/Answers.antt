@@ -1,5 +1,4 @@
-use Rattle.std.proofs.Common.{refl, subst}
-use Rattle.std.proofs.lemmas.Result.{on_ok_weaker}
+use Rattle.std.{proofs.Common.{refl, subst}, proofs.lemmas.Result.{on_ok_weaker}}
 use Rattle.mob_tail.specs.States.{AreTruthsWith}
 use Rattle.mob_tail.proofs.state.truths_in.Goals as goal
 

@@ -1,11 +1,7 @@
-use Rattle.std.specs.Prelude.{map, string_bytes}
-use Rattle.std.proofs.Common.{rules}
-use Rattle.std.proofs.KnownBytes.{Keeps-refl}
-use Rattle.mob_trips.proofs.Whole.{ends_unread, ends_on, ends_put}
+use Rattle.std.{specs.Prelude.{map, string_bytes}, proofs.Common.{rules}, proofs.KnownBytes.{Keeps-refl}}
+use Rattle.mob_trips.{specs.Seen.{TripsSeen, trips_seen}, proofs.Whole.{ends_unread, ends_on, ends_put}}
 use Rattle.mob_outside.specs.EndsSeen.{stream_seen}
-use Rattle.mob_trips.specs.Seen.{TripsSeen, trips_seen}
-use Rattle.mob_thin_run.specs.ThinProgram.{thin_program}
-use Rattle.mob_thin_run.proofs.FaultEnds.{fault_ends}
+use Rattle.mob_thin_run.{specs.ThinProgram.{thin_program}, proofs.FaultEnds.{fault_ends}}
 use Rattle.mob_thin_run.proofs.decide.decide.Goals as goal
 
 pub returns-in-Err-read_trips : goal.returns-in-Err-read_trips

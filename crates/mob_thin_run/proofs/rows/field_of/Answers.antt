@@ -1,6 +1,4 @@
-use Rattle.std.specs.Prelude.{IsUtf8}
-use Rattle.std.proofs.Common.{sym, subst}
-use Rattle.std.proofs.lemmas.Str.{IsUtf8-string_bytes}
+use Rattle.std.{specs.Prelude.{IsUtf8}, proofs.Common.{sym, subst}, proofs.lemmas.Str.{IsUtf8-string_bytes}}
 use Rattle.mob_thin_run.proofs.rows.field_of.Goals as goal
 
 pub returns-clause-utf8 : goal.returns-clause-utf8

@@ -1,6 +1,5 @@
 use Rattle.std.proofs.Common.{rules, arith, refl}
-use Rattle.mob_thin_run.specs.ThinRows.{IsThinRecord, RowTestsFit}
-use Rattle.mob_thin_run.proofs.Zips.{zip_more, all_more, row_fault_at, row_found}
+use Rattle.mob_thin_run.{specs.ThinRows.{IsThinRecord, RowTestsFit}, proofs.Zips.{zip_more, all_more, row_fault_at, row_found}}
 use Rattle.mob_thin_run.proofs.rows.thin_records.Goals as goal
 
 pub returns-in-Err-clause-first : goal.returns-in-Err-clause-first

@@ -1,5 +1,4 @@
-use Rattle.std.proofs.Common.{◌-◌, ◌≤◌, length, take}
-use Rattle.std.specs.List.{AllZip, AllByRecursion}
+use Rattle.std.{specs.List.{AllZip, AllByRecursion}, proofs.Common.{◌-◌, ◌≤◌, length, take}}
 use Rattle.mob_thin_run.specs.ThinRows.{IsThinRecord, RowTestsFit}
 use Rattle.mob_thin_run.proofs.rows.thin_records.Given as goal
 

@@ -1,7 +1,5 @@
-use Rattle.std.proofs.Common.{rules, arith}
-use Rattle.std.proofs.lemmas.Result.{err_from_is_err_and}
-use Rattle.mob_thin_run.specs.ThinRows.{IsThinValue}
-use Rattle.mob_thin_run.proofs.Zips.{zip_more, all_more, test_fault_at}
+use Rattle.std.{proofs.Common.{rules, arith}, proofs.lemmas.Result.{err_from_is_err_and}}
+use Rattle.mob_thin_run.{specs.ThinRows.{IsThinValue}, proofs.Zips.{zip_more, all_more, test_fault_at}}
 use Rattle.mob_thin_run.proofs.rows.thinned_row.Goals as goal
 
 pub returns-in_err-next-clause-first : goal.returns-in_err-next-clause-first

@@ -1,5 +1,4 @@
-use Rattle.std.proofs.Common.{take}
-use Rattle.std.specs.List.{AllZip}
+use Rattle.std.{specs.List.{AllZip}, proofs.Common.{take}}
 use Rattle.mob_thin_run.specs.ThinRows.{IsThinValue, RowTestsFit}
 use Rattle.mob_thin_run.proofs.rows.thinned_row.Given as goal
 

@@ -1,6 +1,5 @@
 use Rattle.mob_trips.proofs.Statuses.{is_trips_run, is_exact_run}
-use Rattle.mob_thin_run.specs.ThinProgram.{thin_program, thin_usage}
-use Rattle.mob_thin_run.proofs.Apart.{is_program, is_exact}
+use Rattle.mob_thin_run.{specs.ThinProgram.{thin_program, thin_usage}, proofs.Apart.{is_program, is_exact}}
 use Rattle.mob_thin_run.proofs.top.run_thin.Goals as goal
 
 pub returns : goal.returns

@@ -1,6 +1,5 @@
 use Rattle.std.specs.Prelude.{List}
-use Rattle.mob_slice.specs.declared.slice.Slice.{Slice}
-use Rattle.mob_slice.specs.declared.line.PlaneLine.{PlaneLine}
+use Rattle.mob_slice.{specs.declared.slice.Slice.{Slice}, specs.declared.line.PlaneLine.{PlaneLine}}
 use Rattle.mob_grid.specs.declared.tile.Tile.{Tile}
 use Rattle.mob_tile.proofs.OneAnswer.{answer_apart, one_fault}
 use Rattle.mob_tile.proofs.laws.one_answer.Goals as goal

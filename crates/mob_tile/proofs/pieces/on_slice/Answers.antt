@@ -1,7 +1,5 @@
-use Rattle.std.proofs.Common.{subst, sym}
-use Rattle.std.specs.List.{AllByRecursion}
-use Rattle.mob_ratio.specs.Ratio.{◌<ℚ◌}
-use Rattle.mob_ratio.specs.Sign.{nil}
+use Rattle.std.{specs.List.{AllByRecursion}, proofs.Common.{subst, sym}}
+use Rattle.mob_ratio.{specs.Ratio.{◌<ℚ◌}, specs.Sign.{nil}}
 use Rattle.mob_cells.specs.Roots.{IsLevel}
 use Rattle.mob_grid.specs.Tiles.{IsGrid}
 use Rattle.mob_tile.proofs.Cutting.{level_all}

@@ -1,13 +1,9 @@
-use Rattle.std.proofs.Common.{subst, sym, ap, ◌∙◌, inl, inr, refl, true≢false, Err}
-use Rattle.std.specs.List.{AllByRecursion}
-use Rattle.mob_ratio.specs.Ratio.{◌<ℚ◌}
-use Rattle.mob_ratio.specs.Sign.{nil}
+use Rattle.std.{specs.List.{AllByRecursion}, proofs.Common.{subst, sym, ap, ◌∙◌, inl, inr, refl, true≢false, Err}}
+use Rattle.mob_ratio.{specs.Ratio.{◌<ℚ◌}, specs.Sign.{nil}}
 use Rattle.mob_grid.specs.Tiles.{IsGrid, HasMany, range_of}
-use Rattle.mob_tile.specs.declared.splitting.SplitCause.TheVariants.{Passed}
-use Rattle.mob_tile.specs.Pieces.{Reaches}
-use Rattle.mob_tile.proofs.Limits.{box_sides, box_as, box_range, all_reach}
-use Rattle.mob_tile.proofs.splitting.split_by.Goals as goal
+use Rattle.mob_tile.{specs.declared.splitting.SplitCause.TheVariants.{Passed}, specs.Pieces.{Reaches}, proofs.Limits.{box_sides, box_as, box_range, all_reach}}
 use Rattle.mob_list.specs.declared.fault.Fault.TheVariants.{Because}
+use Rattle.mob_tile.proofs.splitting.split_by.Goals as goal
 
 pub returns-in-Err-clause-refusals : goal.returns-in-Err-clause-refusals
 returns-in-Err-clause-refusals c =

@@ -1,11 +1,7 @@
-use Rattle.std.specs.Prelude.{ℕ, List}
-use Rattle.std.proofs.Common.{arith, rules}
-use Rattle.std.proofs.KnownBytes.{Keeps-refl}
+use Rattle.std.{specs.Prelude.{ℕ, List}, proofs.Common.{arith, rules}, proofs.KnownBytes.{Keeps-refl}}
 use Rattle.mob_outside.specs.EndsSeen.{stream_seen}
-use Rattle.mob_trips.proofs.Whole.{ends_unread, ends_on, ends_put}
-use Rattle.mob_trips.specs.Seen.{TripsSeen, trips_seen}
-use Rattle.mob_tile_run.specs.TileProgram.{tile_program}
-use Rattle.mob_tile_run.proofs.TileLaws.{fault_ends}
+use Rattle.mob_trips.{specs.Seen.{TripsSeen, trips_seen}, proofs.Whole.{ends_unread, ends_on, ends_put}}
+use Rattle.mob_tile_run.{specs.TileProgram.{tile_program}, proofs.TileLaws.{fault_ends}}
 use Rattle.mob_tile_run.proofs.decide.answer_table.Goals as goal
 
 pub tile_text-requires : goal.tile_text-requires

@@ -1,6 +1,4 @@
-use Rattle.std.specs.Prelude.{map, string_bytes}
-use Rattle.std.proofs.Common.{rules, arith, refl, inl}
-use Rattle.std.proofs.KnownBytes.{Keeps-refl}
+use Rattle.std.{specs.Prelude.{map, string_bytes}, proofs.Common.{rules, arith, refl, inl}, proofs.KnownBytes.{Keeps-refl}}
 use Rattle.mob_outside.proofs.Known.{reads_none}
 use Rattle.mob_catalog.specs.TableFile.{file_limit}
 use Rattle.mob_tile_run.proofs.Usable.{usable}

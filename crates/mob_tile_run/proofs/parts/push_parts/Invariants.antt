@@ -1,5 +1,4 @@
-use Rattle.std.proofs.Common.{◌≡◌, ◌++◌, length, map}
-use Rattle.std.specs.Vec.Iter.{into_iter_items, into_iter_len}
+use Rattle.std.{specs.Vec.Iter.{into_iter_items, into_iter_len}, proofs.Common.{◌≡◌, ◌++◌, length, map}}
 use Rattle.mob_tile_run.specs.TileTexts.{part_fields}
 use Rattle.mob_tile_run.proofs.parts.push_parts.Given as goal
 

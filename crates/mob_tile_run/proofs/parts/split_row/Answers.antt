@@ -1,6 +1,5 @@
 use Rattle.std.proofs.Common.{subst, sym, Some}
-use Rattle.mob_tile_run.specs.TileParts.{IsSplitFault}
-use Rattle.mob_tile_run.proofs.Tiling.{split_fault}
+use Rattle.mob_tile_run.{specs.TileParts.{IsSplitFault}, proofs.Tiling.{split_fault}}
 use Rattle.mob_tile_run.proofs.parts.split_row.Goals as goal
 
 pub returns-in-Err : goal.returns-in-Err

@@ -1,4 +1,4 @@
-use Rattle.mob_words.proofs.Readings.{unread}
+use Rattle.mob_arguments.proofs.Readings.{unread}
 use Rattle.mob_tile_run.proofs.Numbers.{not_above}
 use Rattle.mob_tile_run.proofs.reading.side_in.Goals as goal
 

@@ -1,7 +1,5 @@
 use Rattle.mob_trips.proofs.Statuses.{is_trips_run, is_exact_run}
-use Rattle.mob_tile_run.specs.TileProgram.{tile_program, tile_usage}
-use Rattle.mob_tile_run.proofs.OneFault.{is_exact}
-use Rattle.mob_tile_run.proofs.TileLaws.{is_program}
+use Rattle.mob_tile_run.{specs.TileProgram.{tile_program, tile_usage}, proofs.OneFault.{is_exact}, proofs.TileLaws.{is_program}}
 use Rattle.mob_tile_run.proofs.top.run_tile.Goals as goal
 
 pub returns : goal.returns

@@ -1,8 +1,5 @@
-use Rattle.std.proofs.Common.{◌≡◌, ◌∙◌, ◌++◌, [], drop, map, sym, ap}
-use Rattle.std.proofs.lemmas.List.{drop_all, append-nil}
-use Rattle.mob_typed.specs.declared.typed.TExpr.TheViews.{out-TExpr}
-use Rattle.mob_typed.specs.Trees.{typed, typed_trees, typed_of}
-use Rattle.mob_typed.proofs.TreeFacts.{typed_is}
+use Rattle.std.{proofs.Common.{◌≡◌, ◌∙◌, ◌++◌, [], drop, map, sym, ap}, proofs.lemmas.List.{drop_all, append-nil}}
+use Rattle.mob_typed.{specs.declared.typed.TExpr.TheViews.{out-TExpr}, specs.Trees.{typed, typed_trees, typed_of}, proofs.TreeFacts.{typed_is}}
 use Rattle.mob_typed.proofs.making.+copy_of.Goals as goal
 
 pub returns : goal.returns

@@ -1,16 +1,8 @@
-use Rattle.std.proofs.Common.{◌≡◌, ◌∙◌, ◌++◌, ◌∷◌, [], ℕ, List, Option, Result, Ok, ap, sym, subst, arith, refl, map}
-use Rattle.std.proofs.lemmas.List.{map_push}
-use Rattle.std.proofs.lemmas.Result.{err_from_is_err_and}
-use Rattle.mob_ast.specs.declared.types.Word.{Word}
-use Rattle.mob_ast.specs.declared.statement.FromTable.{FromTable}
-use Rattle.mob_ast.specs.Trees.{from_of}
+use Rattle.std.{proofs.Common.{◌≡◌, ◌∙◌, ◌++◌, ◌∷◌, [], ℕ, List, Option, Result, Ok, ap, sym, subst, arith, refl, map}, proofs.lemmas.List.{map_push}, proofs.lemmas.Result.{err_from_is_err_and}}
+use Rattle.mob_ast.{specs.declared.types.Word.{Word}, specs.declared.statement.FromTable.{FromTable}, specs.Trees.{from_of}}
 use Rattle.mob_typed.specs.Statements.{ColumnList}
-use Rattle.mob_scope.specs.declared.scope.ScopeTable.{ScopeTable}
-use Rattle.mob_scope.specs.Answers.{StopsTyping}
-use Rattle.mob_scope.specs.declared.fault.Mistake.{Mistake}
-use Rattle.mob_scope.specs.Scopes.{ScopeTableParts, source_of, sources_of}
-use Rattle.mob_typing.specs.Selects.{from_table, from_tables}
-use Rattle.mob_typing.proofs.Folded.{step_fails, step_made, steps_made}
+use Rattle.mob_scope.{specs.declared.scope.ScopeTable.{ScopeTable}, specs.Answers.{StopsTyping}, specs.declared.fault.Mistake.{Mistake}, specs.Scopes.{ScopeTableParts, source_of, sources_of}}
+use Rattle.mob_typing.{specs.Selects.{from_table, from_tables}, proofs.Folded.{step_fails, step_made, steps_made}}
 use Rattle.mob_typing.proofs.from.from_tables.Goals as goal
 
 abbrev Sources : Type 0

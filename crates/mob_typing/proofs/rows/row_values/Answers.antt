@@ -1,6 +1,4 @@
-use Rattle.std.proofs.Common.{arith}
-use Rattle.std.proofs.lemmas.List.{drop_all}
-use Rattle.std.proofs.lemmas.Result.{err_from_is_err_and}
+use Rattle.std.{proofs.Common.{arith}, proofs.lemmas.List.{drop_all}, proofs.lemmas.Result.{err_from_is_err_and}}
 use Rattle.mob_typing.proofs.RowSteps.{value_fails, value_more, values_done}
 use Rattle.mob_typing.proofs.rows.row_values.Goals as goal
 

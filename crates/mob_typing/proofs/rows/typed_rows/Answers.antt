@@ -1,8 +1,5 @@
-use Rattle.std.proofs.Common.{arith, map, refl, List}
-use Rattle.std.proofs.lemmas.List.{drop_all}
-use Rattle.std.proofs.lemmas.Result.{err_from_is_err_and}
-use Rattle.mob_ast.specs.declared.statement.Row.{Row}
-use Rattle.mob_ast.specs.Trees.{row_of}
+use Rattle.std.{proofs.Common.{arith, map, refl, List}, proofs.lemmas.List.{drop_all}, proofs.lemmas.Result.{err_from_is_err_and}}
+use Rattle.mob_ast.{specs.declared.statement.Row.{Row}, specs.Trees.{row_of}}
 use Rattle.mob_expression.proofs.Behind.{entries_made, entry_fails, entry_made}
 use Rattle.mob_typing.specs.Statements.{typed_row, typed_rows}
 use Rattle.mob_typing.proofs.rows.typed_rows.Goals as goal

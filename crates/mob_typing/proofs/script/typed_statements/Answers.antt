@@ -1,9 +1,7 @@
-use Rattle.std.proofs.Common.{◌≡◌, ◌∙◌, ◌+◌, ◌++◌, ◌∷◌, [], ap, arith, drop, map, sym}
-use Rattle.std.proofs.lemmas.List.{drop_all, map_push}
+use Rattle.std.{proofs.Common.{◌≡◌, ◌∙◌, ◌+◌, ◌++◌, ◌∷◌, [], ap, arith, drop, map, sym}, proofs.lemmas.List.{drop_all, map_push}}
 use Rattle.mob_ast.specs.Trees.{statement_of}
 use Rattle.mob_typed.specs.Statements.{statement_seen}
-use Rattle.mob_typing.specs.Statements.{made_seen, typed_from}
-use Rattle.mob_typing.proofs.ScriptSteps.{behind_script, script_done, statement_made, statement_stops}
+use Rattle.mob_typing.{specs.Statements.{made_seen, typed_from}, proofs.ScriptSteps.{behind_script, script_done, statement_made, statement_stops}}
 use Rattle.mob_typing.proofs.script.typed_statements.Goals as goal
 
 pub loop-statement-preserved : goal.loop-statement-preserved

@@ -1,8 +1,7 @@
 use Rattle.std.proofs.Common.{◌≡◌, [], drop, map}
 use Rattle.mob_ast.specs.Trees.{statement_of}
-use Rattle.mob_typing.specs.Statements.{typed_from}
+use Rattle.mob_typing.{specs.Statements.{typed_from}, proofs.ScriptSteps.{behind_script}}
 use Rattle.mob_typed.specs.Statements.{statement_seen}
-use Rattle.mob_typing.proofs.ScriptSteps.{behind_script}
 use Rattle.mob_typing.proofs.script.typed_statements.Given as goal
 
 abbrev pub invariant-loop-statement : goal.invariant-loop-statement

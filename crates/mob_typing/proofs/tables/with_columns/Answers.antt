@@ -1,7 +1,5 @@
-use Rattle.std.proofs.Common.{arith, refl}
-use Rattle.std.proofs.lemmas.Result.{err_from_is_err_and}
-use Rattle.mob_typing.specs.Statements.{with_column, with_columns}
-use Rattle.mob_typing.proofs.Folded.{step_fails, step_made, steps_made}
+use Rattle.std.{proofs.Common.{arith, refl}, proofs.lemmas.Result.{err_from_is_err_and}}
+use Rattle.mob_typing.{specs.Statements.{with_column, with_columns}, proofs.Folded.{step_fails, step_made, steps_made}}
 use Rattle.mob_typing.proofs.tables.with_columns.Goals as goal
 
 pub returns-in_err-with_column : goal.returns-in_err-with_column

@@ -1,6 +1,5 @@
 use Rattle.std.proofs.Common.{◌∙◌, ap}
-use Rattle.mob_slice.specs.Lines.{line_value_of}
-use Rattle.mob_slice.specs.Slices.{value_at}
+use Rattle.mob_slice.{specs.Lines.{line_value_of}, specs.Slices.{value_at}}
 use Rattle.mob_value.proofs.Widening.{level_normal, level_at, all_level}
 use Rattle.mob_value.proofs.lines.widen.Goals as goal
 

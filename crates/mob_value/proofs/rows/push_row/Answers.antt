@@ -1,6 +1,5 @@
 use Rattle.std.proofs.Common.{rules, ◌≡◌, ◌∙◌, ◌++◌, ◌∷◌, [], ap, sym, subst, arith, length, length-append}
-use Rattle.mob_value.specs.Cuts.{AreCuts, cut}
-use Rattle.mob_value.proofs.Cutting.{cut_more, cuts_more}
+use Rattle.mob_value.{specs.Cuts.{AreCuts, cut}, proofs.Cutting.{cut_more, cuts_more}}
 use Rattle.mob_value.proofs.rows.push_row.Goals as goal
 
 pub returns-clause-cuts : goal.returns-clause-cuts

@@ -1,6 +1,5 @@
 use Rattle.std.proofs.Common.{arith}
-use Rattle.mob_value.specs.Cuts.{cut}
-use Rattle.mob_value.proofs.Cutting.{cut_count, no_row, row_is}
+use Rattle.mob_value.{specs.Cuts.{cut}, proofs.Cutting.{cut_count, no_row, row_is}}
 use Rattle.mob_value.proofs.rows.row_at.Goals as goal
 
 pub returns-then-number-ends : goal.returns-then-number-ends

@@ -1,7 +1,6 @@
 use Rattle.std.proofs.Common.{rules, ◌≡◌, get_or}
 use Rattle.mob_slice.specs.Lines.{plane_continued}
-use Rattle.mob_value.specs.ValueBoxes.{slice_box, covered}
-use Rattle.mob_value.proofs.ValueBoxes.{is_box_of, is_value_box}
+use Rattle.mob_value.{specs.ValueBoxes.{slice_box, covered}, proofs.ValueBoxes.{is_box_of, is_value_box}}
 use Rattle.mob_value.proofs.value_box.box_of.Goals as goal
 
 pub returns : goal.returns

@@ -1,7 +1,6 @@
 use Rattle.std.proofs.Common.{arith, ap, ◌∙◌, ◌≡◌}
 use Rattle.mob_stbox.specs.Boxes.{cover}
-use Rattle.mob_value.specs.ValueBoxes.{slice_box}
-use Rattle.mob_value.proofs.ValueBoxes.{next_covered, next_whole}
+use Rattle.mob_value.{specs.ValueBoxes.{slice_box}, proofs.ValueBoxes.{next_covered, next_whole}}
 use Rattle.mob_value.proofs.value_box.cover_all.Goals as goal
 
 pub loop-slice-preserved : goal.loop-slice-preserved

@@ -1,5 +1,4 @@
-use Rattle.std.proofs.Common.{rules}
-use Rattle.std.specs.Prelude.{Some}
+use Rattle.std.{specs.Prelude.{Some}, proofs.Common.{rules}}
 use Rattle.mob_stbox.proofs.BoxLaws.{an_area}
 use Rattle.mob_value.proofs.value_box.slice_box.Goals as goal
 

@@ -1,6 +1,5 @@
 use Rattle.std.proofs.Common.{sym}
-use Rattle.mob_scalar.proofs.MomentExact.{moment_exact}
-use Rattle.mob_scalar.proofs.MomentBounds.{moment_small}
+use Rattle.mob_scalar.{proofs.MomentExact.{moment_exact}, proofs.MomentBounds.{moment_small}}
 use Rattle.mob_written.proofs.literal.noted_at.Goals as goal
 
 pub instant_of-requires-clause-part : goal.instant_of-requires-clause-part

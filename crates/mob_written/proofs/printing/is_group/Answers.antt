@@ -1,7 +1,6 @@
 use Rattle.std.proofs.Common.{◌∙◌, rules}
 use Rattle.mob_slice.specs.CourseOf.{course_of}
-use Rattle.mob_written.specs.Printed.{shares_group}
-use Rattle.mob_written.proofs.Groups.{one_group}
+use Rattle.mob_written.{specs.Printed.{shares_group}, proofs.Groups.{one_group}}
 use Rattle.mob_written.proofs.printing.is_group.Goals as goal
 
 pub returns-in-len1-up : goal.returns-in-len1-up

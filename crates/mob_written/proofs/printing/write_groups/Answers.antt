@@ -1,8 +1,7 @@
 use Rattle.std.proofs.Common.{string_bytes, arith}
 use Rattle.mob_slice.specs.CourseOf.{course_of}
-use Rattle.mob_written.specs.Style.{style_of}
+use Rattle.mob_written.{specs.Style.{style_of}, proofs.Groups.{groups_done}}
 use Rattle.mob_scalar.proofs.Parted.{parted, on_ok}
-use Rattle.mob_written.proofs.Groups.{groups_done}
 use Rattle.mob_written.proofs.printing.write_groups.Goals as goal
 
 pub returns : goal.returns

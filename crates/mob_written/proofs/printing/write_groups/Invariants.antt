@@ -1,7 +1,6 @@
 use Rattle.std.proofs.Common.{◌≡◌, ◌++◌, drop, string_bytes}
-use Rattle.mob_written.specs.FromLeft.{text_behind}
+use Rattle.mob_written.{specs.FromLeft.{text_behind}, specs.Style.{style_of}}
 use Rattle.mob_slice.specs.CourseOf.{course_of}
-use Rattle.mob_written.specs.Style.{style_of}
 use Rattle.mob_written.proofs.printing.write_groups.Given as goal
 
 -- the text written so far, and the text still to be written

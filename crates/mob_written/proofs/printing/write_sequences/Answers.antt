@@ -1,8 +1,6 @@
-use Rattle.std.proofs.Common.{rules, arith}
-use Rattle.std.proofs.lemmas.Grind.{common_steps}
+use Rattle.std.{proofs.Common.{rules, arith}, proofs.lemmas.Grind.{common_steps}}
 use Rattle.mob_slice.specs.CourseOf.{course_of}
-use Rattle.mob_written.specs.Style.{style_of}
-use Rattle.mob_written.proofs.Groups.{group-alone, groups-braced}
+use Rattle.mob_written.{specs.Style.{style_of}, proofs.Groups.{group-alone, groups-braced}}
 use Rattle.mob_written.proofs.printing.write_sequences.Goals as goal
 
 pub returns-then-is_group : goal.returns-then-is_group

@@ -1,9 +1,7 @@
 use Rattle.std.proofs.Common.{string_bytes, arith}
 use Rattle.mob_slice.specs.CourseOf.{course_of}
-use Rattle.mob_written.specs.Style.{style_of}
-use Rattle.mob_scalar.proofs.Parted.{parted}
-use Rattle.mob_scalar.proofs.CommasWritten.{commas_done}
-use Rattle.mob_written.specs.Printed.{start_text}
+use Rattle.mob_written.{specs.Style.{style_of}, specs.Printed.{start_text}}
+use Rattle.mob_scalar.{proofs.Parted.{parted}, proofs.CommasWritten.{commas_done}}
 use Rattle.mob_written.proofs.printing.write_starts.Goals as goal
 
 pub returns : goal.returns

@@ -1,8 +1,7 @@
 use Rattle.std.proofs.Common.{◌≡◌, ◌++◌, drop, string_bytes}
 use Rattle.mob_scalar.specs.Brackets.{more_texts}
 use Rattle.mob_slice.specs.CourseOf.{course_of}
-use Rattle.mob_written.specs.Printed.{start_text}
-use Rattle.mob_written.specs.Style.{style_of}
+use Rattle.mob_written.{specs.Printed.{start_text}, specs.Style.{style_of}}
 use Rattle.mob_written.proofs.printing.write_starts.Given as goal
 
 -- the text written so far, and the text still to be written

@@ -1,8 +1,7 @@
 use Rattle.std.proofs.Common.{Some, sym, subst, ◌∙◌}
 use Rattle.mob_list.specs.Faults.{OnCause}
 use Rattle.mob_slice.specs.Entries.{IsFirst}
-use Rattle.mob_arith.specs.Sql.Entries.{quotient_entries}
-use Rattle.mob_arith.proofs.Zero.{not_nil}
+use Rattle.mob_arith.{specs.Sql.Entries.{quotient_entries}, proofs.Zero.{not_nil}}
 use Rattle.mob_arith.proofs.sql.line_arithmetic.frac_quotient.Goals as goal
 
 pub over_const-requires : goal.over_const-requires

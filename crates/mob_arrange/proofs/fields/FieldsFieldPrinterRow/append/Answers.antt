@@ -1,6 +1,4 @@
-use Rattle.std.proofs.Common.{◌∙◌, ◌++◌, ap}
-use Rattle.std.specs.Prelude.{string_bytes}
-use Rattle.std.proofs.lemmas.Result.{on_ok_weaker}
+use Rattle.std.{specs.Prelude.{string_bytes}, proofs.Common.{◌∙◌, ◌++◌, ap}, proofs.lemmas.Result.{on_ok_weaker}}
 use Rattle.mob_literal.specs.Fields.{field_text}
 use Rattle.mob_arrange.proofs.Places.{field_dropped}
 use Rattle.mob_arrange.proofs.fields.FieldsFieldPrinterRow.append.Goals as goal

@@ -1,5 +1,4 @@
-use Rattle.std.proofs.Common.{◌∙◌, length, ap, sym}
-use Rattle.std.proofs.lemmas.List.{length-map}
+use Rattle.std.{proofs.Common.{◌∙◌, length, ap, sym}, proofs.lemmas.List.{length-map}}
 use Rattle.mob_value.specs.declared.value.Value.TheVariants.{Number}
 use Rattle.mob_arrange.proofs.numbers.Numbers.len.Goals as goal
 

@@ -1,6 +1,5 @@
 use Rattle.std.proofs.Common.{rules, ◌≡◌, ◌∙◌, ◌++◌, ◌∷◌, [], ap, sym, append_assoc}
-use Rattle.mob_catalog.specs.Catalogue.{with_row}
-use Rattle.mob_catalog.proofs.FirstRows.{all_more}
+use Rattle.mob_catalog.{specs.Catalogue.{with_row}, proofs.FirstRows.{all_more}}
 use Rattle.mob_catalog.proofs.catalog.Catalog.add_each.Goals as goal
 
 pub loop-left-preserved : goal.loop-left-preserved

@@ -1,8 +1,6 @@
 use Rattle.std.proofs.Common.{◌≡◌, ◌∙◌, ◌<◌, refl, ap, subst, sym, length, arith}
-use Rattle.mob_catalog.specs.Catalogue.{Catalogue, rows_put, with_all_rows, with_changed}
-use Rattle.mob_catalog.specs.Kept.{IsKeptTogether, IsUnused, index_names_of, numbers_from, with_live_rows}
-use Rattle.mob_catalog.proofs.FirstRows.{all_at_once, kept_all}
-use Rattle.mob_catalog.proofs.Together.{catalogue_of}
+use Rattle.mob_catalog.{specs.Catalogue.{Catalogue, rows_put, with_all_rows, with_changed}, specs.Kept.{IsKeptTogether, IsUnused, index_names_of, numbers_from, with_live_rows}}
+use Rattle.mob_catalog.{proofs.FirstRows.{all_at_once, kept_all}, proofs.Together.{catalogue_of}}
 use Rattle.mob_catalog.proofs.catalog.Catalog.add_first.Goals as goal
 
 before : goal.After-set_live → Catalogue

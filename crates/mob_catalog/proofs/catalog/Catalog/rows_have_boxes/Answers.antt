@@ -1,9 +1,5 @@
-use Rattle.std.proofs.Common.{subst}
-use Rattle.std.specs.List.{AllByRecursion}
-use Rattle.mob_catalog.specs.Catalogue.{Catalogue}
-use Rattle.mob_catalog.specs.Indexes.{HasBoxesOn, HasRowBoxes}
-use Rattle.mob_catalog.specs.Kept.{index_names_of}
-use Rattle.mob_catalog.proofs.OwnBoxes.{row_boxes}
+use Rattle.std.{specs.List.{AllByRecursion}, proofs.Common.{subst}}
+use Rattle.mob_catalog.{specs.Catalogue.{Catalogue}, specs.Indexes.{HasBoxesOn, HasRowBoxes}, specs.Kept.{index_names_of}, proofs.OwnBoxes.{row_boxes}}
 use Rattle.mob_catalog.proofs.catalog.Catalog.rows_have_boxes.Goals as goal
 
 pub returns : goal.returns

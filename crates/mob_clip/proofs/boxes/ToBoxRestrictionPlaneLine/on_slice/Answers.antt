@@ -1,9 +1,6 @@
 use Rattle.std.proofs.Common.{subst, sym}
 use Rattle.mob_frac.specs.Formula.{AllFit}
-use Rattle.mob_slice.specs.Sides.{at_ends}
-use Rattle.mob_slice.specs.Cut.{slice_parts}
-use Rattle.mob_slice.specs.Lines.{plane_parts_of}
-use Rattle.mob_slice.specs.PlaneLaws.{plane_laws}
+use Rattle.mob_slice.{specs.Sides.{at_ends}, specs.Cut.{slice_parts}, specs.Lines.{plane_parts_of}, specs.PlaneLaws.{plane_laws}}
 use Rattle.mob_cells.proofs.OwnEnds.{own_fit}
 use Rattle.mob_clip.proofs.InTime.{timeless}
 use Rattle.mob_clip.proofs.boxes.ToBoxRestrictionPlaneLine.on_slice.Goals as goal

@@ -1,6 +1,5 @@
 use Rattle.std.proofs.Common.{rules, ◌≡◌, map, sym, ap, ◌∙◌, arith}
-use Rattle.mob_typed.specs.declared.typed.TExpr.TheViews.{out-TExpr}
-use Rattle.mob_typed.specs.Trees.{typed_of}
+use Rattle.mob_typed.{specs.declared.typed.TExpr.TheViews.{out-TExpr}, specs.Trees.{typed_of}}
 use Rattle.mob_list.proofs.Entries.{drop_read}
 use Rattle.mob_eval.proofs.Choosing.{same_node, same_front}
 use Rattle.mob_eval.proofs.memory.chosen.+are_same.Goals as goal

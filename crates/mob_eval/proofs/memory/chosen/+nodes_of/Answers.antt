@@ -1,8 +1,6 @@
 use Rattle.std.proofs.Common.{◌==◌, ◌++◌, ◌∙◌, sym, ap, subst, arith}
 use Rattle.mob_typed.specs.Trees.{typed_of}
-use Rattle.mob_eval.specs.SoFar.{trees}
-use Rattle.mob_eval.specs.Remembered.{AreNodes, nodes_at, nodes_here, all_nodes_at, place_of}
-use Rattle.mob_eval.proofs.Choosing.{nodes_are, next_nodes, last_nodes}
+use Rattle.mob_eval.{specs.SoFar.{trees}, specs.Remembered.{AreNodes, nodes_at, nodes_here, all_nodes_at, place_of}, proofs.Choosing.{nodes_are, next_nodes, last_nodes}}
 use Rattle.mob_eval.proofs.memory.chosen.+nodes_of.Goals as goal
 
 pub loop-arg-init : goal.loop-arg-init

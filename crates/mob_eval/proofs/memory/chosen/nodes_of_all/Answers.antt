@@ -1,7 +1,6 @@
 use Rattle.std.proofs.Common.{◌++◌, [], refl, sym, subst, arith, map}
 use Rattle.mob_typed.specs.Trees.{typed_of, typed_trees}
-use Rattle.mob_eval.specs.Remembered.{AreNodes, nodes_at, all_nodes_at, root_seen}
-use Rattle.mob_eval.proofs.Choosing.{next_nodes, last_nodes}
+use Rattle.mob_eval.{specs.Remembered.{AreNodes, nodes_at, all_nodes_at, root_seen}, proofs.Choosing.{next_nodes, last_nodes}}
 use Rattle.mob_eval.proofs.memory.chosen.nodes_of_all.Goals as goal
 
 pub loop-root-init : goal.loop-root-init

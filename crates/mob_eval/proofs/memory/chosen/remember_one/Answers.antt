@@ -1,7 +1,6 @@
 use Rattle.std.proofs.Common.{◌≡◌, true, map, sym, ◌∙◌}
 use Rattle.mob_typed.specs.Trees.{typed_of}
-use Rattle.mob_eval.specs.Remembered.{names_only, root_seen}
-use Rattle.mob_eval.proofs.Choosing.{of_place}
+use Rattle.mob_eval.{specs.Remembered.{names_only, root_seen}, proofs.Choosing.{of_place}}
 use Rattle.mob_eval.proofs.memory.chosen.remember_one.Goals as goal
 
 pub remember-requires : goal.remember-requires

@@ -1,6 +1,6 @@
 use Rattle.std.proofs.Common.{rules, sym, ◌∙◌}
-use denote.Enum.Bare.{same_true}
 use Rattle.mob_ast.specs.contracts.types.SqlType.{the_type}
+use denote.Enum.Bare.{same_true}
 use Rattle.mob_eval.proofs.memory.chosen.same_type.Goals as goal
 
 pub returns : goal.returns

@@ -1,6 +1,5 @@
-use Rattle.mob_eval.specs.Views.{scene_of}
+use Rattle.mob_eval.{specs.Views.{scene_of}, proofs.Recalled.{two_operands}}
 use Rattle.mob_clip.proofs.OwnBoxes.{overlap_is}
-use Rattle.mob_eval.proofs.Recalled.{two_operands}
 use Rattle.mob_eval.proofs.memory.own_box.overlap_with.Goals as goal
 
 pub returns-in-len2 : goal.returns-in-len2

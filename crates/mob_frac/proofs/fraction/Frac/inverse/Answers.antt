@@ -1,6 +1,4 @@
-use Rattle.std.proofs.Common.{rules, pos, ◌<ℤ◌, ◌≤ℤ◌, neg_ℤ, FitsSigned, arith, sym, ◌∙◌}
-use Rattle.std.specs.Int.{w64}
-use Rattle.std.proofs.lemmas.Int.{to_z-of_z, ints}
+use Rattle.std.{specs.Int.{w64}, proofs.Common.{rules, pos, ◌<ℤ◌, ◌≤ℤ◌, neg_ℤ, FitsSigned, arith, sym, ◌∙◌}, proofs.lemmas.Int.{to_z-of_z, ints}}
 use Rattle.mob_frac.proofs.Operations.{zero-sub, nonzero, inverse_above, inverse_below}
 use Rattle.mob_frac.proofs.fraction.Frac.inverse.Goals as goal
 

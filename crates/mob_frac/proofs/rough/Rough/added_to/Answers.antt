@@ -1,10 +1,6 @@
-use Rattle.std.proofs.Common.{rules, ◌+ℤ◌, FitsSigned, arith, ap, subst, ◌∙◌}
-use Rattle.std.specs.Int.{w64, w128}
-use Rattle.std.proofs.lemmas.Int.{to_z-of_z, ints}
+use Rattle.std.{specs.Int.{w64, w128}, proofs.Common.{rules, ◌+ℤ◌, FitsSigned, arith, ap, subst, ◌∙◌}, proofs.lemmas.Int.{to_z-of_z, ints}}
 use Rattle.mob_ratio.specs.Ratio.{◌+ℚ◌}
-use Rattle.mob_frac.specs.Fits.{IsExact}
-use Rattle.mob_frac.proofs.Sharing.{den_positive}
-use Rattle.mob_frac.proofs.Roughs.{times_positive, sum_parts}
+use Rattle.mob_frac.{specs.Fits.{IsExact}, proofs.Sharing.{den_positive}, proofs.Roughs.{times_positive, sum_parts}}
 use Rattle.mob_frac.proofs.rough.Rough.added_to.Goals as goal
 
 pub reduced-requires : goal.reduced-requires

@@ -1,9 +1,6 @@
-use Rattle.std.proofs.Common.{rules, pos, FitsSigned, ap, sym, subst, ◌∙◌}
-use Rattle.std.specs.Int.{w64, w128}
-use Rattle.std.proofs.lemmas.Int.{to_z-of_z}
+use Rattle.std.{specs.Int.{w64, w128}, proofs.Common.{rules, pos, FitsSigned, ap, sym, subst, ◌∙◌}, proofs.lemmas.Int.{to_z-of_z}}
 use Rattle.mob_ratio.specs.Ratio.{whole, ◌/ℚ◌, ◌<ℚ◌}
-use Rattle.mob_frac.specs.RoughInside.{rough_value}
-use Rattle.mob_frac.proofs.Roughs.{carried, times_positive, num_above, quotient_parts}
+use Rattle.mob_frac.{specs.RoughInside.{rough_value}, proofs.Roughs.{carried, times_positive, num_above, quotient_parts}}
 use Rattle.mob_frac.proofs.rough.Rough.over.Goals as goal
 
 pub fitting-requires : goal.fitting-requires

@@ -1,9 +1,6 @@
-use Rattle.std.proofs.Common.{rules, FitsSigned, ap, ◌∙◌}
-use Rattle.std.specs.Int.{w64, w128}
-use Rattle.std.proofs.lemmas.Int.{to_z-of_z}
+use Rattle.std.{specs.Int.{w64, w128}, proofs.Common.{rules, FitsSigned, ap, ◌∙◌}, proofs.lemmas.Int.{to_z-of_z}}
 use Rattle.mob_ratio.specs.Ratio.{◌*ℚ◌}
-use Rattle.mob_frac.specs.RoughInside.{rough_value}
-use Rattle.mob_frac.proofs.Roughs.{carried, times_positive, product_parts}
+use Rattle.mob_frac.{specs.RoughInside.{rough_value}, proofs.Roughs.{carried, times_positive, product_parts}}
 use Rattle.mob_frac.proofs.rough.Rough.times.Goals as goal
 
 pub fitting-requires : goal.fitting-requires

@@ -1,6 +1,4 @@
-use Rattle.std.proofs.Common.{rules, FitsSigned}
-use Rattle.std.specs.Int.{w128}
-use Rattle.std.proofs.lemmas.Int.{to_z-of_z}
+use Rattle.std.{specs.Int.{w128}, proofs.Common.{rules, FitsSigned}, proofs.lemmas.Int.{to_z-of_z}}
 use Rattle.mob_frac.proofs.Roughs.{carried}
 use Rattle.mob_frac.proofs.wide.Wide.rough.Goals as goal
 

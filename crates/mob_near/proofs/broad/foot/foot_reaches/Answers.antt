@@ -1,6 +1,5 @@
 use Rattle.std.proofs.Common.{sym, ◌∙◌}
-use Rattle.mob_near.specs.Broad.{as_foot}
-use Rattle.mob_near.proofs.Broadly.{between_by}
+use Rattle.mob_near.{specs.Broad.{as_foot}, proofs.Broadly.{between_by}}
 use Rattle.mob_near.proofs.broad.foot.foot_reaches.Goals as goal
 
 pub returns : goal.returns

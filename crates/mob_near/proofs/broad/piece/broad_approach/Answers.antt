@@ -1,7 +1,6 @@
 use Rattle.std.proofs.Common.{sym, ◌∙◌}
 use Rattle.mob_slice.specs.Sides.{piece_of}
-use Rattle.mob_near.specs.Broad.{as_leg}
-use Rattle.mob_near.proofs.Broadly.{long_approach, short_approach}
+use Rattle.mob_near.{specs.Broad.{as_leg}, proofs.Broadly.{long_approach, short_approach}}
 use Rattle.mob_near.proofs.broad.piece.broad_approach.Goals as goal
 
 pub returns-then-is_long : goal.returns-then-is_long

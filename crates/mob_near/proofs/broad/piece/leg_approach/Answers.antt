@@ -1,5 +1,4 @@
-use Rattle.mob_near.specs.Broad.{as_leg, as_foot}
-use Rattle.mob_near.proofs.Broadly.{none_between}
+use Rattle.mob_near.{specs.Broad.{as_leg, as_foot}, proofs.Broadly.{none_between}}
 use Rattle.mob_near.proofs.broad.piece.leg_approach.Goals as goal
 
 pub returns : goal.returns

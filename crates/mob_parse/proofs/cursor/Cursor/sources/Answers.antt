@@ -1,15 +1,8 @@
-use Rattle.std.proofs.Common.{◌≡◌, ◌≤◌, ◌∙◌, ◌∷◌, ◌++◌, [], Ok, true, false, length, map, arith, ap, sym, refl, append-nil}
-use Rattle.std.proofs.lemmas.Result.{err_from_is_err_and}
+use Rattle.std.{proofs.Common.{◌≡◌, ◌≤◌, ◌∙◌, ◌∷◌, ◌++◌, [], Ok, true, false, length, map, arith, ap, sym, refl, append-nil}, proofs.lemmas.Result.{err_from_is_err_and}}
 use Rattle.mob_ast.specs.Trees.{from_of}
-use Rattle.mob_grammar.specs.declared.mark.Mark.TheVariants.{Comma}
-use Rattle.mob_grammar.specs.Symbols.{starts, rest}
-use Rattle.mob_grammar.specs.Reading.{read}
-use Rattle.mob_grammar.specs.Scripts.{source_form}
-use Rattle.mob_grammar.proofs.Statements.{source_fits}
+use Rattle.mob_grammar.{specs.declared.mark.Mark.TheVariants.{Comma}, specs.Symbols.{starts, rest}, specs.Reading.{read}, specs.Scripts.{source_form}, proofs.Statements.{source_fits}}
 use Rattle.mob_grammar.proofs.Steps.{chosen, passed}
-use Rattle.mob_parse.specs.Cursors.{left}
-use Rattle.mob_parse.proofs.Shrinks.{form_shrinks}
-use Rattle.mob_parse.proofs.Steps.{skipped, first_read, next_read, next_refused}
+use Rattle.mob_parse.{specs.Cursors.{left}, proofs.Shrinks.{form_shrinks}, proofs.Steps.{skipped, first_read, next_read, next_refused}}
 use Rattle.mob_parse.proofs.Behind.{behind_gives, behind_stopped, list_over, first_refused, sources_stop, sources_read, tables_push}
 use Rattle.mob_parse.proofs.cursor.Cursor.sources.Goals as goal
 

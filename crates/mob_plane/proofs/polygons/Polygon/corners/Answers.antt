@@ -1,7 +1,5 @@
 use Rattle.std.proofs.Common.{◌≡◌, fold, Contains, ◌∙◌, ap, subst}
-use Rattle.mob_plane.specs.Rings.{rings_of}
-use Rattle.mob_plane.specs.Corners.{all_points, AreCorners, widened}
-use Rattle.mob_plane.proofs.Widening.{are_corners}
+use Rattle.mob_plane.{specs.Rings.{rings_of}, specs.Corners.{all_points, AreCorners, widened}, proofs.Widening.{are_corners}}
 use Rattle.mob_plane.proofs.polygons.Polygon.corners.Goals as goal
 
 pub returns : goal.returns

@@ -1,5 +1,4 @@
-use Rattle.mob_plane.specs.Rings.{rings_of}
-use Rattle.mob_plane.proofs.Counts.{is_inside}
+use Rattle.mob_plane.{specs.Rings.{rings_of}, proofs.Counts.{is_inside}}
 use Rattle.mob_plane.proofs.polygons.Polygon.has.Goals as goal
 
 pub returns : goal.returns

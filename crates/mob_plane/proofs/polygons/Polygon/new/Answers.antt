@@ -1,6 +1,5 @@
 use Rattle.std.proofs.Common.{rules, ◌≡◌, refl, true, false, sym, ◌∙◌, true≢false}
-use Rattle.mob_plane.specs.Rings.{rings_of, has_short, has_open, is_open_ring}
-use Rattle.mob_plane.proofs.RingTests.{any_of, sound_rings, open_rings}
+use Rattle.mob_plane.{specs.Rings.{rings_of, has_short, has_open, is_open_ring}, proofs.RingTests.{any_of, sound_rings, open_rings}}
 use Rattle.mob_plane.proofs.polygons.Polygon.new.Goals as goal
 
 pub returns-then-some_open-clause-open_ends : goal.returns-then-some_open-clause-open_ends

@@ -1,7 +1,6 @@
 use Rattle.std.proofs.Common.{subst, map}
-use Rattle.mob_rtree.specs.Shape.{Shape, AreUsedAgain}
+use Rattle.mob_rtree.{specs.Shape.{Shape, AreUsedAgain}, proofs.Shapes.{used_again}}
 use Rattle.mob_rtree_nodes.specs.Reach.{branch_of}
-use Rattle.mob_rtree.proofs.Shapes.{used_again}
 use Rattle.mob_rtree.proofs.tree.RTree.add_entry.Goals as goal
 
 pub returns-clause-again : goal.returns-clause-again

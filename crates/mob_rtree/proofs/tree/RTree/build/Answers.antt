@@ -1,6 +1,5 @@
 use Rattle.std.proofs.Common.{sym, subst, arith}
-use Rattle.mob_rtree_nodes.specs.Tree.{IsFree}
-use Rattle.mob_rtree_nodes.proofs.Frees.{free_none}
+use Rattle.mob_rtree_nodes.{specs.Tree.{IsFree}, proofs.Frees.{free_none}}
 use Rattle.mob_rtree.proofs.tree.RTree.build.Goals as goal
 
 pub invariant_of-result : goal.invariant_of-result

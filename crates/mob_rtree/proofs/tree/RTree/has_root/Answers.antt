@@ -1,10 +1,6 @@
-use Rattle.std.proofs.Common.{◌≡◌, subst}
-use Rattle.std.specs.Prelude.{All}
-use Rattle.mob_rtree.specs.Shape.{Shape, HasLeastBox, boxes_of}
-use Rattle.mob_rtree_nodes.specs.Tree.{ref}
-use Rattle.mob_rtree_nodes.specs.Reach.{HaveOneDepth}
-use Rattle.mob_rtree_nodes.proofs.Reaches.{leaves_level}
-use Rattle.mob_rtree.proofs.Shapes.{boxes_least, areas_are}
+use Rattle.std.{specs.Prelude.{All}, proofs.Common.{◌≡◌, subst}}
+use Rattle.mob_rtree.{specs.Shape.{Shape, HasLeastBox, boxes_of}, proofs.Shapes.{boxes_least, areas_are}}
+use Rattle.mob_rtree_nodes.{specs.Tree.{ref}, specs.Reach.{HaveOneDepth}, proofs.Reaches.{leaves_level}}
 use Rattle.mob_rtree.proofs.tree.RTree.has_root.Goals as goal
 
 pub returns-clause-areas : goal.returns-clause-areas

@@ -1,9 +1,6 @@
 use Rattle.std.proofs.Common.{◌∙◌, sym, subst, arith, ◌<◌, length}
 use Rattle.mob_rtree.specs.Shape.{Shape}
-use Rattle.mob_rtree_nodes.specs.Tree.{ref, AreSame}
-use Rattle.mob_rtree_nodes.specs.Reach.{entries_under}
-use Rattle.mob_rtree_nodes.proofs.Covers.{some_left}
-use Rattle.mob_rtree_nodes.proofs.Reaches.{root_gathers, some_entry}
+use Rattle.mob_rtree_nodes.{specs.Tree.{ref, AreSame}, specs.Reach.{entries_under}, proofs.Covers.{some_left}, proofs.Reaches.{root_gathers, some_entry}}
 use Rattle.mob_rtree.proofs.tree.RTree.root.Goals as goal
 
 pub returns-clause-none : goal.returns-clause-none

@@ -1,6 +1,4 @@
-use Rattle.std.proofs.Common.{◌≡◌, ℕ, List, ◌++◌, ◌∙◌, ap, subst}
-use Rattle.std.specs.Prelude.{OnOk, IsSorted}
-use Rattle.std.specs.Ordering.{nat_cmp}
+use Rattle.std.{specs.Prelude.{OnOk, IsSorted}, specs.Ordering.{nat_cmp}, proofs.Common.{◌≡◌, ℕ, List, ◌++◌, ◌∙◌, ap, subst}}
 use Rattle.mob_rtree.specs.Shape.{Shape}
 use Rattle.mob_rtree_nodes.specs.Tree.{entries_list, AreFound}
 use Rattle.mob_rtree.proofs.tree.RTree.search.Goals as goal

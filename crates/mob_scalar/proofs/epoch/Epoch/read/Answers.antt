@@ -1,8 +1,6 @@
 use Rattle.std.proofs.Common.{sym, subst, ◌∙◌}
 use Rattle.mob_language.proofs.Exact.{is_said, not_said}
-use Rattle.mob_scalar.specs.Calendar.{IsInYears}
-use Rattle.mob_scalar.proofs.Dates.{day_back, read_day}
-use Rattle.mob_scalar.proofs.MomentExact.{date_exact}
+use Rattle.mob_scalar.{specs.Calendar.{IsInYears}, proofs.Dates.{day_back, read_day}, proofs.MomentExact.{date_exact}}
 use Rattle.mob_scalar.proofs.epoch.Epoch.read.Goals as goal
 
 pub invariant_of-result : goal.invariant_of-result

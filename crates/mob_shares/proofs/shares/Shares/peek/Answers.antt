@@ -1,6 +1,5 @@
 use Rattle.std.proofs.Common.{sym, ◌∙◌}
-use Rattle.mob_shares.specs.Shares.{rest_of}
-use Rattle.mob_shares.proofs.Next.{alone_left, alone_right, none_left, of_heads, some_head}
+use Rattle.mob_shares.{specs.Shares.{rest_of}, proofs.Next.{alone_left, alone_right, none_left, of_heads, some_head}}
 use Rattle.mob_shares.proofs.shares.Shares.peek.Goals as goal
 
 pub returns-in_default-first : goal.returns-in_default-first

@@ -1,9 +1,7 @@
 use Rattle.std.proofs.Common.{rules, refl, inl, inr}
 use Rattle.mob_load.proofs.Steps.{keeps_same}
-use Rattle.mob_shell.proofs.DemoRun.{demo_ends}
-use Rattle.mob_shell.proofs.Settings.{few_ships}
+use Rattle.mob_shell.{proofs.DemoRun.{demo_ends}, proofs.Settings.{few_ships}, proofs.Whole.{asks_none, early_ends, keeps_all, keeps_names}}
 use Rattle.mob_outside.proofs.Known.{reads_none}
-use Rattle.mob_shell.proofs.Whole.{asks_none, early_ends, keeps_all, keeps_names}
 use Rattle.mob_shell.proofs.driver.decide.decide.Goals as goal
 
 pub returns-in-Ok-None : goal.returns-in-Ok-None

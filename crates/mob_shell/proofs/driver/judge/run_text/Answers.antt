@@ -2,11 +2,8 @@ use Rattle.std.proofs.Common.{rules, inl, inr}
 use Rattle.mob_outside.specs.EndsSeen.{files_seen, stream_seen}
 use Rattle.mob_typed.specs.Statements.{script_seen}
 use Rattle.mob_load.specs.Loads.{IsTypedScript}
-use Rattle.mob_shell.specs.Session.{SessionCanRun, SessionRuns}
+use Rattle.mob_shell.{specs.Session.{SessionCanRun, SessionRuns}, proofs.Runnable.{script_can}, proofs.Seen.{can_all, loaded_ends, unloaded_ends}, proofs.Whole.{asks_none, keeps_all, refused_says}}
 use Rattle.mob_statements.specs.Statements.{CanAllRun}
-use Rattle.mob_shell.proofs.Runnable.{script_can}
-use Rattle.mob_shell.proofs.Seen.{can_all, loaded_ends, unloaded_ends}
-use Rattle.mob_shell.proofs.Whole.{asks_none, keeps_all, refused_says}
 use Rattle.mob_shell.proofs.driver.judge.run_text.Goals as goal
 
 pub run_session-requires : goal.run_session-requires

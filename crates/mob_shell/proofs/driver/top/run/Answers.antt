@@ -1,5 +1,4 @@
-use Rattle.mob_shell.proofs.Due.{AreEndingLaws}
-use Rattle.mob_shell.proofs.Statuses.{is_run}
+use Rattle.mob_shell.{proofs.Due.{AreEndingLaws}, proofs.Statuses.{is_run}}
 use Rattle.mob_shell.proofs.driver.top.run.Goals as goal
 
 pub returns : goal.returns

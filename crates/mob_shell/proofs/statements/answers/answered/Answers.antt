@@ -1,13 +1,11 @@
-use Rattle.std.proofs.Common.{ℕ, List, inl, inr, Ok, Err, subst}
-use Rattle.std.proofs.lemmas.Result.{IfErr-weaker, MatchResult-weaker, err_from_is_err_and}
+use Rattle.std.{proofs.Common.{ℕ, List, inl, inr, Ok, Err, subst}, proofs.lemmas.Result.{IfErr-weaker, MatchResult-weaker, err_from_is_err_and}}
 use Rattle.mob_typed.specs.Selects.{select_seen}
 use Rattle.mob_eval.specs.QueryFaults.{TupleFault}
 use Rattle.mob_join.specs.Query.{IsKept}
 use Rattle.mob_tail.specs.Answers.{IsAnswerOnKept}
 use Rattle.mob_shell.specs.Answers.{QueryAnswers}
+use Rattle.mob_list.{specs.Faults.{OnCause}, proofs.Faults.{cause_weaker}}
 use Rattle.mob_shell.proofs.statements.answers.answered.Goals as goal
-use Rattle.mob_list.specs.Faults.{OnCause}
-use Rattle.mob_list.proofs.Faults.{cause_weaker}
 
 pub returns-in_err-kept-clause-fault : goal.returns-in_err-kept-clause-fault
 returns-in_err-kept-clause-fault g c =

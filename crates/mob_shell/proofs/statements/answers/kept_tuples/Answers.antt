@@ -1,8 +1,8 @@
 use Rattle.std.proofs.Common.{Ok, Err, IfOk, IfErr, subst}
 use Rattle.mob_typed.specs.Selects.{select_seen}
 use Rattle.mob_join.specs.Query.{IsKept}
-use Rattle.mob_shell.proofs.statements.answers.kept_tuples.Goals as goal
 use Rattle.mob_list.specs.Faults.{OnCause}
+use Rattle.mob_shell.proofs.statements.answers.kept_tuples.Goals as goal
 
 pub returns-clause-kept : goal.returns-clause-kept
 returns-clause-kept g c = subst (λ q. IfOk c.kept.result (λ kept. IsKept (select_seen q.select.now) q.catalog.now q.epoch.now (Ok kept))) c.new-query.ensures.parts c.kept.ensures.kept

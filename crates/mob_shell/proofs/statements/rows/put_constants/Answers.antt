@@ -1,7 +1,6 @@
 use Rattle.std.proofs.Common.{rules, ◌≡◌, ◌∙◌, ap}
 use Rattle.mob_catalog.specs.Catalogue.{Catalogue, with_row}
-use Rattle.mob_shell.specs.Runs.{inserted_row}
-use Rattle.mob_shell.proofs.Putting.{more_rows}
+use Rattle.mob_shell.{specs.Runs.{inserted_row}, proofs.Putting.{more_rows}}
 use Rattle.mob_shell.proofs.statements.rows.put_constants.Goals as goal
 
 pub loop-row-preserved : goal.loop-row-preserved

@@ -1,14 +1,10 @@
-use Rattle.std.proofs.Common.{rules, arith, ◌≡◌, sym, subst, true, false, ◌<◌, length, slice_index_or}
-use Rattle.std.proofs.lemmas.Grind.{common_steps}
+use Rattle.std.{proofs.Common.{rules, arith, ◌≡◌, sym, subst, true, false, ◌<◌, length, slice_index_or}, proofs.lemmas.Grind.{common_steps}}
 use Rattle.mob_span.specs.Span.{has}
-use Rattle.mob_slice.specs.Slices.{IsOrdered}
-use Rattle.mob_slice.proofs.Bisection.{at_end, at_next}
-use Rattle.mob_slice.proofs.LookUps.{where_found, where_missing}
-use Rattle.mob_slice.proofs.Orders.{ordered}
+use Rattle.mob_slice.{specs.Slices.{IsRisingInTime}, proofs.Bisection.{at_end, at_next}, proofs.LookUps.{where_found, where_missing}, proofs.Orders.{ordered}}
 use Rattle.mob_slice.proofs.moving.Moving.slice_at.Goals as goal
 
 pub past_count-past-requires : goal.past_count-past-requires
-past_count-past-requires g c = record { ordered = subst (λ v. IsOrdered g.C.Course.start_of g.C.Course.end_of v) (sym c.slices-slices.ensures.same) (ordered g.C.Course.start_of g.C.Course.end_of _ c.args.self.now c.slices-slices.ensures.normal.chained) }
+past_count-past-requires g c = record { ordered = subst (λ v. IsRisingInTime g.C.Course.start_of g.C.Course.end_of v) (sym c.slices-slices.ensures.same) (ordered g.C.Course.start_of g.C.Course.end_of _ c.args.self.now c.slices-slices.ensures.normal.chained) }
 
 pub returns-then-past-slices-clause-slice : goal.returns-then-past-slices-clause-slice
 returns-then-past-slices-clause-slice g c =
@@ -29,7 +25,7 @@ returns-then-has-clause-slice g c =
     let w = c.slices-slices.result.now in
     let k = c.past_count-past.result in
     let s = c.index-slices-past.result in
-    let o = subst (λ v. IsOrdered g.C.Course.start_of g.C.Course.end_of v) (sym c.slices-slices.ensures.same) (ordered g.C.Course.start_of g.C.Course.end_of _ c.args.self.now c.slices-slices.ensures.normal.chained) in
+    let o = subst (λ v. IsRisingInTime g.C.Course.start_of g.C.Course.end_of v) (sym c.slices-slices.ensures.same) (ordered g.C.Course.start_of g.C.Course.end_of _ c.args.self.now c.slices-slices.ensures.normal.chained) in
     let l : k < length w = first_of (search rules, grind (arith, common_steps)) in
     let i : slice_index_or w k s ≡ s = search rules in
     let h : has s.span c.args.t.now ≡ true = search rules in
@@ -43,7 +39,7 @@ returns-clause-slice g c =
     let w = c.slices-slices.result.now in
     let k = c.past_count-past.result in
     let s = c.index-slices-past.result in
-    let o = subst (λ v. IsOrdered g.C.Course.start_of g.C.Course.end_of v) (sym c.slices-slices.ensures.same) (ordered g.C.Course.start_of g.C.Course.end_of _ c.args.self.now c.slices-slices.ensures.normal.chained) in
+    let o = subst (λ v. IsRisingInTime g.C.Course.start_of g.C.Course.end_of v) (sym c.slices-slices.ensures.same) (ordered g.C.Course.start_of g.C.Course.end_of _ c.args.self.now c.slices-slices.ensures.normal.chained) in
     let l : k < length w = first_of (search rules, grind (arith, common_steps)) in
     let i : slice_index_or w k s ≡ s = search rules in
     let h : has s.span c.args.t.now ≡ false = search rules in

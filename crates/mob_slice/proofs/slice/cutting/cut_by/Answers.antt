@@ -1,6 +1,5 @@
 use Rattle.std.proofs.Common.{refl}
-use Rattle.mob_slice.proofs.Cuts.{first_fault}
-use Rattle.mob_slice.specs.Cut.{slice_parts}
+use Rattle.mob_slice.{specs.Cut.{slice_parts}, proofs.Cuts.{first_fault}}
 use Rattle.mob_slice.proofs.slice.cutting.cut_by.Goals as goal
 
 pub cut_from-requires : goal.cut_from-requires

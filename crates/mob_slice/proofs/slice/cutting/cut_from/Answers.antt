@@ -1,6 +1,5 @@
 use Rattle.std.proofs.Common.{refl}
-use Rattle.mob_slice.proofs.Cuts.{high_after, high_until, second_fault, both_fit, at_of, can_cut, cut_is}
-use Rattle.mob_slice.specs.Cut.{slice_parts}
+use Rattle.mob_slice.{specs.Cut.{slice_parts}, proofs.Cuts.{high_after, high_until, second_fault, both_fit, at_of, can_cut, cut_is}}
 use Rattle.mob_slice.proofs.slice.cutting.cut_from.Goals as goal
 
 pub limit-requires-clause-after : goal.limit-requires-clause-after

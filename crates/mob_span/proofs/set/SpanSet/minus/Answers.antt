@@ -1,9 +1,5 @@
-use Rattle.std.proofs.Common.{rules, ap, sym, subst, ◌∙◌, IfOk}
-use Rattle.std.proofs.lemmas.Result.{IfOk-weaker}
-use Rattle.mob_span.specs.Remainders.{AreRemainders, IsInFirstAlone}
-use Rattle.mob_span.specs.Sets.{in_some}
-use Rattle.mob_span.proofs.Leaving.{set_clear}
-use Rattle.mob_span.proofs.Hulls.{minus_same, minus_nothing}
+use Rattle.std.{proofs.Common.{rules, ap, sym, subst, ◌∙◌, IfOk}, proofs.lemmas.Result.{IfOk-weaker}}
+use Rattle.mob_span.{specs.Remainders.{AreRemainders, IsInFirstAlone}, specs.Sets.{in_some}, proofs.Leaving.{set_clear}, proofs.Hulls.{minus_same, minus_nothing}}
 use Rattle.mob_span.proofs.set.SpanSet.minus.Goals as goal
 
 pub whole-requires : goal.whole-requires

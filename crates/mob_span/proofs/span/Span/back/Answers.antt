@@ -1,6 +1,4 @@
-use Rattle.mob_span.specs.Span.{SpanOf}
-use Rattle.mob_span.proofs.Leaving.{back_answers}
-use Rattle.mob_span.proofs.span.Span.back.Goals.{then-is_clear, else-is_clear}
+use Rattle.mob_span.{specs.Span.{SpanOf}, proofs.Leaving.{back_answers}, proofs.span.Span.back.Goals.{then-is_clear, else-is_clear}}
 use Rattle.mob_span.proofs.span.Span.back.Goals as goal
 
 pub returns : goal.returns

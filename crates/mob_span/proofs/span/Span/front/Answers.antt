@@ -1,6 +1,4 @@
-use Rattle.mob_span.specs.Span.{SpanOf}
-use Rattle.mob_span.proofs.Leaving.{front_answers}
-use Rattle.mob_span.proofs.span.Span.front.Goals.{then-is_clear, else-is_clear}
+use Rattle.mob_span.{specs.Span.{SpanOf}, proofs.Leaving.{front_answers}, proofs.span.Span.front.Goals.{then-is_clear, else-is_clear}}
 use Rattle.mob_span.proofs.span.Span.front.Goals as goal
 
 pub returns : goal.returns

@@ -1,11 +1,7 @@
-use Rattle.std.proofs.Common.{◌≡◌, [], sym, ◌∙◌, subst, true, false}
-use Rattle.std.proofs.lemmas.List.{nil_from_length}
-use Rattle.mob_span.specs.Walk.{meets_left, CanWalk}
-use Rattle.mob_span.specs.Meet.{meet_of}
-use Rattle.mob_span.specs.Span.{has_instant}
-use Rattle.mob_span.proofs.Shared.{none_left, progress, given_left, given_right, passed_left, passed_right}
-use Rattle.mob_span.proofs.walk.SharedPiecesIterator.next.Goals as goal
+use Rattle.std.{proofs.Common.{◌≡◌, [], sym, ◌∙◌, subst, true, false}, proofs.lemmas.List.{nil_from_length}}
+use Rattle.mob_span.{specs.Walk.{meets_left, CanWalk}, specs.Meet.{meet_of}, specs.Span.{has_instant}, proofs.Shared.{none_left, progress, given_left, given_right, passed_left, passed_right}}
 use Rattle.mob_span.proofs.walk.SharedPiecesIterator.next.Goals.{then-ends_before, else-ends_before}
+use Rattle.mob_span.proofs.walk.SharedPiecesIterator.next.Goals as goal
 
 pub returns-in_default-split_first-clause-steps : goal.returns-in_default-split_first-clause-steps
 returns-in_default-split_first-clause-steps g c =

@@ -1,6 +1,5 @@
 use Rattle.std.proofs.Common.{◌≡◌, ◌+◌, length}
-use Rattle.mob_span.specs.Pieces.{PiecesAreClear}
-use Rattle.mob_span.specs.Walk.{meets_left}
+use Rattle.mob_span.{specs.Pieces.{PiecesAreClear}, specs.Walk.{meets_left}}
 use Rattle.mob_span.proofs.walk.SharedPiecesIterator.next.Given as goal
 
 abbrev pub invariant-walk : goal.invariant-walk

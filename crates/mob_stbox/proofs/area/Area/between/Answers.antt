@@ -1,6 +1,5 @@
 use Rattle.std.proofs.Common.{rules, ◌≡◌, true, subst}
-use Rattle.mob_stbox.specs.Areas.{is_area, IsAreaOver}
-use Rattle.mob_stbox.proofs.Sides.{between_is_area, between_is_over}
+use Rattle.mob_stbox.{specs.Areas.{is_area, IsAreaOver}, proofs.Sides.{between_is_area, between_is_over}}
 use Rattle.mob_stbox.proofs.area.Area.between.Goals as goal
 
 pub returns-clause-area : goal.returns-clause-area

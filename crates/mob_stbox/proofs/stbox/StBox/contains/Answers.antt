@@ -1,6 +1,5 @@
 use Rattle.std.proofs.Common.{rules, ◌≡◌, true, subst}
-use Rattle.mob_stbox.specs.Boxes.{contains, is_box}
-use Rattle.mob_stbox.proofs.BoxLaws.{contains_exact_as}
+use Rattle.mob_stbox.{specs.Boxes.{contains, is_box}, proofs.BoxLaws.{contains_exact_as}}
 use Rattle.mob_stbox.proofs.stbox.StBox.contains.Goals as goal
 
 pub returns-then-is_space_over-clause-exact : goal.returns-then-is_space_over-clause-exact

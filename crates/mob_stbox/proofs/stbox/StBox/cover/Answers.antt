@@ -1,6 +1,5 @@
 use Rattle.std.proofs.Common.{rules, ◌≡◌, true, subst, sym}
-use Rattle.mob_stbox.specs.Boxes.{cover, is_box}
-use Rattle.mob_stbox.proofs.BoxLaws.{cover_is_as, cover_is_box}
+use Rattle.mob_stbox.{specs.Boxes.{cover, is_box}, proofs.BoxLaws.{cover_is_as, cover_is_box}}
 use Rattle.mob_stbox.proofs.stbox.StBox.cover.Goals as goal
 
 pub invariant_of-result : goal.invariant_of-result

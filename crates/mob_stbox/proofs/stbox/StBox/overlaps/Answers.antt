@@ -1,6 +1,5 @@
 use Rattle.std.proofs.Common.{rules, ◌≡◌, true, subst}
-use Rattle.mob_stbox.specs.Boxes.{overlaps, is_box}
-use Rattle.mob_stbox.proofs.BoxLaws.{overlaps_exact_as}
+use Rattle.mob_stbox.{specs.Boxes.{overlaps, is_box}, proofs.BoxLaws.{overlaps_exact_as}}
 use Rattle.mob_stbox.proofs.stbox.StBox.overlaps.Goals as goal
 
 pub returns-then-spaces_meet-clause-exact : goal.returns-then-spaces_meet-clause-exact

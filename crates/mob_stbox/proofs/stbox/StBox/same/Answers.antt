@@ -1,6 +1,5 @@
 use Rattle.std.proofs.Common.{rules}
-use Rattle.mob_stbox.specs.Boxes.{same_box}
-use Rattle.mob_stbox.specs.SameBoxes.{same_box_exact_as}
+use Rattle.mob_stbox.{specs.Boxes.{same_box}, specs.SameBoxes.{same_box_exact_as}}
 use Rattle.mob_stbox.proofs.stbox.StBox.same.Goals as goal
 
 pub returns-then-is_same_space-clause-exact : goal.returns-then-is_same_space-clause-exact

@@ -1,5 +1,4 @@
-use Rattle.std.proofs.Common.{refl}
-use Rattle.std.proofs.lemmas.Bool.{and_from}
+use Rattle.std.{proofs.Common.{refl}, proofs.lemmas.Bool.{and_from}}
 use Rattle.mob_stbox.proofs.BoxLaws.{point_is_area}
 use Rattle.mob_stbox.proofs.stbox.StBoxDefault.default.Goals as goal
 

@@ -1,7 +1,5 @@
 use Rattle.std.proofs.Common.{rules, ◌≡◌, ◌↔◌, ◌∙◌, Bool, true, false, true≢false, inl, inr, refl, sym}
-use Rattle.mob_ratio.specs.Ratio.{Ratio, ◌<ℚ◌, ◌≤ℚ◌}
-use Rattle.mob_ratio.specs.Sign.{nil}
-use Rattle.mob_ratio.proofs.Field.{cases_lt, not_both}
+use Rattle.mob_ratio.{specs.Ratio.{Ratio, ◌<ℚ◌, ◌≤ℚ◌}, specs.Sign.{nil}, proofs.Field.{cases_lt, not_both}}
 use Rattle.mob_tile.proofs.grid.Grid.new.Goals as goal
 
 refused : (x : Ratio) (b : Bool) → (b ≡ true) ↔ (nil <ℚ x) → b ≡ false → x ≤ℚ nil

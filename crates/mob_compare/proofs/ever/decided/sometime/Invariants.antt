@@ -1,0 +1,14 @@
+use Rattle.mob_lift.{specs.Pieces.{pieces_left}, specs.Sometime.{either}, proofs.Walking.{IsWalking}}
+use Rattle.mob_slice.specs.Sides.{operand_of, pieces, HoldsPiece}
+use Rattle.std.specs.List.{AllByRecursion}
+use Rattle.mob_cells.specs.Gaps.{entries_of_ends}
+use Rattle.mob_compare.specs.Met.{piece_meets}
+use Rattle.mob_compare.proofs.ever.decided.sometime.Given as goal
+
+abbrev pub invariant-loop-piece : goal.invariant-loop-piece
+invariant-loop-piece g l = record {
+  goes : (goal.iterator-loop-piece g).can_next l.piece-iterator;
+  ends : (goal.iterator-loop-piece g).is_finite l.piece-iterator;
+  hold : AllByRecursion (HoldsPiece g.C.Course.start_of g.C.Course.end_of g.C.Course.start_of g.C.Course.end_of) (pieces_left l.piece-iterator);
+  walking : IsWalking either (piece_meets g.C.Course.STEADY g.C.Course.value_of g.C.Course.start_of g.C.Compared.relation g.C.Compared.gaps_of l.rel l.want) (entries_of_ends g.C.Course.value_of g.C.Course.parts_of g.C.Compared.gaps_of) (pieces (operand_of l.fn.a) (operand_of l.fn.b)) (pieces_left l.piece-iterator) l.found;
+}

@@ -1,7 +1,0 @@
-use Rattle.std.proofs.lemmas.Result.{IfOk-weaker}
-use Rattle.mob_slice.specs.Sides.{operand_of, given_at}
-use Rattle.mob_ever.proofs.Answering.{ever_is}
-use Rattle.mob_ever.proofs.decided.ever.Goals as goal
-
-pub returns-clause-value : goal.returns-clause-value
-returns-clause-value g c = IfOk-weaker c.sometime.result _ _ (λ r h. ever_is (g.C.Compared.relation c.args.rel) (given_at g.C.Course.value_of (operand_of c.args.a)) (given_at g.C.Course.value_of (operand_of c.args.b)) r h) c.sometime.ensures.value

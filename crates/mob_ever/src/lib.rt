@@ -1,8 +1,0 @@
-//! Whether a comparison of two temporal values holds at some instant, or at every one.
-#![tactic(auto)]
-
-mod decided;
-mod piece;
-mod taken;
-
-pub use decided::{always, ever};

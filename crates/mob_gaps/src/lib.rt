@@ -1,8 +1,0 @@
-//! The gap of two boxes: a lower bound of the squared distance of their contents.
-#![tactic(auto)]
-
-mod kind;
-pub mod laws;
-pub mod measure;
-
-pub use kind::Gap;

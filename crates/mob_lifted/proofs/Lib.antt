@@ -1,4 +1,0 @@
-pub mod Making
-pub mod OnOnePiece
-pub mod Options
-pub mod Firsts

@@ -1,4 +1,0 @@
-pub mod Convex
-pub mod Tests
-pub mod Absolute
-pub mod Examples

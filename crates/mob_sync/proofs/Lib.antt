@@ -1,4 +1,0 @@
-mod Wholes
-mod Beside
-pub mod OneFunction
-pub mod Kept

@@ -1,7 +1,0 @@
-use Rattle.mob_list.proofs.Changing.{AreChanged}
-use Rattle.mob_eval.specs.Views.{scene_of}
-use Rattle.mob_tail.specs.GroupSteps.{IsCellWith}
-use Rattle.mob_tail.proofs.group_cells.cells_with.Given as goal
-
-abbrev pub invariant-loop-number : goal.invariant-loop-number
-invariant-loop-number l = AreChanged (IsCellWith (scene_of l.view) l.is_first) l.number l.fn.cells.items l.cells.items

@@ -1,5 +1,0 @@
-use Rattle.mob_words.proofs.OneSetting.{one_setting}
-use Rattle.mob_words.proofs.laws.one_setting.Goals as goal
-
-pub returns : goal.returns
-returns c = record { setting = one_setting }
