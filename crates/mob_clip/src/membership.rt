@@ -197,7 +197,11 @@ fn two_signs(
 }
 
 // The signs of the differences to both ends of an edge.
-fn end_signs(alloc: Global, span: &Span, edge: &EdgePlaced) -> Result<Timeline<EdgeSigns>, AllocError>
+fn end_signs(
+    alloc: Global,
+    span: &Span,
+    edge: &EdgePlaced,
+) -> Result<Timeline<EdgeSigns>, AllocError>
     requires placed { IsPlacedEdge span.now edge.now }
     ensures values { IfOk result (λ s. (t : Ratio) → has span.now t ≡ true → timeline_at s t ≡ signs_beside span.now t edge.now) }
     ensures fit { IfOk result (λ s. WhereEndsFit span.now (λ parts. CutsFit parts edge.now → ChangesFit parts s.changes.items)) }
@@ -222,7 +226,11 @@ fn end_signs(alloc: Global, span: &Span, edge: &EdgePlaced) -> Result<Timeline<E
 }
 
 // The signs of an edge.
-fn edge_signs(alloc: Global, span: &Span, edge: &EdgePlaced) -> Result<Timeline<EdgeSigns>, AllocError>
+fn edge_signs(
+    alloc: Global,
+    span: &Span,
+    edge: &EdgePlaced,
+) -> Result<Timeline<EdgeSigns>, AllocError>
     requires placed { IsPlacedEdge span.now edge.now }
     ensures values { IfOk result (λ s. (t : Ratio) → has span.now t ≡ true → timeline_at s t ≡ signs_on span.now t edge.now) }
     ensures fit { IfOk result (λ s. WhereEndsFit span.now (λ parts. CutsFit parts edge.now → ChangesFit parts s.changes.items)) }

@@ -133,7 +133,11 @@ fn meet<T: Mix>(
 }
 
 /// The mix of two at each instant. The only error is a failed allocation.
-pub fn merged<T: Mix>(alloc: Global, a: &Timeline<T>, b: &Timeline<T>) -> Result<Timeline<T>, AllocError>
+pub fn merged<T: Mix>(
+    alloc: Global,
+    a: &Timeline<T>,
+    b: &Timeline<T>,
+) -> Result<Timeline<T>, AllocError>
     ensures values { IfOk result (λ m. (t : Ratio) → timeline_at m t ≡ T.mix (timeline_at a.now t) (timeline_at b.now t)) }
     ensures fit { IfOk result (λ m. (parts : Ratio → List Ratio) → ChangesFit parts a.now.changes.items → ChangesFit parts b.now.changes.items → ChangesFit parts m.changes.items) }
 {

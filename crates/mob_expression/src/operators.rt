@@ -206,7 +206,13 @@ fn operator_of(
 {
     match node {
         Node::Call(name) => operated(Spelling::Call, name.as_str(), place, None, types),
-        Node::Sign(sign) => operated(Spelling::Sign, sign.as_str(), place, divisor_of(args), types),
+        Node::Sign(sign) => operated(
+            Spelling::Sign,
+            sign.as_str(),
+            place,
+            divisor_of(args),
+            types,
+        ),
         Node::Cast(word) => cast(word, place, types),
         Node::Not => operated(Spelling::Word, "not", place, None, types),
         Node::And => operated(Spelling::Word, "and", place, None, types),

@@ -2,7 +2,7 @@
 
 use mob_ast::{Cmp, SqlType};
 use mob_operators::{
-    AggKind, Spelling, Op, aggregate_row, is_aggregate, is_function, is_irrational, operator_for,
+    AggKind, Op, Spelling, aggregate_row, is_aggregate, is_function, is_irrational, operator_for,
 };
 
 type Expected = (
@@ -378,8 +378,20 @@ static REFUSED: [Expected; 34] = [
         false,
         None,
     ),
-    (Spelling::Sign, "+", &[SqlType::Int, SqlType::Text], false, None),
-    (Spelling::Sign, "/", &[SqlType::Int, SqlType::Int], false, None),
+    (
+        Spelling::Sign,
+        "+",
+        &[SqlType::Int, SqlType::Text],
+        false,
+        None,
+    ),
+    (
+        Spelling::Sign,
+        "/",
+        &[SqlType::Int, SqlType::Int],
+        false,
+        None,
+    ),
     (Spelling::Sign, "-", &[SqlType::TInt], false, None),
     (
         Spelling::Sign,
@@ -388,7 +400,13 @@ static REFUSED: [Expected; 34] = [
         false,
         None,
     ),
-    (Spelling::Sign, "/", &[SqlType::TInt, SqlType::TInt], true, None),
+    (
+        Spelling::Sign,
+        "/",
+        &[SqlType::TInt, SqlType::TInt],
+        true,
+        None,
+    ),
     (
         Spelling::Sign,
         "||",

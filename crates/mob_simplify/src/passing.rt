@@ -162,7 +162,13 @@ fn length_within(v: &Point, limit: &Limit) -> Result<bool, Overflow>
 }
 
 // Whether the straight course from `p` to `n` is within the limit of the break `b`.
-fn is_near(p: &Break, n: &Break, reach: &CourseExtent, b: &Break, limit: &Limit) -> Result<bool, Formula>
+fn is_near(
+    p: &Break,
+    n: &Break,
+    reach: &CourseExtent,
+    b: &Break,
+    limit: &Limit,
+) -> Result<bool, Formula>
     requires reach { IsBreakReach p.now n.now reach.now }
     requires square { IsSquared limit.now }
     requires after { before p.now.instant b.now.instant ≡ true }

@@ -23,7 +23,10 @@ fn ending_of(fault: PairFault) -> TripsEnding
     ensures ending { TileEndsAt fault result }
 {
     match fault {
-        Fault::Because(PairCause::Passed { rows, formula }) => TripsEnding::Overflow { rows, formula },
+        Fault::Because(PairCause::Passed { rows, formula }) => TripsEnding::Overflow {
+            rows,
+            formula,
+        },
         Fault::Because(PairCause::Limit { row }) => TripsEnding::RowsRefused {
             rows: Tuple::new().with(row),
         },

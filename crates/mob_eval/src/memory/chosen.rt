@@ -166,7 +166,13 @@ fn wider(one: NamedPlaces, other: NamedPlaces) -> NamedPlaces {
     match (one, other) {
         (NamedPlaces::Nowhere, reach) => reach,
         (reach, NamedPlaces::Nowhere) => reach,
-        (NamedPlaces::At(a), NamedPlaces::At(b)) => { if a == b { NamedPlaces::At(a) } else { NamedPlaces::Far } }
+        (NamedPlaces::At(a), NamedPlaces::At(b)) => {
+            if a == b {
+                NamedPlaces::At(a)
+            } else {
+                NamedPlaces::Far
+            }
+        }
         _ => NamedPlaces::Far,
     }
 }
@@ -334,7 +340,13 @@ fn remember_one<K: Remembering>(
                 Remembered::Outcome => {
                     remember(alloc, chosen.at, chosen.place, rows, &mut memory.slots)
                 }
-                Remembered::Box => remember(alloc, chosen.at, chosen.place, rows, &mut memory.boxes),
+                Remembered::Box => remember(
+                    alloc,
+                    chosen.at,
+                    chosen.place,
+                    rows,
+                    &mut memory.boxes,
+                ),
             }
         }
         _ => Ok(()),
