@@ -2,7 +2,6 @@ pub mod Distances
 pub mod Approaches
 pub mod Entries
 pub mod Legs
-pub mod Broad
 pub mod Wide
 pub mod Covers
 pub mod Known

@@ -1,14 +1,9 @@
 -- The entries of nearness in the two modes.
-use Rattle.std.specs.Prelude.{◌≡◌, List, [], ◌∷◌, Option, Some, None, Result, MatchResult}
+use Rattle.std.specs.Prelude.{List, [], ◌∷◌, Option, Some, None}
 use Rattle.std.specs.List.{flat_map}
 use Rattle.mob_ratio.specs.Ratio.{Ratio}
-use Rattle.mob_frac.specs.Fits.{Fits}
-use Rattle.mob_list.specs.Faults.{OnCause}
-use Rattle.mob_list.specs.declared.fault.Fault.{Fault}
 use Rattle.mob_slice.specs.Entries.{Entry}
 use Rattle.mob_slice.specs.Modes.{by_mode, entry_given}
-use Rattle.mob_slice.specs.declared.formula.Formula.{Formula}
-use Rattle.mob_slice.specs.declared.formula.Formula.TheVariants.{Given}
 use Rattle.mob_slice.specs.declared.mode.Mode.{Mode}
 use Rattle.mob_cells.specs.Roots.{as_list}
 use Rattle.mob_near.specs.Entries.{PointPiece, entries_of_within, entries_of_approach}
@@ -26,7 +21,3 @@ least_approach (p ∷ ps) = Some (nearest_of (least_approach ps) (piece_approach
 -- the nearest approach: in the wide mode the number that is given has to fit, once for all pieces
 abbrev pub approach_entries_in : Mode → List PointPiece → List Entry
 approach_entries_in mode ps = by_mode mode (flat_map entries_of_approach ps) (entry_given (as_list (least_approach ps)))
-
--- the number, if it fits, or else the fault that it does not
-abbrev pub IsGivenOf : Ratio → Result (Option Ratio) (Fault Formula) → Type 0
-IsGivenOf m r = MatchResult r (λ o. (o ≡ Some m) × Fits m) (OnCause (λ f. (f ≡ Given) × (¬ Fits m)))
