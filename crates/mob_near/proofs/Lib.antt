@@ -3,7 +3,6 @@ pub mod Place
 pub mod OnPieces
 pub mod AllNearest
 pub mod Judging
-pub mod Narrowing
 pub mod Answering
 pub mod OneApproach
 pub mod Examples
