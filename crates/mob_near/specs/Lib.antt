@@ -2,8 +2,5 @@ pub mod Distances
 pub mod Approaches
 pub mod Entries
 pub mod Legs
-pub mod Broad
-pub mod Wide
-pub mod Covers
 pub mod Known
 pub mod Sql

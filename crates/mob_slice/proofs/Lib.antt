@@ -2,7 +2,6 @@ pub mod Bisection
 pub mod Cuts
 pub mod Examples
 pub mod Firsts
-pub mod Narrowing
 pub mod LookUps
 pub mod OneAt
 pub mod Orders

@@ -31,7 +31,6 @@ pub fn values_in<'a>(alloc: Global, words: &'a [String]) -> Result<Option<Values
         alloc,
         "mobtile",
         &["size", "width", "near", "workers", "epoch"],
-        &[],
         words,
     )?
     else {
