@@ -1,0 +1,106 @@
+"""Projections: from degrees to metres, and back.
+
+By name PROJ projects, through pyproj. Around a point the equirectangular formula does, on a sphere
+of 6,371,000 metres: x = (longitude - LON) * cos(LAT), y = latitude - LAT, in radians of arc.
+"""
+import argparse
+import re
+from fractions import Fraction
+from math import cos, hypot, isfinite, radians
+
+from .command import Refused
+from .numbers import NANO, NUMBER, number
+
+METRES_OF_DEGREE = radians(6_371_000)
+INSTALL = ("--project needs pyproj (Debian: python3-pyproj; else pip install pyproj); "
+           "without it use --around LAT,LON")
+
+
+class Around:
+    """The equirectangular projection around a point."""
+
+    def __init__(self, text):
+        parts = text.split(",")
+        if len(parts) != 2 or not all(NUMBER.fullmatch(it) for it in parts):
+            raise argparse.ArgumentTypeError("a latitude and a longitude such as 55.7,12.6")
+        self.name = text
+        self.lat, self.lon = (float(Fraction(it)) for it in parts)
+        if not abs(self.lat) < 89 or not abs(self.lon) <= 180:
+            raise argparse.ArgumentTypeError("a latitude within 89 and a longitude within 180")
+        self.wide = METRES_OF_DEGREE * cos(radians(self.lat))
+
+    def forward(self, lons, lats):
+        """The metres east and north of the point."""
+        return ([((it - self.lon + 180) % 360 - 180) * self.wide for it in lons],
+                [(it - self.lat) * METRES_OF_DEGREE for it in lats])
+
+    def back(self, xs, ys):
+        return ([(self.lon + it / self.wide + 180) % 360 - 180 for it in xs],
+                [self.lat + it / METRES_OF_DEGREE for it in ys])
+
+    def note(self, places):
+        """How far from the point some places are."""
+        far = max((hypot(x, y) for x, y in places), default=0)
+        return f"the farthest place is {far / 1000 / NANO:.1f} km from {self.name}"
+
+
+class Projected:
+    """A projection that PROJ knows. `utm32` is short for zone 32 of the northern hemisphere, with
+    the ellipsoid of GPS; `utm32s` for the southern one."""
+
+    def __init__(self, text):
+        try:
+            import pyproj
+        except ImportError as fault:
+            raise argparse.ArgumentTypeError(INSTALL) from fault
+        self.name, self.pyproj = text, pyproj
+        zone = re.fullmatch(r"utm([1-9]|[1-5]\d|60)([ns]?)", text, re.ASCII | re.IGNORECASE)
+        south = zone and zone[2].lower() == "s"
+        name = f"EPSG:{(32700 if south else 32600) + int(zone[1])}" if zone else text
+        try:
+            self.used = pyproj.Transformer.from_crs("EPSG:4326", name, always_xy=True)
+            if not pyproj.CRS(name).is_projected:
+                raise argparse.ArgumentTypeError("this is no projection to metres")
+        except pyproj.exceptions.ProjError as fault:
+            raise argparse.ArgumentTypeError("PROJ knows no projection of this name") from fault
+
+    def forward(self, lons, lats):
+        return tuple(map(list, self.used.transform(list(lons), list(lats))))
+
+    def back(self, xs, ys):
+        inverse = self.pyproj.enums.TransformDirection.INVERSE
+        return tuple(map(list, self.used.transform(list(xs), list(ys), direction=inverse)))
+
+    def note(self, _places):
+        return f"projected to {self.name}"
+
+
+def add_projection(parser, to):
+    """The options --project and --around."""
+    group = parser.add_mutually_exclusive_group()
+    group.add_argument("--project", metavar="NAME", type=Projected, dest="projection",
+                       help=f"{to} by PROJ: utm32, EPSG:25832, ..; needs pyproj")
+    group.add_argument("--around", metavar="LAT,LON", type=Around, dest="projection",
+                       help=f"{to} around a point, for an area of some 20 km")
+    return group
+
+
+def are_degrees(x, y):
+    """Whether two numbers, a thousand million times, may be a longitude and a latitude."""
+    return abs(x) <= 180 * NANO and abs(y) <= 90 * NANO
+
+
+def degree(value, most):
+    """A longitude or latitude, of its text or as it is."""
+    if isinstance(value, str):
+        value = float(Fraction(value) if "/" in number(value) else value)
+    if not -most <= value <= most:
+        raise Refused(f"no degrees: {value}")
+    return value
+
+
+def to_nano(metres):
+    """A projected length, a thousand million times."""
+    if not isfinite(metres):
+        raise Refused("a place that the projection does not have")
+    return round(metres * NANO)
