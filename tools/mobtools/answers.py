@@ -8,7 +8,7 @@ from .command import Refused
 from .texts import is_text
 from .times import seconds_of
 
-NUMBER = r"-?\d+(?:/\d+)?"
+NUMBER = r"-?(?:0|[1-9]\d*)(?:/[1-9]\d*)?"
 MOMENT = r"(\d{4}-\d\d-\d\d \d\d:\d\d:\d\d(?:\.\d+)?)(?:\((\d+)/(\d+)\))?\+00"
 POINT = re.compile(rf"POINT\(({NUMBER}) ({NUMBER})\)")
 RING = re.compile(rf"\({NUMBER} {NUMBER}(?:,{NUMBER} {NUMBER})+\)")
