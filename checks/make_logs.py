@@ -34,8 +34,8 @@ def scene():
     chance = random.Random(70)
     tracks = {}
     for number, ship in enumerate(SHIPS):
-        fixed = {0: (chance.randrange(-1500, 1500) * 2, chance.randrange(-1500, 1500) * 2),
-                 REPORTS - 1: (chance.randrange(-1500, 1500) * 2, chance.randrange(-1500, 1500) * 2)}
+        fixed = {at: (chance.randrange(-1500, 1500) * 2, chance.randrange(-1500, 1500) * 2)
+                 for at in (0, REPORTS - 1)}
         for one, other, at, (x, y), (east, north) in MEETINGS:
             if number == one:
                 fixed[at] = x, y
@@ -53,7 +53,8 @@ def between(fixed):
         (x, y), (next_x, next_y) = fixed[first], fixed[last]
         for at in range(first, last):
             part = (at - first) / (last - first)
-            yield at, (x + round((next_x - x) * part / 2) * 2, y + round((next_y - y) * part / 2) * 2)
+            yield at, (x + round((next_x - x) * part / 2) * 2,
+                       y + round((next_y - y) * part / 2) * 2)
     yield known[-1], fixed[known[-1]]
 
 
@@ -98,7 +99,8 @@ def ais_line(kind, ship, second, x, y, speed="10.0"):
     if kind == "broken":
         clock = "soon"
     return (f"05/05/2026 {clock},Class A,{ship},{lat:.7f},{lon:.7f},Under way using engine,0.0,"
-            f"{speed},45.0,44,Unknown,Unknown,Unknown,Cargo,,10,80,GPS,3.0,\"KOEGE, DK\",,AIS,40,40,5,5")
+            f"{speed},45.0,44,Unknown,Unknown,Unknown,Cargo,,10,80,GPS,3.0,\"KOEGE, DK\",,AIS,"
+            "40,40,5,5")
 
 
 def write_ais(path, tracks):
@@ -199,7 +201,8 @@ def write_gtfs(folder, tracks):
                if it[0] // STEP % 2 and all(2 * now == one + other for one, now, other
                                             in zip(before, it, after))}
     spoilt_at = {it[1:3] for it in reports if it[0] != "good"}
-    busy = {(ship, second + more) for ship, second in spoilt_at for more in (-80, -60, -20, 0, 40, 60)}
+    busy = {(ship, second + more) for ship, second in spoilt_at
+            for more in (-80, -60, -20, 0, 40, 60)}
     for number, (kind, ship, second, x, y) in enumerate(reports, 1):
         stop = "nowhere" if kind == "broken" else stops.setdefault((x, y), f"s{len(stops)}")
         time = clock_of(second + 26 * 3600)
@@ -208,7 +211,8 @@ def write_gtfs(folder, tracks):
         lines.append((kind, ship, second, (ship, time, time, stop, number)))
     lines = shuffle(lines)
     write_table(f"{folder}/stop_times.txt",
-                "trip_id,arrival_time,departure_time,stop_id,stop_sequence", [it[3] for it in lines])
+                "trip_id,arrival_time,departure_time,stop_id,stop_sequence",
+                [it[3] for it in lines])
     write_table(f"{folder}/stops.txt", "stop_lat,stop_lon,stop_id,stop_name",
                 [(*(f"{it:.7f}" for it in degrees(*place)), stop, '"Pier ""1"""')
                  for place, stop in stops.items()])

@@ -63,7 +63,8 @@ class Bars:
         for number, (label, spans, colour) in enumerate(self.rows):
             y = self.TOP + 6 + self.ROW * number
             if spans is None:
-                shapes.append(text(12, y + 14, label.replace("_", " "), "#333", ' font-weight="bold"'))
+                shapes.append(text(12, y + 14, label.replace("_", " "), "#333",
+                                   ' font-weight="bold"'))
             else:
                 shapes.append(text(self.times.margin - 16, y + 14, label, "#333",
                                    ' text-anchor="end"'))

@@ -5,6 +5,7 @@ from fractions import Fraction
 from html import escape
 from math import hypot
 
+from .answers import NULL, plain
 from .times import days
 
 COLOURS = ("#1f5a94", "#2f7d4f", "#8a5a12", "#6a4c93", "#3b7a8c", "#7a3b5c", "#55702b", "#444444")
@@ -25,7 +26,8 @@ def shown_text(text):
 
 
 def text(x, y, shown, colour="#333", more=""):
-    return f'<text x="{round(x, 1)}" y="{round(y, 1)}" fill="{colour}"{more}>{shown_text(shown)}</text>'
+    where = f'x="{round(x, 1)}" y="{round(y, 1)}"'
+    return f'<text {where} fill="{colour}"{more}>{shown_text(shown)}</text>'
 
 
 def arrow(begin, end, colour):
@@ -52,8 +54,8 @@ def dot(x, y, colour, radius=3.5):
 
 
 def box(x, y, wide, high, colour, more=""):
-    sizes = f'x="{round(x, 1)}" y="{round(y, 1)}" width="{round(wide, 1)}" height="{round(high, 1)}"'
-    return f'<rect {sizes} fill="{colour}"{more}/>'
+    sizes = f'width="{round(wide, 1)}" height="{round(high, 1)}"'
+    return f'<rect x="{round(x, 1)}" y="{round(y, 1)}" {sizes} fill="{colour}"{more}/>'
 
 
 def badge(x, y, number):
@@ -69,8 +71,8 @@ def clock(second, form="%H:%M:%S"):
 
 def round_step(length, parts):
     """The least of 1, 2, 5, 10, .. that divides a length into at most so many parts."""
-    return next(it for power in range(-9, 15) for it in (10.0**power, 2 * 10.0**power, 5 * 10.0**power)
-                if length / it <= parts)
+    steps = (part * 10.0**power for power in range(-9, 15) for part in (1, 2, 5))
+    return next(it for it in steps if length / it <= parts)
 
 
 def round_numbers(low, high, step):
@@ -117,7 +119,7 @@ class Times:
 def label_of(row):
     """The texts of a row without times; NULL where there is no other."""
     texts = [it for it in row if not re.search(r"\d{4}-\d\d-\d\d \d\d:\d\d:\d\d", it)]
-    return ", ".join([it for it in texts if it != "\\N"] or texts)
+    return ", ".join([plain(it) for it in texts if it != NULL] or texts)
 
 
 def picture(height, shapes, title):

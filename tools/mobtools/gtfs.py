@@ -148,7 +148,7 @@ def timed(stops):
     if known[:1] != [0] or known[-1:] != [len(stops) - 1]:
         raise Refused("its first or its last stop has no time")
     for first, last in zip(known, known[1:]):
-        ways = [apart(one, other) for one, other in zip(stops[first:last], stops[first + 1:last + 1])]
+        ways = [apart(stops[at], stops[at + 1]) for at in range(first, last)]
         begin, end, gone, total = stops[first].goes, stops[last].comes, 0, sum(ways) or 1
         earlier = begin
         for at, way in zip(range(first + 1, last), ways):

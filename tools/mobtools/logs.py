@@ -5,8 +5,8 @@ from .texts import quoted_field
 
 # One report of a thing. `source` is the number of its file, `line` the number of its line or point.
 # `time` is the text of its time, or None. `x` and `y` are None, texts of numbers, or numbers in
-# degrees; after a projection they are a thousand million times the metres. `value` is a text or None.
-# Between two segments nothing is known.
+# degrees; after a projection they are a thousand million times the metres. `value` is a text or
+# None. Between two segments nothing is known.
 Report = namedtuple("Report", "seconds source line time x y value segment")
 
 
@@ -26,6 +26,10 @@ class Log:
         if group is None:
             self.reports[name] = group = []
         group.append(report)
+
+    def has_places(self):
+        """Whether the log has places, not values alone."""
+        return any(it.x is not None for group in self.reports.values() for it in group[:1])
 
     def fault(self, source, line, why):
         """A fault that ends the run."""
@@ -66,4 +70,5 @@ class Log:
         with open(path, "w", encoding="utf-8", errors="surrogateescape", newline="\n") as file:
             print(f"file,{self.part},reason", file=file)
             for source, line, _, why in sorted(self.dropped):
-                print(quoted_field(self.sources[source]), line, quoted_field(why), sep=",", file=file)
+                fields = quoted_field(self.sources[source]), line, quoted_field(why)
+                print(*fields, sep=",", file=file)

@@ -1,12 +1,12 @@
 """A map of answers: areas, points, and moving points as lines."""
 from fractions import Fraction
 
-from .answers import Area, Place, Timed, value_of
+from .answers import Area, Place, Timed, plain, value_of
 from .command import Refused
-from .drawing import (COLOURS, GREY, GRID, RED, WIDTH, arrow, axis_text, badge, box, clock, dot, moment,
-                      round_numbers, round_step, stroke, text)
+from .drawing import (COLOURS, GREY, GRID, RED, WIDTH, arrow, axis_text, badge, box, clock, dot,
+                      moment, round_numbers, round_step, stroke, text)
 
-# A field that is drawn: the name of its column, its row, its value, and its lines of places.
+# From how many spots of lines on labels keep clear of one for each square alone.
 MANY = 20_000
 
 
@@ -26,17 +26,19 @@ def is_drawn(value):
 
 
 class Shape:
+    """A field that is drawn: the name of its column, its row, its value and its lines."""
+
     def __init__(self, name, row, value):
         self.name, self.row, self.value = name, row, value
         self.lines, self.is_area = lines_of(value), isinstance(value, Area)
         self.is_moving = isinstance(value, Timed)
 
     def label(self):
-        return next(iter(self.row.values()))
+        return plain(next(iter(self.row.values())))
 
     def texts(self):
         """The texts of the row of an encounter: who it is."""
-        return [it for name, it in self.row.items() if "@" not in it and name != "squared"]
+        return [plain(it) for name, it in self.row.items() if "@" not in it and name != "squared"]
 
     def span(self):
         """The first and the last second of a moving point."""
@@ -103,7 +105,7 @@ class Map:
         return kept + drawn[-1:]
 
     def path(self, line):
-        return " ".join(f"{'L' if i else 'M'}{x} {y}" for i, (x, y) in enumerate(self.drawn_line(line)))
+        return "M" + " L".join(f"{x} {y}" for x, y in self.drawn_line(line))
 
     def cost(self, box):
         """How much lies under a label: other labels, then lines; and whether it leaves the map."""
@@ -143,7 +145,7 @@ class Map:
         return badge(free[0] + 9, free[1] + 9, number)
 
     def meeting(self, shape):
-        """A thick red line where two were near. Its number, with who and when, goes to the legend."""
+        """A thick red line where two were near. Who and when goes to the legend, by a number."""
         first, last = shape.span()
         squared = value_of(shape.row.get("squared", ""))
         apart = f", nearest {float(squared) ** 0.5:.1f}" if isinstance(squared, Fraction) else ""

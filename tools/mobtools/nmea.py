@@ -46,7 +46,8 @@ def report(text, source, line):
     if status != "A":
         return None
     time = time_text(clock, date)
-    return Report(seconds_of(time), source, line, time, angle(lon, east), angle(lat, north), None, 0)
+    lon, lat = angle(lon, east), angle(lat, north)
+    return Report(seconds_of(time), source, line, time, lon, lat, None, 0)
 
 
 def read_lines(log, source, name, lines):

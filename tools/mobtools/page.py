@@ -73,7 +73,8 @@ function show() {
     const places = track.pieces.map((it) => placeAt(it, second)).filter((it) => it);
     group.style.display = places.length ? "" : "none";
     if (!places.length) continue;
-    group.setAttribute("transform", `translate(${places[0][0].toFixed(1)} ${places[0][1].toFixed(1)})`);
+    const [x, y] = places[0].map((it) => it.toFixed(1));
+    group.setAttribute("transform", `translate(${x} ${y})`);
     const colour = now.some((it) => it.who.includes(track.name)) ? RED : track.colour;
     dot.setAttribute("fill", colour);
     name.setAttribute("fill", colour);

@@ -1,4 +1,4 @@
-"""Table files: the rows of a log, cut into files that mobsql accepts, and the statements for them."""
+"""Table files: the rows of a log, in files that mobsql accepts, and the statements for them."""
 import os
 
 from .texts import is_text, name_of, table_field
@@ -19,7 +19,7 @@ class Table:
 
     def __init__(self, log, asked):
         self.log, self.asked = log, asked
-        self.has_places = any(it.x is not None for group in log.reports.values() for it in group[:1])
+        self.has_places = log.has_places()
         self.columns = [(log.heading, "text"), (asked.column, asked.type)]
         if self.has_places:
             self.columns[1] = (asked.column, "tgeompoint")

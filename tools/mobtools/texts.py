@@ -39,7 +39,7 @@ def fields_of(text, separator=","):
     try:
         return next(csv.reader([text], delimiter=separator, strict=True))
     except csv.Error as fault:
-        raise Refused("a double quote that is not closed, or something after a closing one") from fault
+        raise Refused("a double quote that is not closed, or a text after one") from fault
 
 
 def quoted_field(text):

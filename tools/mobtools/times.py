@@ -10,8 +10,8 @@ from .command import Refused
 
 DAY = 86400
 ISO = re.compile(
-    r"(\d{4})-(\d\d)-(\d\d)[ T](\d\d):(\d\d)(?::(\d\d)(\.\d{1,18})?)?(?:Z|([-+])(\d\d)(?::(\d\d))?)?",
-    re.ASCII)
+    r"(\d{4})-(\d\d)-(\d\d)[ T](\d\d):(\d\d)(?::(\d\d)(\.\d{1,18})?)?"
+    r"(?:Z|([-+])(\d\d)(?::(\d\d))?)?", re.ASCII)
 DATE_FIRST = re.compile(r"(\d\d)/(\d\d)/(\d{4}) (\d\d):(\d\d):(\d\d)", re.ASCII)
 OFFSET = re.compile(r"([-+])(\d\d):?(\d\d)", re.ASCII)
 
@@ -64,7 +64,8 @@ def danish_time(text):
     if not found:
         raise Refused(f"no time: {text}")
     day, month, year, hour, minute, second = found.groups()
-    seconds = second_of((int(year), int(month), int(day)), int(hour), int(minute), int(second), text)
+    date = int(year), int(month), int(day)
+    seconds = second_of(date, int(hour), int(minute), int(second), text)
     return seconds, f"{year}-{month}-{day} {hour}:{minute}:{second}"
 
 

@@ -1,0 +1,485 @@
+"""The test of tools/: `sh checks/tools.sh`. See there."""
+import csv
+import html.parser
+import io
+import json
+import os
+import re
+import resource
+import shutil
+import subprocess
+import sys
+import tempfile
+import xml.etree.ElementTree as tree
+from fractions import Fraction
+
+import make_logs
+import scene
+
+TOP = os.path.dirname(os.path.dirname(os.path.abspath(__file__)))
+PROGRAM = sys.argv[1] if len(sys.argv) > 1 else None
+AROUND = ["--around", f"{make_logs.LAT},{make_logs.LON}", "--to", "1"]
+CLEAN = ["--fastest", "30", "--duplicates", "first", "--skip-malformed", "--dropped", "dropped.csv"]
+TRACKS = make_logs.scene()
+BOX = (-600, -900, 900, 1300)
+LIMIT = Fraction(18)
+MIDNIGHT = f"{make_logs.DAY} 00:00:00"
+MOMENT = re.compile(r"2026-05-05 (\d\d):(\d\d):(\d\d(?:\.\d+)?)(?:\((\d+)/(\d+)\))?\+00")
+FORMATS = {
+    "ais": (["--ais-dk"], ["logs/ais.csv"]),
+    "gpx": (["--gpx"], ["logs/tracks.gpx"]),
+    "nmea": (["--nmea"], [f"logs/nmea/{ship}.nmea" for ship in TRACKS]),
+    "gtfs": (["--gtfs", "logs/gtfs", "--date", "2026-05-04"], []),
+}
+REASONS = {"twice": "a second report", "jump": "cannot be here", "missing": "no "}
+tried = 0
+
+
+def want(is_so, what):
+    """Ends the check where something is not so."""
+    global tried
+    tried += 1
+    if not is_so:
+        sys.exit(f"tools: FAILED: {what}")
+
+
+def run(*words, given=b"", status=0):
+    """Runs a tool, or mobsql, and returns its output and its errors."""
+    tool = PROGRAM if words[0] == "mobsql" else os.path.join(TOP, "tools", words[0])
+    given = given.encode() if isinstance(given, str) else given
+    ran = subprocess.run([tool, *words[1:]], input=given, capture_output=True, check=False)
+    note = ran.stderr.decode("utf-8", "replace")
+    want(ran.returncode == status, f"{' '.join(words)}: status {ran.returncode}: {note[:2000]}")
+    return ran.stdout.decode("utf-8", "surrogateescape"), note
+
+
+def write(path, text):
+    with open(path, "wb") as file:
+        file.write(text.encode() if isinstance(text, str) else text)
+
+
+def read(path):
+    with open(path, encoding="utf-8", newline="") as file:
+        return file.read()
+
+
+# The tables of the known scene.
+
+
+def literal(pieces, show):
+    text = "], [".join(", ".join(map(show, piece)) for piece in pieces)
+    return f'"{{[{text}]}}"' if len(pieces) > 1 else f'"[{text}]"'
+
+
+def wanted_table(name):
+    """The table file of the scene in one of the formats."""
+    time = f"{make_logs.DAY}{'T' if name == 'gpx' else ' '}%s{'Z' if name == 'gpx' else ''}"
+    heading = {"ais": "mmsi,track,sog", "gtfs": "trip,track"}.get(name, "name,track")
+    lines = [heading]
+    for ship, track in sorted(TRACKS.items()):
+        pieces = scene.pieces_of(track)
+        fields = [ship, literal(pieces, lambda it: f"POINT({it[1]} {it[2]})@"
+                                + time % make_logs.clock_of(it[0]))]
+        if name == "ais":
+            fields.append(literal(pieces, lambda it: "10.0@" + time % make_logs.clock_of(it[0])))
+        lines.append(",".join(fields))
+    return "\n".join(lines) + "\n"
+
+
+def check_dropped(name, spoilt):
+    """Each spoilt line is in the file of the dropped ones, with its reason, and no other."""
+    rows = list(csv.reader(io.StringIO(read("dropped.csv"))))
+    found = {(row[0], int(row[1])): row[2] for row in rows[1:]}
+    path = {"gtfs": "logs/gtfs/stop_times.txt"}.get(name, (FORMATS[name][1] or [""])[0])
+    wanted = {it if isinstance(it, tuple) else (path, it): kind for it, kind in spoilt.items()}
+    want(set(found) == set(wanted), f"{name}: other lines are dropped: {set(found) ^ set(wanted)}")
+    for place, kind in wanted.items():
+        if kind in REASONS and (name, kind) != ("gpx", "missing"):
+            want(found[place].startswith(REASONS[kind]) or REASONS[kind] in found[place],
+                 f"{name}, {place}: {found[place]}, which is a line of the kind {kind}")
+
+
+def check_table(name, spoilt):
+    """A format gives the table of the scene; without cleaning it gives all its faults at once."""
+    words, files = FORMATS[name]
+    load, note = run("log_to_table", "track", "600", *words, *AROUND, *CLEAN, "--out", "tracks.csv",
+                     *files)
+    want(read("tracks.csv") == wanted_table(name), f"{name}: another table")
+    kinds = list(spoilt.values())
+    read_lines = re.match(r"dropped (\d+) of (\d+) reports: ", note)
+    want(read_lines and int(read_lines[1]) == len(kinds), f"{name}: the first line is {note[:200]}")
+    want("at most 0.1 from the reported" in note, f"{name}: {note}")
+    check_dropped(name, spoilt)
+    refused, faults = run("log_to_table", "track", "600", *words, *AROUND, *files, status=1)
+    # In GPX a point without a time is no report; elsewhere a missing position is dropped.
+    count = sum(it in ("twice", "broken") or (name, it) == ("gpx", "missing") for it in kinds)
+    want(refused == "", f"{name}: something is written in spite of faults")
+    want(len(faults.splitlines()) == count + 1, f"{name}: {count} faults are due, not {faults}")
+    return load
+
+
+# Questions, each with a computation of its own.
+
+
+def second_of(moment):
+    hour, minute, second, above, below = moment
+    part = Fraction(int(above), int(below)) if below else 0
+    return int(hour) * 3600 + int(minute) * 60 + Fraction(second) + part
+
+
+def moments(text):
+    return [second_of(it) for it in MOMENT.findall(text)]
+
+
+def spans_of(text):
+    found = moments(text)
+    return list(zip(found[::2], found[1::2]))
+
+
+def answers(text):
+    """The rows of each answer."""
+    found, rows = [], []
+    for record in csv.reader(io.StringIO(text)):
+        if len(record) == 1 and re.fullmatch(r"\(\d+ rows\)", record[0]):
+            found.append(rows[1:])
+            rows = []
+        else:
+            rows.append(record)
+    return found
+
+
+def polygon(west, south, east, north):
+    return (f"geometry 'POLYGON(({west} {south},{east} {south},{east} {north},{west} {north},"
+            f"{west} {south}))'")
+
+
+def questions(key):
+    """The questions of the Cookbook, to a table with this column of names."""
+    apart = ["getX(a.track) - getX(b.track)", "getY(a.track) - getY(b.track)"]
+    square = " & ".join(f"({it} #>= -50) & ({it} #<= 50)" for it in apart)
+    return f"""
+SELECT a.{key} AS one, b.{key} AS other, nearestApproachSquared(a.track, b.track) AS squared
+FROM tracks a, tracks b WHERE a.{key} < b.{key} AND eDwithin(a.track, b.track, 50);
+SELECT a.{key} AS one, b.{key} AS other, whenTrue({square}) AS times FROM tracks a, tracks b
+WHERE a.{key} < b.{key} AND eDwithin(a.track, b.track, 50);
+SELECT a.{key} FROM tracks a LEFT JOIN tracks b ON a.{key} <> b.{key}
+    AND eDwithin(a.track, b.track, 50) WHERE b.{key} IS NULL;
+SELECT {key}, getTime(atGeometry(track, {polygon(*BOX)})) AS times FROM tracks;
+SELECT {key}, getTime(atGeometry(track, {polygon(0, -9000, 0, 9000)})) AS times FROM tracks;
+SELECT tCount(atGeometry(track, {polygon(*BOX)})) AS together FROM tracks;
+SELECT a.{key} AS one, b.{key} AS other FROM tracks a, tracks b WHERE a.{key} < b.{key}
+    AND eDwithin(atTime(a.track, tstzspan '[2026-05-05 06:15, 2026-05-05 06:25]'), b.track, 50);
+DELETE FROM tracks WHERE track && stbox 'STBOX T([0001-01-01, 2026-05-05 06:10))';
+SELECT count(*) AS left FROM tracks;
+""".replace("AS left", "AS remain")
+
+
+def check_answers(name, load, key):
+    """mobsql answers each question as the computation does."""
+    output, _ = run("mobsql", given=load + questions(key))
+    near, times, alone, box, gate, count, watch, remain = answers(output)
+    squares = {it: square for it, square in scene.nearest(TRACKS).items() if square <= 2500}
+    want(len(squares) >= 4, "the scene has few encounters")
+    want({(a, b): Fraction(it) for a, b, it in near} == squares, f"{name}: other pairs: {near}")
+    for one, other, text in times:
+        moves = scene.all_stretches(TRACKS[one], TRACKS[other])
+        want(spans_of(text) == scene.in_box(moves, -50, -50, 50, 50), f"{name}: {one}, {other}")
+    met = {it for pair in squares for it in pair}
+    want({row[0] for row in alone} == set(TRACKS) - met, f"{name}: others are alone: {alone}")
+    for rows, bounds in ((box, BOX), (gate, (0, -9000, 0, 9000))):
+        for ship, text in rows:
+            wanted = scene.in_box(scene.moves_of(TRACKS[ship]), *bounds)
+            want(spans_of(text) == wanted, f"{name}: {ship} is in {bounds} at {text}")
+    check_count(name, count[0][0])
+    cuts = {it: scene.cut(track, 22500, 23100) for it, track in TRACKS.items()}
+    wanted = {it for it in scene.pairs(TRACKS) if cuts[it[0]] and scene.nearest(
+        {it[0]: cuts[it[0]], it[1]: TRACKS[it[1]]}).get(it, 2501) <= 2500}
+    want({tuple(it) for it in watch} == wanted, f"{name}: others in the watch: {watch}")
+    want(remain == [["0"]], f"{name}: {remain} tracks begin later")
+    return output
+
+
+def check_count(name, text):
+    """The count over time, at instants between those at which it changes."""
+    steps = [(int(value), second_of(moment)) for value, *moment in
+             re.findall(r"(\d+)@" + MOMENT.pattern, text)]
+    for (value, start), (_, end) in zip(steps, steps[1:]):
+        if start < end:
+            middle = (start + end) / 2
+            found = scene.count_in_box(TRACKS, middle, BOX)
+            want(found in (value, 0), f"{name}: {found} in the box at {middle}, not {value}")
+
+
+# Answers out.
+
+
+def check_rows(output):
+    """Rows for spreadsheets, of the pairs and of the times of the second answer."""
+    text, _ = run("spans_to_rows", "--answer", "2", given=output)
+    rows = list(csv.DictReader(io.StringIO(text)))
+    wanted = [(one, other, *span) for one, other, times in answers(output)[1]
+              for span in spans_of(times)]
+    want(len(rows) == len(wanted), "another number of spans")
+    for row, (one, other, start, end) in zip(rows, wanted):
+        want((row["one"], row["other"]) == (one, other), "another order of spans")
+        want(abs(Fraction(row["seconds"]) - (end - start)) <= Fraction(1, 2000), f"seconds: {row}")
+        for column, exact in (("start", start), ("end", end)):
+            shown = second_of((*re.split("[ :]", row[column])[1:], "", ""))
+            want(abs(shown - exact) <= Fraction(1, 2000), f"{column}: {row}")
+            want((column in row["rounded"].split()) == (shown != exact), f"mark of {column}: {row}")
+    text, _ = run("spans_to_rows", "--answer", "1", "--root", "squared", given=output)
+    for row, (_, _, square) in zip(csv.DictReader(io.StringIO(text)), answers(output)[0]):
+        root = Fraction(row["squared"])
+        want(abs(float(root) - float(Fraction(square)) ** 0.5) <= 0.0005, f"root: {row}, {square}")
+        want(bool(row["rounded"]) == (root**2 != Fraction(square)), f"mark of the root: {row}")
+
+
+def check_geojson(answer):
+    """The tracks as GeoJSON are the reports of the scene, in degrees and seconds since 1970."""
+    text, _ = run("table_to_geojson", *AROUND[:2], given=answer)
+    start = 1777939200
+    for item in json.loads(text)["features"]:
+        track = TRACKS[str(item["properties"]["mmsi"])]
+        known = {it[0]: it[1:] for it in track}
+        want(item["geometry"]["type"] == "LineString", "no line")
+        for (lon, lat, height, second), time in zip(item["geometry"]["coordinates"],
+                                                    item["properties"]["times"]):
+            if second - start in known:
+                wanted_lat, wanted_lon = make_logs.degrees(*known[second - start])
+                want(abs(lat - wanted_lat) < 2e-7 and abs(lon - wanted_lon) < 2e-7, "another place")
+            want(height == 0 and time == f"{make_logs.DAY}T{make_logs.clock_of(second - start)}Z",
+                 f"another time: {time}")
+
+
+class Page(html.parser.HTMLParser):
+    """What a page loads and runs."""
+
+    def __init__(self, text):
+        super().__init__()
+        self.scripts, self.tags, self.kind, self.policy = [], [], None, ""
+        self.feed(text)
+
+    def handle_starttag(self, tag, attrs):
+        attrs = dict(attrs)
+        self.tags.append(tag)
+        loads = {"src", "href", "xlink:href", "data", "action", "srcset"} & set(attrs)
+        want(not loads and not [it for it in attrs if it.startswith("on")], f"{tag} has {attrs}")
+        if attrs.get("http-equiv") == "Content-Security-Policy":
+            self.policy = attrs["content"]
+        if tag == "script":
+            self.kind = attrs.get("type", "code")
+
+    def handle_data(self, data):
+        if self.kind:
+            self.scripts.append((self.kind, data))
+            self.kind = None
+
+
+def check_page(text, names):
+    """A page loads nothing, runs one script, and has the names."""
+    page = Page(text)
+    want([it for it, _ in page.scripts] == ["application/json", "code"], "other scripts")
+    want(page.policy.startswith("default-src 'none';"), "no policy")
+    want(not re.findall(r"(?:https?:)?//(?!www\.w3\.org/)\w|@import|url\(", text), "it loads")
+    data = json.loads(page.scripts[0][1])
+    want([it["name"] for it in data["tracks"]] == names, f"other names: {data['tracks']}")
+    return data
+
+
+def check_browser(path, data, second):
+    """In a headless browser each ship is where the computation has it."""
+    browser = shutil.which("chromium")
+    if not browser:
+        return "no chromium: the page was not tried in a browser"
+    clock = make_logs.clock_of(second)
+    words = ["--headless", "--no-sandbox", "--disable-gpu", "--dump-dom",
+             f"file://{os.path.abspath(path)}#{make_logs.DAY}T{clock}"]
+    shown = subprocess.run([browser, *words], capture_output=True, text=True, check=True).stdout
+    want(f"{clock} UTC</output>" in shown, "the page shows another time")
+    ships = re.findall(r'<g class="ship"[^>]*transform="translate\((\S+) (\S+)\)"[^>]*>', shown)
+    known = [piece for it in data["tracks"] for piece in it["pieces"]
+             if piece[0][0] <= second - make_logs.START <= piece[-1][0]]
+    want(len(ships) == len(known), f"{len(ships)} ships in the page, not {len(known)}")
+    for found, piece in zip(ships, known):
+        exact = scene.place_at(piece, second - make_logs.START)
+        want(all(abs(float(a) - b) <= 0.06 for a, b in zip(found, exact)), "a ship is elsewhere")
+    reds = re.findall('<circle[^>]*fill="#c8161d"', shown)
+    want(len(reds) >= 2, "no encounter is red")
+    return "the page was tried in chromium"
+
+
+def check_pictures(load, output):
+    """A map, its page, bars and a curve."""
+    square = re.search(r"whenTrue\((.*?)\) AS times", output)[1]
+    tracks, _ = run("mobsql", given=load + f"""
+SELECT mmsi, track FROM tracks;
+SELECT a.mmsi AS one, b.mmsi AS other, nearestApproachSquared(a.track, b.track) AS squared,
+atTime(a.track, whenTrue({square})) AS near FROM tracks a, tracks b
+WHERE a.mmsi < b.mmsi AND eDwithin(a.track, b.track, 50);""")
+    for words in (["map"], ["bars"], ["curves", "--linear"]):
+        given = tracks if words == ["map"] else answers_text(load, words[0])
+        text, _ = run("picture", *words, "Ships & <more>", given=given)
+        want(tree.fromstring(text).tag.endswith("svg"), f"no picture of {words}")
+    text, _ = run("picture", "map", "--html", "Ships & <more>", given=tracks)
+    write("map.html", text)
+    data = check_page(text, sorted(TRACKS))
+    check_geojson(tracks[:tracks.index("rows)") + 6])
+    return check_browser("map.html", data, make_logs.START + 20 * make_logs.STEP)
+
+
+def answers_text(load, kind):
+    query = (f"SELECT tCount(atGeometry(track, {polygon(*BOX)})) AS together FROM tracks;"
+             if kind == "curves" else "SELECT mmsi, getTime(track) AS known FROM tracks;")
+    return run("mobsql", given=load + query)[0]
+
+
+def check_heat(spoilt):
+    """A thermometer's log, with other columns, semicolons and another order."""
+    words = ["celsius", "600", "--columns", "time=when", "name=device", "value=celsius", "--type",
+             "tfrac", "--separator", ";", "--out", "heat.csv", "logs/heat.csv"]
+    _, faults = run("log_to_table", *words, status=1)
+    want(len(faults.splitlines()) == len(spoilt) + 1, f"other faults: {faults}")
+    load, _ = run("log_to_table", *words, "--skip-malformed")
+    query = f"SELECT device, whenTrue(celsius #> {LIMIT}) AS warm FROM heat;"
+    for device, text in answers(run("mobsql", given=load + query)[0])[0]:
+        readings = [(second, Fraction(value, 10)) for second, name, value in make_logs.heat()
+                    if name == device]
+        want(spans_of(text) == scene.above(readings, LIMIT), f"{device} is warm at {text}")
+
+
+# Hostile input.
+
+
+NAMES = ["<script>alert(1)</script>", 'a "b", c', "\\N", "it's", "-x", "  two  blanks ", "Ærø",
+         "=1+1", "--", "\\\\server", "'); DROP", "{\"x\": 1}</script>", "&amp;", "007"]
+
+
+def check_names():
+    """Names come back as they were, and are escaped in pictures."""
+    lines = ["time,ship,x,y"]
+    for at, name in enumerate(NAMES):
+        field = '"' + name.replace('"', '""') + '"'
+        lines += [f"2026-05-05 06:00:00,{field},{at * 1000},0",
+                  f"2026-05-05 06:01:00,{field},{at * 1000},900"]
+    write("names.csv", "\n".join(lines))
+    load, _ = run("log_to_table", "track", "600", "--out", "it's a day.csv", "names.csv")
+    want("COPY it_s_a_day FROM 'it''s a day.csv'" in load, load)
+    answer, _ = run("mobsql", given=load + "SELECT ship, track FROM it_s_a_day;")
+    back, _ = run("table_to_log", "x", "y", given=answer)
+    names = {row[1] for row in list(csv.reader(io.StringIO(back)))[1:]}
+    want(names == set(NAMES), f"names came back as {names}")
+    found = json.loads(run("table_to_geojson", *AROUND[:2], given=answer)[0])["features"]
+    want({it["properties"]["ship"] for it in found} == set(NAMES), "other names in GeoJSON")
+    for words in (["map"], ["map", "--html"]):
+        text, _ = run("picture", *words, "</title><script>", given=answer)
+        want("<script>alert" not in text and "</title><script>" not in text, "a name is run")
+        if words[1:]:
+            check_page(text, [it for it in sorted(NAMES)])
+        else:
+            tree.fromstring(text)
+
+
+def check_files():
+    """File names with blanks and leading dashes, and files that cannot be read."""
+    shutil.copy("names.csv", "- my log.csv")
+    run("log_to_table", "track", "600", "--out=-out 1.csv", "--", "- my log.csv")
+    want(os.path.exists("-out 1.csv"), "no table of a name with a dash")
+    _, note = run("log_to_table", "track", "600", "missing.csv", "also missing.csv", status=1)
+    want(note.count("No such file") == 2, note)
+    run("log_to_table", "track", "600", "--out", "no/folder.csv", "names.csv", status=1)
+    run("log_to_table", "select", "600", "names.csv", status=2)
+    run("log_to_table", "track", "600", "--out", b"\xff.csv", "names.csv", status=1)
+
+
+REFUSED = [
+    ("an empty file", b"", [], "an empty file"),
+    ("bytes that are no text", b"time,ship,x,y\n2026-05-05,\xff,1000,2\n2026-05-05,b,\xe9,2\n", [],
+     "2 faults"),
+    ("a zero byte", b"time,ship,x,y\n2026-05-05 06:00,a\0b,1000,2\n", [], "control character"),
+    ("a quote that is not closed", b'time,ship,x,y\n2026-05-05 06:00,"a,1,2\n', [], "double quote"),
+    ("a header that lacks a column", b"when,who,x\n", ["--columns", "time=when", "name=who", "x=x",
+                                                       "y=north"], "no column north"),
+    ("nan", b"time,ship,x,y\n2026-05-05 06:00,a,nan,1_0\n", [], "no number: nan"),
+    ("a date that is none", b"time,ship,x,y\n2026-02-30,a,1000,1\n", [], "no time"),
+    ("degrees", b"time,ship,x,y\n2026-05-05 06:00,a,12.5,55.5\n", [], "--around=55.50,12.50"),
+    ("degrees beyond 90", b"time,ship,x,y\n2026-05-05 06:00,a,12.5,95.5\n", AROUND, "no degrees"),
+    ("two reports", b"time,ship,x,y\n2026-05-05 06:00,a,1000,1\n2026-05-05 06:00,a,1000,2\n", [],
+     "line 3: a second report of a at 2026-05-05 06:00; the other is line 2"),
+    ("a document type", b'<!DOCTYPE gpx [<!ENTITY a "b">]><gpx/>', ["--gpx", *AROUND], "document"),
+    ("no GPX", b"<gpx><trk>", ["--gpx", *AROUND], "no GPX"),
+    ("no NMEA", b"$GPGGA,1\n", ["--nmea", *AROUND], "no sentence RMC"),
+]
+
+
+def check_refused():
+    """Each is refused, with status 1 and nothing written."""
+    for name, log, words, why in REFUSED:
+        output, note = run("log_to_table", "track", "600", *words, given=log, status=1)
+        want(output == "" and why in note, f"{name}: {note}")
+    run("log_to_table", "track", "600", "--metres",
+        given="time,ship,x,y\n2026-05-05 06:00,a,12.5,55.5\n")
+    for tool in (["picture", "map"], ["spans_to_rows"], ["table_to_geojson", *AROUND[:2]],
+                 ["table_to_log", "x"]):
+        for answer in (b"", b"a,b\n\xff,1\n(1 rows)\n", b"a,b\n1,2\n", b"a\n1,2\n(1 rows)\n",
+                       b'a\n"x'):
+            if answer or tool[0] != "table_to_geojson":
+                _, note = run(*tool, given=answer, status=1)
+                want("Traceback" not in note, f"{tool} {answer}: {note}")
+        output, _ = run(tool[0], "--help")
+        want("usage:" in output, f"{tool[0]} has no help")
+
+
+def check_large():
+    """A table larger than a file is written as several; a day of reports costs what it may."""
+    value = "x" * 500_000
+    log = ["time,device,text"] + [f"2026-05-05 06:00:00,d{it:02},{value}" for it in range(36)]
+    load, _ = run("log_to_table", "text_of", "600", "--columns", "time=time", "name=device",
+                  "value=text", "--type", "ttext", "--out", "many.csv", given="\n".join(log))
+    want(load.count("COPY") == 2 and load.count("CREATE TABLE") == 1, load)
+    parts = [read(f"many_{it}.csv").splitlines() for it in (1, 2)]
+    want(all(os.path.getsize(f"many_{it}.csv") <= 16_777_216 for it in (1, 2)), "a part too large")
+    want(len(parts[0]) + len(parts[1]) == 38 and parts[0][0] == parts[1][0], "other parts")
+    run("log_to_table", "text", "600", given="\n".join(log), status=1)
+    return measure(30_000)
+
+
+def measure(count):
+    """The processor seconds and the memory for so many lines of AIS."""
+    write("large.csv", "\n".join(make_logs.large(count)) + "\n")
+    before = resource.getrusage(resource.RUSAGE_CHILDREN).ru_utime
+    run("log_to_table", "track", "600", "--ais-dk", *AROUND, *CLEAN, "--out", "large_table.csv",
+        "large.csv")
+    used = resource.getrusage(resource.RUSAGE_CHILDREN)
+    seconds, megabytes = used.ru_utime - before, used.ru_maxrss / 1024
+    want(megabytes < 300 and seconds < max(3, count / 15_000), f"{seconds} s, {megabytes} MB")
+    return f"{count} lines of AIS in {seconds:.1f} processor seconds and {megabytes:.0f} MB"
+
+
+def main():
+    if sys.argv[1:2] == ["--measure"]:
+        print(measure(int(sys.argv[2])))
+        return
+    spoilt = make_logs.write_all("logs")
+    spoilt["gtfs"], blank = spoilt["gtfs"]
+    want(blank > 5, "few stops without a time")
+    for name in FORMATS:
+        load = check_table(name, spoilt[name])
+        key = {"ais": "mmsi", "gtfs": "trip"}.get(name, "name")
+        output = check_answers(name, load, key)
+        if name == "ais":
+            check_rows(output)
+            browser = check_pictures(load, questions(key).replace("\n", " "))
+    check_heat(spoilt["heat"])
+    check_names()
+    check_files()
+    check_refused()
+    print(f"tools: {check_large()}")
+    print(f"tools: {browser}")
+    print(f"tools: {tried} tried, 0 failed")
+
+
+if __name__ == "__main__":
+    sys.dont_write_bytecode = True
+    with tempfile.TemporaryDirectory() as folder:
+        os.chdir(folder)
+        main()
