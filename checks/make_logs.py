@@ -2,6 +2,7 @@
 
     python3 checks/make_logs.py FOLDER             ais.csv, tracks.gpx, nmea/, gtfs/, heat.csv
     python3 checks/make_logs.py --large 300000 > aisdk.csv      a day of AIS of 40 ships
+    python3 checks/make_logs.py --example examples/logs         half an hour of four ships
 
 The ships of the scene move between whole metres around a point. Each format has them in degrees,
 spoilt in the same ways: reports twice, jumps, lines out of order, positions that are missing, and
@@ -265,6 +266,17 @@ def write_all(folder):
             "heat": write_heat(f"{folder}/heat.csv")}
 
 
+def example(folder):
+    """The logs of examples/logs: four ships, and two of them in GPX and in NMEA."""
+    tracks = {ship: track[12:38] for ship, track in scene().items() if ship < "219000105"}
+    two = {ship: tracks[ship] for ship in SHIPS[:2]}
+    write_ais(f"{folder}/aisdk.csv", tracks)
+    write_gpx(f"{folder}/boats.gpx", two)
+    write_nmea(f"{folder}/nmea", two)
+    write_gtfs(f"{folder}/gtfs", tracks)
+    write_heat(f"{folder}/heat.csv")
+
+
 def large(count):
     """The lines of a day of 40 ships, with a report twice, a jump and a missing position in each
     thousand."""
@@ -291,6 +303,8 @@ def large(count):
 def main():
     if sys.argv[1:2] == ["--large"] and len(sys.argv) == 3:
         print("\n".join(large(int(sys.argv[2]))))
+    elif sys.argv[1:2] == ["--example"] and len(sys.argv) == 3:
+        example(sys.argv[2])
     elif len(sys.argv) == 2:
         write_all(sys.argv[1])
     else:

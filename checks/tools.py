@@ -388,7 +388,7 @@ def check_files():
     want(note.count("No such file") == 2, note)
     run("log_to_table", "track", "600", "--out", "no/folder.csv", "names.csv", status=1)
     run("log_to_table", "select", "600", "names.csv", status=2)
-    run("log_to_table", "track", "600", "--out", b"\xff.csv", "names.csv", status=1)
+    run("log_to_table", "track", "600", "--out", os.fsdecode(b"\xff.csv"), "names.csv", status=1)
 
 
 REFUSED = [

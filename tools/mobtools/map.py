@@ -126,7 +126,7 @@ class Map:
             boxes = [(x + 6 if x < middle_x else x - 6 - wide, y + 5 if y < middle_y else y - 18)
                      for x, y in corners]
         else:
-            for x, y in (self.at(it) for line in shape.lines for it in (line[0], line[-1])):
+            for x, y in (self.at(it) for line in shape.lines[:5] for it in (line[0], line[-1])):
                 boxes += [(left, top) for top in (y - 18, y + 5)
                           for left in (x + 6, x - 6 - wide, x - wide / 2)]
                 boxes += [(x + 8, y - 7), (x - 8 - wide, y - 7)]

@@ -6,12 +6,13 @@ of 6,371,000 metres: x = (longitude - LON) * cos(LAT), y = latitude - LAT, in ra
 import argparse
 import re
 from fractions import Fraction
-from math import cos, hypot, isfinite, radians
+from math import cos, degrees, hypot, isfinite, radians, sin, sqrt
 
 from .command import Refused
 from .numbers import NANO, NUMBER, number
 
 METRES_OF_DEGREE = radians(6_371_000)
+EQUATOR, SQUARED_ECCENTRICITY = 6_378_137, 0.00669437999014
 INSTALL = ("--project needs pyproj (Debian: python3-pyproj; else pip install pyproj); "
            "without it use --around LAT,LON")
 
@@ -39,9 +40,20 @@ class Around:
                 [self.lat + it / METRES_OF_DEGREE for it in ys])
 
     def note(self, places):
-        """How far from the point some places are."""
-        far = max((hypot(x, y) for x, y in places), default=0)
-        return f"the farthest place is {far / 1000 / NANO:.1f} km from {self.name}"
+        """How far from the point some places are, and how wrong lengths are there."""
+        far = max((hypot(x, y) for x, y in places), default=0) / NANO
+        arc = far / METRES_OF_DEGREE
+        off = max(abs(it) for more in (-arc, 0, arc) for it in self.off(self.lat + more))
+        return (f"the farthest place is {far / 1000:.1f} km from {self.name}; "
+                f"the projection makes lengths wrong by at most {100 * off:.1f} %")
+
+    def off(self, lat):
+        """By what part lengths east and lengths north are too long at a latitude, on the ellipsoid
+        of GPS."""
+        flat = 1 - SQUARED_ECCENTRICITY * sin(radians(lat)) ** 2
+        east = EQUATOR * cos(radians(lat)) / sqrt(flat)
+        north = EQUATOR * (1 - SQUARED_ECCENTRICITY) / flat**1.5
+        return degrees(self.wide) / east - 1, degrees(METRES_OF_DEGREE) / north - 1
 
 
 class Projected:
@@ -59,10 +71,11 @@ class Projected:
         name = f"EPSG:{(32700 if south else 32600) + int(zone[1])}" if zone else text
         try:
             self.used = pyproj.Transformer.from_crs("EPSG:4326", name, always_xy=True)
-            if not pyproj.CRS(name).is_projected:
-                raise argparse.ArgumentTypeError("this is no projection to metres")
+            self.crs = pyproj.CRS(name)
         except pyproj.exceptions.ProjError as fault:
             raise argparse.ArgumentTypeError("PROJ knows no projection of this name") from fault
+        if not self.crs.is_projected or any(it.unit_name != "metre" for it in self.crs.axis_info):
+            raise argparse.ArgumentTypeError("this is no projection to metres")
 
     def forward(self, lons, lats):
         return tuple(map(list, self.used.transform(list(lons), list(lats))))
@@ -71,8 +84,14 @@ class Projected:
         inverse = self.pyproj.enums.TransformDirection.INVERSE
         return tuple(map(list, self.used.transform(list(xs), list(ys), direction=inverse)))
 
-    def note(self, _places):
-        return f"projected to {self.name}"
+    def note(self, places):
+        """How wrong lengths are, in the middle of some places."""
+        xs, ys = zip(*places)
+        middle = ([(min(it) + max(it)) / 2 / NANO] for it in (xs, ys))
+        lon, lat = self.back(*middle)
+        scale = self.pyproj.Proj(self.crs).get_factors(lon[0], lat[0])
+        off = max(abs(it - 1) for it in (scale.meridional_scale, scale.parallel_scale))
+        return f"{self.name} makes lengths in the middle wrong by {100 * off:.2f} %"
 
 
 def add_projection(parser, to):

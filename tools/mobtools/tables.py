@@ -20,7 +20,7 @@ class Table:
     def __init__(self, log, asked):
         self.log, self.asked = log, asked
         self.has_places = log.has_places()
-        self.columns = [(log.heading, "text"), (asked.column, asked.type)]
+        self.columns = [(asked.key or log.heading, "text"), (asked.column, asked.type)]
         if self.has_places:
             self.columns[1] = (asked.column, "tgeompoint")
             if log.value_heading:
