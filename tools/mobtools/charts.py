@@ -105,6 +105,16 @@ class Curves:
         part = (value - self.low) / (self.high - self.low)
         return round(self.TOP + 10 + (1 - part) * (self.HIGH - 20), 1)
 
+    def joined(self, pieces):
+        """The pieces, with steps from one to the next where they share an instant."""
+        found = []
+        for piece in pieces:
+            if found and not self.is_linear and found[-1][-1][1] == piece[0][1]:
+                found[-1] = found[-1] + piece
+            else:
+                found.append(piece)
+        return found
+
     def course(self, piece):
         """The line of a piece."""
         (value, second), *rest = piece
@@ -127,7 +137,7 @@ class Curves:
         shapes.append(self.times.day(legend))
         for number, (label, pieces) in enumerate(self.curves):
             colour, y = COLOURS[number % len(COLOURS)], legend + 24 + 20 * number
-            for piece in pieces:
+            for piece in self.joined(pieces):
                 shapes.append(stroke(self.course(piece), colour, 2) if len(piece) > 1 else
                               dot(self.times.at(piece[0][1]), self.up(piece[0][0]), colour, 3))
             shapes += [stroke(f"M14 {y - 5} h28", colour, 2), text(50, y, label)]

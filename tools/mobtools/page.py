@@ -62,6 +62,15 @@ const buttons = data.meetings.map((meeting, number) => {
   return button;
 });
 
+// How far below its ship a name has room beside those that are shown.
+function freeBelow(shown, x, y) {
+  let below = 0;
+  while (shown.some(([left, top]) => Math.abs(left - x) < 80 && Math.abs(top - y - below) < 14))
+    below += 14;
+  shown.push([x, y + below]);
+  return below;
+}
+
 function show() {
   const second = Number(slider.value);
   byId("clock").textContent = new Date((data.start + second) * 1000).toISOString()
@@ -69,12 +78,14 @@ function show() {
   const now = data.meetings.filter((it) =>
     it.spans.some(([first, last]) => first <= second && second <= last));
   buttons.forEach((it, number) => it.className = now.includes(data.meetings[number]) ? "now" : "");
+  const shown = [];
   for (const {track, group, dot, name} of ships) {
     const places = track.pieces.map((it) => placeAt(it, second)).filter((it) => it);
     group.style.display = places.length ? "" : "none";
     if (!places.length) continue;
-    const [x, y] = places[0].map((it) => it.toFixed(1));
-    group.setAttribute("transform", `translate(${x} ${y})`);
+    const [x, y] = places[0];
+    group.setAttribute("transform", `translate(${x.toFixed(1)} ${y.toFixed(1)})`);
+    name.setAttribute("y", 4 + freeBelow(shown, x, y));
     const colour = now.some((it) => it.who.includes(track.name)) ? RED : track.colour;
     dot.setAttribute("fill", colour);
     name.setAttribute("fill", colour);
