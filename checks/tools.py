@@ -157,13 +157,19 @@ def questions(key):
     """The questions of the Cookbook, to a table with this column of names."""
     apart = ["getX(a.track) - getX(b.track)", "getY(a.track) - getY(b.track)"]
     square = " & ".join(f"({it} #>= -50) & ({it} #<= 50)" for it in apart)
+    octagon = " & ".join([square, *(f"({apart[0]} {sign} ({apart[1]}) #>= -71) & "
+                                    f"({apart[0]} {sign} ({apart[1]}) #<= 71)" for sign in "+-")])
     return f"""
 SELECT a.{key} AS one, b.{key} AS other, nearestApproachSquared(a.track, b.track) AS squared
 FROM tracks a, tracks b WHERE a.{key} < b.{key} AND eDwithin(a.track, b.track, 50);
 SELECT a.{key} AS one, b.{key} AS other, whenTrue({square}) AS times FROM tracks a, tracks b
 WHERE a.{key} < b.{key} AND eDwithin(a.track, b.track, 50);
+SELECT a.{key} AS one, b.{key} AS other, whenTrue({octagon}) AS times FROM tracks a, tracks b
+WHERE a.{key} < b.{key} AND eDwithin(a.track, b.track, 50);
 SELECT a.{key} FROM tracks a LEFT JOIN tracks b ON a.{key} <> b.{key}
     AND eDwithin(a.track, b.track, 50) WHERE b.{key} IS NULL;
+SELECT a.{key}, count(b.{key}) AS met FROM tracks a LEFT JOIN tracks b ON a.{key} <> b.{key}
+    AND eDwithin(a.track, b.track, 50) GROUP BY a.{key};
 SELECT {key}, getTime(atGeometry(track, {polygon(*BOX)})) AS times FROM tracks;
 SELECT {key}, getTime(atGeometry(track, {polygon(0, -9000, 0, 9000)})) AS times FROM tracks;
 SELECT tCount(atGeometry(track, {polygon(*BOX)})) AS together FROM tracks;
@@ -177,15 +183,20 @@ SELECT count(*) AS left FROM tracks;
 def check_answers(name, load, key):
     """mobsql answers each question as the computation does."""
     output, _ = run("mobsql", given=load + questions(key))
-    near, times, alone, box, gate, count, watch, remain = answers(output)
+    near, times, octagons, alone, counts, box, gate, count, watch, remain = answers(output)
     squares = {it: square for it, square in scene.nearest(TRACKS).items() if square <= 2500}
     want(len(squares) >= 4, "the scene has few encounters")
     want({(a, b): Fraction(it) for a, b, it in near} == squares, f"{name}: other pairs: {near}")
     for one, other, text in times:
         moves = scene.all_stretches(TRACKS[one], TRACKS[other])
         want(spans_of(text) == scene.in_box(moves, -50, -50, 50, 50), f"{name}: {one}, {other}")
-    met = {it for pair in squares for it in pair}
-    want({row[0] for row in alone} == set(TRACKS) - met, f"{name}: others are alone: {alone}")
+    for one, other, text in octagons:
+        moves = scene.all_stretches(TRACKS[one], TRACKS[other])
+        want(spans_of(text) == scene.in_octagon(moves, 50, 71), f"{name}: {one}, {other}: {text}")
+    met = [it for pair in squares for it in pair]
+    want({row[0] for row in alone} == set(TRACKS) - set(met), f"{name}: others are alone: {alone}")
+    want({ship: int(it) for ship, it in counts} == {it: met.count(it) for it in TRACKS},
+         f"{name}: others met: {counts}")
     for rows, bounds in ((box, BOX), (gate, (0, -9000, 0, 9000))):
         for ship, text in rows:
             wanted = scene.in_box(scene.moves_of(TRACKS[ship]), *bounds)
@@ -201,13 +212,17 @@ def check_answers(name, load, key):
 
 def check_count(name, text):
     """The count over time, at instants between those at which it changes."""
-    steps = [(int(value), second_of(moment)) for value, *moment in
-             re.findall(r"(\d+)@" + MOMENT.pattern, text)]
+    steps = []
+    for piece in re.split(r"[\])], [\[(]", text):
+        its_steps = [(int(value), second_of(moment)) for value, *moment in
+                     re.findall(r"(\d+)@" + MOMENT.pattern, piece)]
+        steps += [*its_steps[:-1], (0, its_steps[-1][1])]
+    want(len(steps) > 3, f"{name}: few are in the box: {text}")
     for (value, start), (_, end) in zip(steps, steps[1:]):
         if start < end:
             middle = (start + end) / 2
             found = scene.count_in_box(TRACKS, middle, BOX)
-            want(found in (value, 0), f"{name}: {found} in the box at {middle}, not {value}")
+            want(found == value, f"{name}: {found} in the box at {middle}, not {value}")
 
 
 # Answers out.
@@ -294,7 +309,12 @@ def check_browser(path, data, second):
     clock = make_logs.clock_of(second)
     words = ["--headless", "--no-sandbox", "--disable-gpu", "--dump-dom",
              f"file://{os.path.abspath(path)}#{make_logs.DAY}T{clock}"]
-    shown = subprocess.run([browser, *words], capture_output=True, text=True, check=True).stdout
+    try:
+        ran = subprocess.run([browser, *words], capture_output=True, text=True, timeout=300,
+                             check=True)
+    except (OSError, subprocess.SubprocessError) as fault:
+        return f"the page was not tried in a browser: {fault}"[:200]
+    shown = ran.stdout
     want(f"{clock} UTC</output>" in shown, "the page shows another time")
     ships = re.findall(r'<g class="ship"[^>]*transform="translate\((\S+) (\S+)\)"[^>]*>', shown)
     known = [piece for it in data["tracks"] for piece in it["pieces"]
@@ -303,7 +323,7 @@ def check_browser(path, data, second):
     for found, piece in zip(ships, known):
         exact = scene.place_at(piece, second - make_logs.START)
         want(all(abs(float(a) - b) <= 0.06 for a, b in zip(found, exact)), "a ship is elsewhere")
-    reds = re.findall('<circle[^>]*fill="#c8161d"', shown)
+    reds = re.findall('<circle r="6"[^>]*fill="#c8161d"', shown)
     want(len(reds) >= 2, "no encounter is red")
     return "the page was tried in chromium"
 
