@@ -8,7 +8,7 @@ from .command import Refused
 from .texts import is_text
 from .times import seconds_of
 
-NUMBER = r"-?(?:0|[1-9]\d*)(?:/[1-9]\d*)?"
+NUMBER = r"-?(?:0|[1-9]\d{0,30})(?:/[1-9]\d{0,30})?"
 MOMENT = r"(\d{4}-\d\d-\d\d \d\d:\d\d:\d\d(?:\.\d+)?)(?:\((\d+)/(\d+)\))?\+00"
 POINT = re.compile(rf"POINT\(({NUMBER}) ({NUMBER})\)")
 RING = re.compile(rf"\({NUMBER} {NUMBER}(?:,{NUMBER} {NUMBER})+\)")
@@ -106,8 +106,11 @@ def value_of(text):
     if POLYGON.fullmatch(text):
         return Area([[Place(*map(Fraction, it.split())) for it in ring[1:-1].split(",")]
                      for ring in RING.findall(text)])
-    found = timed(text) or spans(text)
-    return found if found is not None else plain(text)
+    try:
+        found = timed(text) or spans(text)
+    except Refused:
+        found = None
+    return plain(text) if found is None else found
 
 
 def records(lines):

@@ -126,9 +126,12 @@ class Reader:
         fields, at = layout.columns_of(header)
         self.count, self.time, self.name = len(fields), at["time"], at["name"]
         self.x, self.y, self.value = (at.get(it) for it in ("x", "y", "value"))
-        log.heading = name_of(fields[self.name])
-        if self.value is not None:
-            log.value_heading = name_of(fields[self.value])
+        heading = name_of(fields[self.name])
+        value_heading = name_of(fields[self.value]) if self.value is not None else None
+        found = heading, value_heading, self.x is not None
+        if source and found != (log.heading, log.value_heading, log.has_places):
+            raise Refused("other columns than those of the first file")
+        log.heading, log.value_heading, log.has_places = found
 
     def read(self, line, fields):
         if len(fields) != self.count:

@@ -186,7 +186,7 @@ def read_folder(log, folder, day_text, zone_text):
             continue
         for it in stops:
             if it.comes is None:
-                log.missing(0, it.line, f"no second for this stop of trip {trip}")
+                log.missing(0, it.line, f"no second for this stop of trip {trip}", "without a time")
         log.computed += guessed - sum(it.comes is None for it in stops)
         for report in reports_of(stops, midnight):
             log.add(trip, report)

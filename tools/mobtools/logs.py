@@ -15,7 +15,7 @@ class Log:
 
     def __init__(self, sources, part="line"):
         self.sources, self.part = sources, part
-        self.heading, self.value_heading = "name", None
+        self.heading, self.value_heading, self.has_places = "name", None, True
         self.reports, self.read, self.computed = {}, 0, 0
         self.faults, self.dropped, self.notes = [], [], []
         self.skips_malformed = False
@@ -26,10 +26,6 @@ class Log:
         if group is None:
             self.reports[name] = group = []
         group.append(report)
-
-    def has_places(self):
-        """Whether the log has places, not values alone."""
-        return any(it.x is not None for group in self.reports.values() for it in group[:1])
 
     def fault(self, source, line, why):
         """A fault that ends the run."""
@@ -43,10 +39,10 @@ class Log:
         else:
             self.fault(source, line, why)
 
-    def missing(self, source, line, why):
-        """A report without a place."""
+    def missing(self, source, line, why, kind="without a place"):
+        """A report that lacks its place."""
         self.read += 1
-        self.drop(source, line, "without a place", why)
+        self.drop(source, line, kind, why)
 
     def drop(self, source, line, kind, why):
         self.dropped.append((source, line, kind, str(why)))

@@ -2,6 +2,7 @@
 import base64
 import hashlib
 import json
+from math import ceil
 
 from .command import Refused
 from .drawing import COLOURS, EPOCH, moment, shown_text
@@ -94,7 +95,7 @@ function show() {
 
 // The instant of the address, such as #2026-05-05T09:22:08.
 function fromAddress() {
-  const asked = Date.parse(decodeURIComponent(location.hash.slice(1)) + "Z") / 1000 - data.start;
+  const asked = Date.parse(location.hash.slice(1) + "Z") / 1000 - data.start;
   if (!Number.isNaN(asked)) slider.value = asked;
   show();
 }
@@ -136,7 +137,7 @@ def data_of(drawing):
     spans = [it.span() for _, it in moving]
     first, last = min(it[0] for it in spans) // 1, max(it[1] for it in spans)
     return {
-        "start": first + SINCE_1970, "length": last - first,
+        "start": first + SINCE_1970, "length": ceil(last - first),
         "tracks": [{"name": it.label(), "colour": COLOURS[number % len(COLOURS)],
                     "pieces": pieces_on(drawing, it, first)} for number, it in tracks],
         "meetings": [{"who": it.texts(), "shown": shown,

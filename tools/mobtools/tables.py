@@ -19,7 +19,7 @@ class Table:
 
     def __init__(self, log, asked):
         self.log, self.asked = log, asked
-        self.has_places = log.has_places()
+        self.has_places = log.has_places
         self.columns = [(asked.key or log.heading, "text"), (asked.column, asked.type)]
         if self.has_places:
             self.columns[1] = (asked.column, "tgeompoint")

@@ -50,6 +50,8 @@ def seconds_of(text):
         raise Refused(f"no time: {text}")
     year, month, day, hour, minute, second = (int(it or 0) for it in found.groups()[:6])
     part, sign, ahead_hours, ahead_minutes = found.groups()[6:]
+    if int(ahead_hours or 0) > 15 or int(ahead_minutes or 0) > 59:
+        raise Refused(f"an offset that does not exist: {text}")
     ahead = 3600 * int(ahead_hours or 0) + 60 * int(ahead_minutes or 0)
     whole = second_of((year, month, day), hour, minute, second, text)
     whole -= -ahead if sign == "-" else ahead
