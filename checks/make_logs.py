@@ -270,6 +270,7 @@ def example(folder):
     """The logs of examples/logs: four ships, and two of them in GPX and in NMEA."""
     tracks = {ship: track[12:38] for ship, track in scene().items() if ship < "219000105"}
     two = {ship: tracks[ship] for ship in SHIPS[:2]}
+    os.makedirs(folder, exist_ok=True)
     write_ais(f"{folder}/aisdk.csv", tracks)
     write_gpx(f"{folder}/boats.gpx", two)
     write_nmea(f"{folder}/nmea", two)

@@ -1,6 +1,7 @@
 """The test of tools/: `sh checks/tools.sh`. See there."""
 import csv
 import html.parser
+import importlib.util
 import io
 import json
 import os
@@ -48,7 +49,8 @@ def run(*words, given=b"", status=0):
     """Runs a tool, or mobsql, and returns its output and its errors."""
     tool = PROGRAM if words[0] == "mobsql" else os.path.join(TOP, "tools", words[0])
     given = given.encode() if isinstance(given, str) else given
-    ran = subprocess.run([tool, *words[1:]], input=given, capture_output=True, check=False)
+    command = [tool] if words[0] == "mobsql" else [sys.executable, tool]
+    ran = subprocess.run([*command, *words[1:]], input=given, capture_output=True, check=False)
     note = ran.stderr.decode("utf-8", "replace")
     want(ran.returncode == status, f"{' '.join(words)}: status {ran.returncode}: {note[:2000]}")
     return ran.stdout.decode("utf-8", "surrogateescape"), note
@@ -369,6 +371,28 @@ def check_heat(spoilt):
         want(spans_of(text) == scene.above(readings, LIMIT), f"{device} is warm at {text}")
 
 
+def check_projection():
+    """UTM is that of a series of its own, and goes back to the same degrees."""
+    if not importlib.util.find_spec("pyproj"):
+        run("log_to_table", "track", "600", "--project", "utm33", "--to", "1", "--ais-dk", status=2)
+        return "no pyproj: projections by name were not tried"
+    for zone, lon, lat in ((33, 12.6, 55.7), (32, 11.9, 78.1), (1, -177.5, 3.25), (60, 179.5, 0)):
+        given = f"time,ship,x,y\n2026-05-05 06:00:00,a,{lon},{lat}\n"
+        words = ["--project", f"utm{zone}", "--to", "0.001"]
+        table, note = run("log_to_table", "track", "600", *words, given=given)
+        found = [float(it) for it in re.findall(r"POINT\((\S+) (\S+)\)", table)[0]]
+        wanted = scene.utm(lat, lon, zone)
+        want(all(abs(a - b) < 0.002 for a, b in zip(found, wanted)), f"{found}, not {wanted}")
+        want("makes lengths in the middle wrong by 0." in note, note)
+        answer = f"ship,place\na,POINT({round(found[0])} {round(found[1])})\n(1 rows)\n"
+        text, _ = run("table_to_geojson", "--project", f"utm{zone}", given=answer)
+        back = json.loads(text)["features"][0]["geometry"]["coordinates"]
+        want(abs(back[0] - lon) < 5e-5 and abs(back[1] - lat) < 1e-5, f"{back}, not {lon}, {lat}")
+    run("log_to_table", "track", "600", "--project", "EPSG:4326", "--to", "1", "--ais-dk", status=2)
+    run("log_to_table", "track", "600", "--project", "no such", "--to", "1", "--ais-dk", status=2)
+    return "projections by name were tried"
+
+
 # Hostile input.
 
 
@@ -460,6 +484,15 @@ def check_refused():
         want("usage:" in output, f"{tool[0]} has no help")
 
 
+def check_example():
+    """The logs of examples/logs are what make_logs.py makes."""
+    make_logs.example("example")
+    for folder, _, files in os.walk("example"):
+        for path in (os.path.join(folder, it) for it in files):
+            kept = os.path.join(TOP, "examples", "logs", os.path.relpath(path, "example"))
+            want(read(path) == read(kept), f"{kept} is made differently")
+
+
 def check_large():
     """A table larger than a file is written as several; a day of reports costs what it may."""
     value = "x" * 500_000
@@ -503,9 +536,11 @@ def main():
             check_rows(output)
             browser = check_pictures(load, questions(key).replace("\n", " "))
     check_heat(spoilt["heat"])
+    print(f"tools: {check_projection()}")
     check_names()
     check_files()
     check_refused()
+    check_example()
     print(f"tools: {check_large()}")
     print(f"tools: {browser}")
     print(f"tools: {tried} tried, 0 failed")

@@ -1,6 +1,8 @@
 -- To a table `tracks` of ships: the tracks, and who came within 50 metres of whom. `near` is where
 -- one was in the square of 50 metres to each side of the other, and `times` when. The last two
 -- answers are for a map and for rows.
+CREATE INDEX by_track ON tracks USING GIST (track);
+
 SELECT ship, track FROM tracks;
 
 SELECT a.ship AS one, b.ship AS other, nearestApproachSquared(a.track, b.track) AS squared,
