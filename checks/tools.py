@@ -74,12 +74,12 @@ def literal(pieces, show):
     return f'"{{[{text}]}}"' if len(pieces) > 1 else f'"[{text}]"'
 
 
-def wanted_table(name):
-    """The table file of the scene in one of the formats."""
+def wanted_table(name, tracks):
+    """The table file of tracks in one of the formats."""
     time = f"{make_logs.DAY}{'T' if name == 'gpx' else ' '}%s{'Z' if name == 'gpx' else ''}"
     heading = {"ais": "mmsi,track,sog", "gtfs": "trip,track"}.get(name, "name,track")
     lines = [heading]
-    for ship, track in sorted(TRACKS.items()):
+    for ship, track in sorted(tracks.items()):
         pieces = scene.pieces_of(track)
         fields = [ship, literal(pieces, lambda it: f"POINT({it[1]} {it[2]})@"
                                 + time % make_logs.clock_of(it[0]))]
@@ -107,7 +107,7 @@ def check_table(name, spoilt):
     words, files = FORMATS[name]
     load, note = run("log_to_table", "track", "600", *words, *AROUND, *CLEAN, "--out", "tracks.csv",
                      *files)
-    want(read("tracks.csv") == wanted_table(name), f"{name}: another table")
+    want(read("tracks.csv") == wanted_table(name, TRACKS), f"{name}: another table")
     kinds = list(spoilt.values())
     read_lines = re.match(r"dropped (\d+) of (\d+) reports: ", note)
     want(read_lines and int(read_lines[1]) == len(kinds), f"{name}: the first line is {note[:200]}")
@@ -119,6 +119,17 @@ def check_table(name, spoilt):
     want(refused == "", f"{name}: something is written in spite of faults")
     want(len(faults.splitlines()) == count + 1, f"{name}: {count} faults are due, not {faults}")
     return load
+
+
+def check_last():
+    """With --duplicates last the later line of an instant counts, with first the earlier one."""
+    later = {(ship, second): place for kind, ship, second, *place in make_logs.spoil(TRACKS)
+             if kind == "twice"}
+    tracks = {ship: [(second, *later.get((ship, second), place)) for second, *place in track]
+              for ship, track in TRACKS.items()}
+    words = ["last" if it == "first" else it for it in CLEAN]
+    table, _ = run("log_to_table", "track", "600", "--ais-dk", *AROUND, *words, "logs/ais.csv")
+    want(table == wanted_table("ais", tracks), "--duplicates last: another table")
 
 
 # Questions, each with a computation of its own.
@@ -312,6 +323,7 @@ def check_browser(path, data, second):
         return "no chromium: the page was not tried in a browser"
     clock = make_logs.clock_of(second)
     words = ["--headless", "--no-sandbox", "--disable-gpu", "--dump-dom",
+             f"--user-data-dir={os.path.abspath('chromium')}",
              f"file://{os.path.abspath(path)}#{make_logs.DAY}T{clock}"]
     try:
         ran = subprocess.run([browser, *words], capture_output=True, text=True, timeout=300,
@@ -443,7 +455,11 @@ def check_files():
     run("log_to_table", "track", "600", "--out", os.fsdecode(b"\xff.csv"), "names.csv", status=1)
 
 
+VALUE = ["--columns", "time=time", "name=ship", "value=v", "--type"]
 REFUSED = [
+    ("a tint", b"time,ship,v\n2026-05-05 06:00,a,1.5\n", [*VALUE, "tint"], "no whole number: 1.5"),
+    ("a tbool", b"time,ship,v\n2026-05-05 06:00,a,2\n", [*VALUE, "tbool"], "neither true nor"),
+    ("a tfrac", b"time,ship,v\n2026-05-05 06:00,a,1,5\n", [*VALUE, "tfrac"], "4 fields, and 3"),
     ("an empty file", b"", [], "an empty file"),
     ("bytes that are no text", b"time,ship,x,y\n2026-05-05,\xff,1000,2\n2026-05-05,b,\xe9,2\n", [],
      "2 faults"),
@@ -535,6 +551,7 @@ def main():
         if name == "ais":
             check_rows(output)
             browser = check_pictures(load, questions(key).replace("\n", " "))
+    check_last()
     check_heat(spoilt["heat"])
     print(f"tools: {check_projection()}")
     check_names()
