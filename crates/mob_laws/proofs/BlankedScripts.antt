@@ -13,7 +13,8 @@ use Rattle.mob_typed.specs.Selects.{TypedSelectParts}
 use Rattle.mob_typed.specs.Statements.{ScriptOut, StatementOut, deletion, new_index, nothing, plan_of, query}
 use Rattle.mob_operators.specs.Lookup.{same_type}
 use Rattle.mob_operators.specs.Table.{is_one_of}
-use Rattle.mob_scope.specs.Answers.{Mistake, ◌>>=◌, found, unless}
+use Rattle.mob_scope.specs.Answers.{◌>>=◌, found, unless}
+use Rattle.mob_scope.specs.declared.fault.Mistake.{Mistake}
 use Rattle.mob_scope.specs.Names.{column_of, has_entry}
 use Rattle.mob_clauses.specs.Clauses.{rows_to_go}
 use Rattle.mob_typing.specs.Names.{NameLists, table_of}

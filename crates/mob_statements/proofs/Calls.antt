@@ -44,11 +44,11 @@ module _ {F S X A : Type 0} (g : Shared F (A × (MutBor S × (Bor X × Unit {0})
         (does k.alloc k.shown k.statement k.left (Ok h.0) k.met).0)))
 
     has_fault : (s : S) (x : X) (fault : TupleFault) → CallStops g f s x fault → faults s x fault
-    has_fault s x (rows, (place, formula)) h =
+    has_fault s x fault h =
         let k = h.1 in
-        subst (λ z. faults z x (rows, (place, formula))) k.shows
-        (subst (λ z. faults k.shown.now z (rows, (place, formula))) k.reads
-        (does k.alloc k.shown k.statement k.left (Err (Because f)) k.met).1)
+        subst (λ z. faults z x fault) k.shows
+        (subst (λ z. faults k.shown.now z fault) k.reads
+        (does k.alloc k.shown k.statement k.left (Err (Because fault)) k.met).1)
 
     -- so in the states to which its calls lead, statements that can run by steps can run
     pub can_by_calls : (all : List X) (s : S) → CanAllRun step can s all → CanRunEach (CallRuns g f) can s all

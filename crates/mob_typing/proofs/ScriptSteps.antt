@@ -1,7 +1,6 @@
 -- The statements typed so far, and those that follow.
 use Rattle.std.proofs.Common.{◌≡◌, ◌∙◌, ◌<◌, ◌+◌, refl, sym, ap, inl, inr, ℕ, List, [], ◌∷◌, ◌++◌, length, map, drop, get_or, Result, Ok, Err}
 use Rattle.std.proofs.lemmas.List.{drop_more}
-use Rattle.mob_ast.specs.declared.refusal.Kind.{Kind}
 use Rattle.mob_ast.specs.declared.refusal.Refusal.{Refusal}
 use Rattle.mob_ast.specs.declared.statement.Statement.{Statement}
 use Rattle.mob_ast.specs.Trees.{StatementParts, statement_of}
@@ -49,11 +48,11 @@ module _ (n : ℕ) (names : NameLists) (ss : List Statement) (i : ℕ) (done : L
         next ∙ ap (λ r. behind_script done (or_refused (in_statement n r) rest)) h ∙ one_behind done m.statement (typed_from (n + 1) m.names others ds)
         ∙ ap (λ d. behind_script d (typed_from (n + 1) m.names others ds)) (sym pushed)
 
-    pub statement_refused : (kind : Kind) (place : ℕ) → typed_statement n names (statement_of s) cs ≡ Err (record { kind = kind; place = place }) → whole ≡ Err (record { kind = kind; statement = n; place = place })
-    statement_refused kind place h = next ∙ ap (λ r. behind_script done (or_refused (in_statement n r) rest)) h ∙ refused_behind done (record { kind = kind; statement = n; place = place })
+    pub statement_refused : (wrong : Mistake) → typed_statement n names (statement_of s) cs ≡ Err wrong → whole ≡ Err (record { kind = wrong.kind; statement = n; place = wrong.place })
+    statement_refused wrong h = next ∙ ap (λ r. behind_script done (or_refused (in_statement n r) rest)) h ∙ refused_behind done (record { kind = wrong.kind; statement = n; place = wrong.place })
 
     pub statement_stops : (f : Fault Mistake) (e : Refusal) → e ≡ refusal_of f n → StopsTyping f (typed_statement n names (statement_of s) cs) → IsTypingRefusal e whole
-    statement_stops (Because wrong) e is h = let refused : Refusal → Result ScriptOut Refusal = λ r. Err r in inr (statement_refused kind place h ∙ ap refused (sym is))
+    statement_stops (Because wrong) e is h = let refused : Refusal → Result ScriptOut Refusal = λ r. Err r in inr (statement_refused wrong h ∙ ap refused (sym is))
     statement_stops NoMemory e is h = inl is
 
   pub script_done : drop i ss ≡ [] → whole ≡ Ok (record { statements = done; consts = cs })

@@ -187,5 +187,5 @@ abbrev pub IsTypingRefusal : Refusal → Result ScriptOut Refusal → Type 0
 IsTypingRefusal e read = (e ≡ no_memory) ⊎ (read ≡ Err e)
 
 abbrev pub refusal_of : Fault Mistake → ℕ → Refusal
-refusal_of (Because wrong) n = record { kind = kind; statement = n; place = place }
+refusal_of (Because wrong) n = record { kind = wrong.kind; statement = n; place = wrong.place }
 refusal_of NoMemory n = no_memory

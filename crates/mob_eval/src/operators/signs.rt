@@ -47,7 +47,10 @@ where
         return Ok(Value::Null);
     };
     match scope {
-        Scope::Each => Ok(bool_or_null(compare(alloc, left, right, rel)?)),
+        Scope::Each => match compare(alloc, left, right, rel) {
+            Ok(value) => Ok(bool_or_null(value)),
+            Err(fault) => Err(fault),
+        },
         Scope::Ever => answered(ever(alloc, left, right, rel)),
         Scope::Always => answered(always(alloc, left, right, rel)),
     }

@@ -21,7 +21,7 @@ rows_on-requires g c =
     let both = halves root_seen c.args.roots.now _ _ (item_trees select) (key_trees select) c.split_at.ensures.by_index.0 count c.requires.roots in
     record { items = both.0; keys = both.1; fits = c.requires.fits }
 
-pub returns-in-Ok-clause-text : goal.returns-in-Ok-clause-text
-returns-in-Ok-clause-text g c =
-    let text = c.in_ok-text_of.ensures.text in
+pub returns-in_ok-text_of-in-Ok-clause-text : goal.returns-in_ok-text_of-in-Ok-clause-text
+returns-in_ok-text_of-in-Ok-clause-text g c =
+    let text = c.in_ok-text_of-in-Ok.ensures.text in
     (text.0, (map (answer_row (select_seen c.args.select.now) c.args.epoch.now) c.in-Ok.rows.items, c.in-Ok.ensures.rows, text.1), text.2)

@@ -7,4 +7,4 @@ pub returns-clause-rows : goal.returns-clause-rows
 returns-clause-rows c =
     let select = select_seen c.args.select.now in
     c.in_ok-rows_of.ensures.rows (groups_on select c.args.store.now c.args.epoch.now c.args.kept.now)
-    (grouped_all select c.args.store.now c.args.epoch.now c.args.kept.now c.grouped_tuples.new.groups.items c.in-Ok-grouped_tuples.ensures.groups)
+    (grouped_all select c.args.store.now c.args.epoch.now c.args.kept.now c.grouped_tuples.new.groups.items c.in_ok-grouped_tuples.ensures.groups)
