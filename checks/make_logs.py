@@ -190,6 +190,16 @@ def write_table(path, header, rows):
             print(",".join(map(str, row)), file=file)
 
 
+def middles(tracks, reports):
+    """The reports in the middle of their neighbours, none beside another or a spoilt one."""
+    found = {(ship, it[0]) for ship, track in tracks.items()
+             for before, it, after in zip(track, track[1:], track[2:])
+             if it[0] // STEP % 2 and all(2 * now == one + other for one, now, other
+                                          in zip(before, it, after))}
+    return found - {(ship, second + more) for kind, ship, second, _, _ in reports
+                    if kind != "good" for more in (-80, -60, -20, 0, 40, 60)}
+
+
 def write_gtfs(folder, tracks):
     """A trip for each ship, on the day before, in a zone two hours ahead of UTC. Where a report is
     in the middle of its neighbours its time is blank. Returns the kinds by line of stop_times.txt,
@@ -197,17 +207,11 @@ def write_gtfs(folder, tracks):
     os.makedirs(folder, exist_ok=True)
     stops, lines, blank = {}, [], 0
     reports = [it for it in spoil(tracks) if it[0] != "missing"]
-    middles = {(ship, it[0]) for ship, track in tracks.items()
-               for before, it, after in zip(track, track[1:], track[2:])
-               if it[0] // STEP % 2 and all(2 * now == one + other for one, now, other
-                                            in zip(before, it, after))}
-    spoilt_at = {it[1:3] for it in reports if it[0] != "good"}
-    busy = {(ship, second + more) for ship, second in spoilt_at
-            for more in (-80, -60, -20, 0, 40, 60)}
+    without_time = middles(tracks, reports)
     for number, (kind, ship, second, x, y) in enumerate(reports, 1):
         stop = "nowhere" if kind == "broken" else stops.setdefault((x, y), f"s{len(stops)}")
         time = clock_of(second + 26 * 3600)
-        if kind == "good" and (ship, second) in middles and (ship, second) not in busy:
+        if kind == "good" and (ship, second) in without_time:
             time, blank = "", blank + 1
         lines.append((kind, ship, second, (ship, time, time, stop, number)))
     lines = shuffle(lines)

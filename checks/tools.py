@@ -24,7 +24,6 @@ CLEAN = ["--fastest", "30", "--duplicates", "first", "--skip-malformed", "--drop
 TRACKS = make_logs.scene()
 BOX = (-600, -900, 900, 1300)
 LIMIT = Fraction(18)
-MIDNIGHT = f"{make_logs.DAY} 00:00:00"
 MOMENT = re.compile(r"2026-05-05 (\d\d):(\d\d):(\d\d(?:\.\d+)?)(?:\((\d+)/(\d+)\))?\+00")
 FORMATS = {
     "ais": (["--ais-dk"], ["logs/ais.csv"]),

@@ -1,11 +1,11 @@
 """A map as one page, with a slider over time."""
 import base64
 import hashlib
-import json
 from math import ceil
 
 from .command import Refused
 from .drawing import COLOURS, EPOCH, moment, shown_text
+from .texts import json_text
 from .times import UNIX
 
 SINCE_1970 = EPOCH - UNIX
@@ -114,11 +114,6 @@ slider.oninput = show;
 window.onhashchange = fromAddress;
 fromAddress();
 """
-
-
-def json_text(value):
-    """The text of a value in JSON. It closes no element of HTML."""
-    return json.dumps(value, ensure_ascii=True).replace("<", "\\u003c")
 
 
 def pieces_on(drawing, shape, first):

@@ -2,7 +2,7 @@
 import os
 
 from .texts import is_text, name_of, table_field
-from .tracks import literal, readings_of, report_time, track_of
+from .tracks import literal, readings_of, track_of
 
 FILE_BYTES = 16_777_216
 INSTANTS = 100_000
@@ -32,7 +32,6 @@ class Table:
 
     def build(self):
         """Makes the rows, by name."""
-        unit = self.asked.to
         for name, reports in sorted(self.log.reports.items()):
             if not reports:
                 self.log.notes.append(f"{name}: no report is left")

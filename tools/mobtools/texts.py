@@ -1,5 +1,6 @@
 """Lines of CSV, fields of table files and names of columns."""
 import csv
+import json
 import re
 import sys
 
@@ -64,3 +65,8 @@ def name_of(text):
         return text.lower()
     name = re.sub("[^a-z0-9]+", "_", text.lower()).strip("_")
     return name if is_name(name) else f"c_{name}"
+
+
+def json_text(value):
+    """The text of a value in JSON. It closes no element of HTML."""
+    return json.dumps(value, ensure_ascii=False).replace("<", "\\u003c")
