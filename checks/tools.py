@@ -131,6 +131,21 @@ def check_last():
     want(table == wanted_table("ais", tracks), "--duplicates last: another table")
 
 
+def check_service():
+    """A timetable counts from noon less twelve hours, also in the night that has 23 hours."""
+    os.makedirs("night")
+    write("night/stop_times.txt", "trip_id,arrival_time,departure_time,stop_id,stop_sequence\n"
+          "t,08:00:00,08:01:00,a,1\nt,25:30:00,25:30:00,b,2\n")
+    write("night/stops.txt", "stop_id,stop_lat,stop_lon\na,55.7,12.6\nb,55.7,12.6\n")
+    words = ["log_to_table", "track", "99999", "--gtfs", "night", *AROUND, "--date", "2026-03-29"]
+    for zone, times in (("Europe/Copenhagen", ["29 06:00", "29 06:01", "29 23:30"]),
+                        ("-03:30", ["29 11:30", "29 11:31", "30 05:00"])):
+        table, _ = run(*words, "--zone", zone)
+        want(re.findall(r"@2026-03-(.{8}):00", table) == times, f"{zone}: {table}")
+    for more in ([], ["--zone", "Nowhere/At_all"], ["--zone", "../../etc/passwd"]):
+        run(*words, *more, status=1)
+
+
 # Questions, each with a computation of its own.
 
 
@@ -551,6 +566,7 @@ def main():
             check_rows(output)
             browser = check_pictures(load, questions(key).replace("\n", " "))
     check_last()
+    check_service()
     check_heat(spoilt["heat"])
     print(f"tools: {check_projection()}")
     check_names()

@@ -45,11 +45,12 @@ def digits(text):
 
 
 def arguments(words):
-    """The arguments, with a latitude below 0 taken for no option."""
+    """The arguments, with a latitude or an offset below 0 taken for no option."""
     joined, rest = [], list(words)
     while rest:
         word = rest.pop(0)
         if word == "--":
             return [*joined, word, *rest]
-        joined.append(f"{word}={rest.pop(0)}" if word == "--around" and rest else word)
+        takes_sign = word in ("--around", "--zone") and rest
+        joined.append(f"{word}={rest.pop(0)}" if takes_sign else word)
     return joined
