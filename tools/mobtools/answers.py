@@ -95,11 +95,11 @@ def plain(text):
 
 
 def value_of(text):
-    """What a field is: a value over time, a list of spans, a place, an area, a number, None where
-    it is NULL, and else its text."""
+    """What a field is: a value over time, a list of spans, a place, an area, a number as mobsql
+    prints it, None where it is NULL, and else its text."""
     if text == NULL:
         return None
-    if re.fullmatch(NUMBER, text, re.ASCII):
+    if re.fullmatch(NUMBER, text, re.ASCII) and str(Fraction(text)) == text:
         return Fraction(text)
     if POINT.fullmatch(text):
         return place(text)
@@ -113,6 +113,19 @@ def value_of(text):
     return plain(text) if found is None else found
 
 
+def column_type(answer, at):
+    """The type of the values of a column, NULL aside. A column with texts that look like something
+    else beside others is one of texts. A value over time in the first row speaks for all."""
+    values = (value_of(row[at]) for row in answer.rows if row[at] != NULL)
+    found = type(next(values, None))
+    return found if found is Timed or all(type(it) is found for it in values) else str
+
+
+def typed(text, kind):
+    """The value of a field in a column of a type."""
+    return plain(text) if kind is str and text != NULL else value_of(text)
+
+
 def records(lines):
     """The records of some lines; bytes that are no text are refused."""
     reader = csv.reader(lines)
@@ -123,6 +136,8 @@ def records(lines):
             yield reader.line_num, record
     except csv.Error as fault:
         raise Refused(f"answer, line {reader.line_num}: {fault}") from fault
+    except OSError as fault:
+        raise Refused(f"standard input: {fault.strerror}") from fault
 
 
 def answers(lines):
@@ -138,3 +153,16 @@ def answers(lines):
         found.append(record)
     if found:
         raise Refused(f"answer, line {line}: an answer ends with its count of rows")
+
+
+def chosen(found, number):
+    """The answer of a number."""
+    if not 1 <= number <= len(found):
+        raise Refused(f"no answer {number}: there are {len(found)}")
+    return found[number - 1]
+
+
+def root_option(text):
+    """The argument of --root: the column, and the name of the root."""
+    column, _, name = text.partition("=")
+    return column, name or column

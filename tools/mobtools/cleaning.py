@@ -1,26 +1,29 @@
 """What is done to the reports of a log before they are tracks: projection, then cleaning."""
 from fractions import Fraction
+from statistics import median_low
 
 from .command import Refused
 from .logs import Report
 from .numbers import NANO, nano
-from .places import are_degrees, degree, to_nano
+from .places import degree, to_nano
 from .times import time_of
 
 
-def are_all_degrees(log):
-    """Whether each place of the log may be one in degrees, and there is one."""
+def look_like_degrees(log):
+    """Whether nine in ten places of the log may be in degrees. Those of AIS that are missing may:
+    their x is 181 and their y 91."""
     places = [it for group in log.reports.values() for it in group]
-    return bool(places) and all(are_degrees(nano(it.x), nano(it.y)) for it in places)
+    count = sum(abs(nano(it.x)) <= 181 * NANO and abs(nano(it.y)) <= 91 * NANO for it in places)
+    return bool(places) and 10 * count >= 9 * len(places)
 
 
 def advice(log):
     """What to do with degrees, with a point in their middle."""
     xs, ys = zip(*((Fraction(nano(it.x), NANO), Fraction(nano(it.y), NANO))
                    for group in log.reports.values() for it in group))
-    lat, lon = (float(min(it) + max(it)) / 2 for it in (ys, xs))
-    return (f"all x are within 180 and all y within 90: these look like degrees, which are no "
-            f"lengths. Give a projection and a unit, such as --around={lat:.2f},{lon:.2f} --to 1, "
+    lat, lon = (max(min(float(median_low(it)), most), -most) for it, most in ((ys, 89), (xs, 180)))
+    return (f"x is within 180 and y within 90: these look like degrees, which are no lengths. "
+            f"Give a projection and a unit, such as --around={lat:.2f},{lon:.2f} --to 1, "
             f"or --project utm{int(lon + 180) // 6 % 60 + 1}{'s' * (lat < 0)} --to 1; "
             "or --metres, if they are metres")
 
@@ -30,7 +33,7 @@ def in_degrees(log, report):
     try:
         return degree(report.x, 180), degree(report.y, 90)
     except Refused as why:
-        log.malformed(report.source, report.line, why)
+        log.spoilt(report.source, report.line, why)
         return None
 
 
@@ -47,7 +50,7 @@ def project(log, projection):
             try:
                 placed.append(Report(*it[:4], to_nano(x), to_nano(y), *it[6:]))
             except Refused as why:
-                log.malformed(it.source, it.line, why)
+                log.spoilt(it.source, it.line, why)
 
 
 def drop_duplicates(log, keep):

@@ -1,5 +1,7 @@
 """The command line: arguments, standard streams, and how a tool ends."""
 import argparse
+import contextlib
+import os
 import signal
 import sys
 
@@ -17,13 +19,49 @@ def parser(description, usage):
 def use_streams():
     """Standard streams in UTF-8. Bytes that are no UTF-8 come in as lone surrogates."""
     signal.signal(signal.SIGPIPE, signal.SIG_DFL)
+    if None in (sys.stdin, sys.stdout, sys.stderr):
+        raise Refused("a standard stream is closed")
     for stream in sys.stdin, sys.stdout, sys.stderr:
         stream.reconfigure(encoding="utf-8", errors="surrogateescape", newline="\n")
 
 
 def stop(tool, why):
-    """Ends the tool with status 1."""
-    sys.exit(f"{tool}: {why}")
+    """Ends the tool with status 1. Output that is still held back is dropped."""
+    with contextlib.suppress(OSError, AttributeError):
+        sys.stderr.write(f"{tool}: {why}\n")
+        sys.stderr.flush()
+    os._exit(1)
+
+
+def run(tool, main):
+    """Runs a tool. What is refused, by it or by the system, is its last line, with status 1."""
+    try:
+        use_streams()
+        try:
+            main()
+        finally:
+            sys.stdout.flush()
+    except Refused as why:
+        stop(tool, why)
+    except OSError as fault:
+        stop(tool, f"{fault.filename or 'standard output'}: {fault.strerror}")
+
+
+def write_lines(path, lines):
+    """Writes a file of these lines."""
+    try:
+        with open(path, "w", encoding="utf-8", errors="surrogateescape", newline="\n") as file:
+            file.writelines(f"{it}\n" for it in lines)
+    except OSError as fault:
+        raise Refused(f"{path}: {fault.strerror}") from fault
+
+
+def is_same_file(one, other):
+    """Whether two paths lead to one file. A path may be the number of a stream."""
+    try:
+        return os.path.isfile(one) and os.path.samefile(one, other)
+    except OSError:
+        return not isinstance(one, int) and os.path.realpath(one) == os.path.realpath(other)
 
 
 def whole_seconds(text):
@@ -44,13 +82,21 @@ def digits(text):
     return int(text)
 
 
-def arguments(words):
-    """The arguments, with a latitude or an offset below 0 taken for no option."""
+def arguments(words, roles=()):
+    """The arguments, with a latitude or an offset below 0 taken for no option. Each column gets a
+    `--columns` of its own, up to the last one with a role, so that files may come after them."""
     joined, rest = [], list(words)
     while rest:
         word = rest.pop(0)
         if word == "--":
             return [*joined, word, *rest]
+        if word == "--columns":
+            count = next((at for at, it in enumerate(rest) if it.startswith("-")), len(rest))
+            while count and rest[count - 1].partition("=")[0] not in roles:
+                count -= 1
+            joined += [f"{word}={it}" for it in rest[:count]] or [word]
+            rest = rest[count:]
+            continue
         takes_sign = word in ("--around", "--zone") and rest
         joined.append(f"{word}={rest.pop(0)}" if takes_sign else word)
     return joined

@@ -66,7 +66,9 @@ def read_file(log, source, stem, data):
     try:
         for event, element in tree.iterparse(checked(data), ("start", "end")):
             getattr(reader, event)(element)
-    except tree.ParseError as fault:
+        if not reader.points:
+            raise Refused("no point of a track in this file")
+    except (tree.ParseError, LookupError, ValueError) as fault:
         log.fault(source, reader.points + 1, f"no GPX: {fault}")
     except Refused as why:
         log.fault(source, 0, why)

@@ -74,6 +74,9 @@ class Feed:
                             raise Refused(f"{len(row)} fields, and {len(fields)} columns")
                         yield line, [row[it] for it in at.values()]
                 except Refused as why:
+                    if at is not None and source == 0:
+                        self.log.malformed(source, line, why)
+                        continue
                     self.log.fault(source, line, why)
                     if at is None:
                         return
@@ -102,13 +105,12 @@ class Feed:
         return running
 
     def trips(self, day):
-        """The trips that run on a date; None if the feed has no calendar."""
+        """Each trip, with whether it runs on a date; None if the feed has no calendar."""
         running = self.services(day)
         if running is None:
             return None
-        all_trips = {trip: service for _, (trip, service) in self.rows("trips.txt")}
-        trips = {trip for trip, service in all_trips.items() if service in running}
-        self.log.notes.append(f"{len(trips)} of {len(all_trips)} trips run on {day}")
+        trips = {trip: service in running for _, (trip, service) in self.rows("trips.txt")}
+        self.log.notes.append(f"{sum(trips.values())} of {len(trips)} trips run on {day}")
         return trips
 
     def places(self):
@@ -119,9 +121,11 @@ def stops_of(feed, log, trips):
     """The stops of each trip, in order."""
     places, found = feed.places(), {}
     for line, (trip, comes, goes, stop, place) in feed.rows("stop_times.txt"):
-        if trips is not None and trip not in trips:
+        if trips is not None and not trips.get(trip, True):
             continue
         try:
+            if trips is not None and trip not in trips:
+                raise Refused(f"trips.txt has no trip {trip}")
             if stop not in places:
                 raise Refused(f"stops.txt has no stop {stop}")
             lon, lat = map(number, places[stop])
@@ -182,7 +186,9 @@ def read_folder(log, folder, day_text, zone_text):
         try:
             stops = timed(stops)
         except Refused as why:
-            log.malformed(0, stops[0].line, f"trip {trip}: {why}")
+            # Each line is dropped, but one fault is enough.
+            for it in stops if log.skips_malformed else stops[:1]:
+                log.malformed(0, it.line, f"trip {trip}: {why}")
             continue
         for it in stops:
             if it.comes is None:

@@ -1,6 +1,7 @@
 """A log that is being read: its reports, and which lines are at fault or dropped."""
 from collections import Counter, namedtuple
 
+from .command import write_lines
 from .texts import quoted_field
 
 # One report of a thing. `source` is the number of its file, `line` the number of its line or point.
@@ -34,6 +35,10 @@ class Log:
     def malformed(self, source, line, why):
         """A line that is no report."""
         self.read += 1
+        self.spoilt(source, line, why)
+
+    def spoilt(self, source, line, why):
+        """A report that was counted and is none."""
         if self.skips_malformed:
             self.drop(source, line, "malformed", why)
         else:
@@ -63,8 +68,6 @@ class Log:
 
     def write_dropped(self, path):
         """Writes each dropped line with its file, its number and the reason."""
-        with open(path, "w", encoding="utf-8", errors="surrogateescape", newline="\n") as file:
-            print(f"file,{self.part},reason", file=file)
-            for source, line, _, why in sorted(self.dropped):
-                fields = quoted_field(self.sources[source]), line, quoted_field(why)
-                print(*fields, sep=",", file=file)
+        rows = (f"{quoted_field(self.sources[source])},{line},{quoted_field(why)}"
+                for source, line, _, why in sorted(self.dropped))
+        write_lines(path, [f"file,{self.part},reason", *rows])

@@ -38,7 +38,8 @@ class Shape:
 
     def texts(self):
         """The texts of the row of an encounter: who it is."""
-        return [plain(it) for name, it in self.row.items() if "@" not in it and name != "squared"]
+        return [plain(it) for name, it in self.row.items() if name != "squared"
+                and not isinstance(value_of(it), (Timed, list, Area, Place))]
 
     def span(self):
         """The first and the last second of a moving point."""
@@ -195,6 +196,11 @@ class Map:
             yield stroke(f"M{self.left} {y} H{self.right:.1f}", GRID, 1)
             yield text(self.left - 8, y + 4, axis_text(it), GREY, ' text-anchor="end"')
 
+    def legend_lines(self):
+        """How many lines the encounters take: in one column where a text is too wide for two."""
+        is_wide = any(7.2 * len(shown) > 390 for _, shown in self.meetings)
+        return len(self.meetings) if is_wide else (len(self.meetings) + 1) // 2
+
     def legend(self, y):
         """What the signs are; then who met, and when."""
         x = self.left
@@ -205,9 +211,8 @@ class Map:
         if self.meetings:
             yield stroke(f"M{x + 264} {y - 4:.1f} h28", RED, 5)
             yield text(x + 304, y, "near one another (UTC):", GREY)
-        half = (len(self.meetings) + 1) // 2
         for number, shown in self.meetings:
-            column, line = divmod(number - 1, half)
+            column, line = divmod(number - 1, self.legend_lines())
             left, low = x + 9 + column * 416, y + 24 + 22 * line
             yield (badge(left, low - 4.5, number)
                    + text(left + 18, low, shown, more=' font-size="13.5"'))
@@ -220,5 +225,5 @@ class Map:
         badges = [self.badge_at(it.lines[0], number) for number, it in enumerate(meetings, 1)]
         labels = [self.label(it, colour) for it, _, colour in shapes if not self.is_meeting(it)]
         legend = self.bottom + 48
-        height = legend + 22 * ((len(self.meetings) + 1) // 2) + 18
+        height = legend + 22 * self.legend_lines() + 18
         return height, drawn + labels + badges + list(self.legend(legend))

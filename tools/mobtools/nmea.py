@@ -52,17 +52,21 @@ def report(text, source, line):
 
 def read_lines(log, source, name, lines):
     """Reads the sentences RMC of one thing. Other lines are no reports."""
-    before = log.read
+    count = log.read
     for line, text in enumerate(lines, 1):
         try:
-            if not text[3:7] == "RMC,":
+            if "RMC," not in text:
                 continue
-            found = report(line_of(text).strip(), source, line)
+            # A tag block or the clock of a logger may come before the sentence.
+            before, dollar, rest = line_of(text).strip().rpartition("$")
+            if "RMC," in before:
+                raise Refused("two sentences on a line")
+            found = report(dollar + rest, source, line)
             if found:
                 log.add(name, found)
             else:
                 log.missing(source, line, f"no position of {name}")
         except Refused as why:
             log.malformed(source, line, why)
-    if log.read == before:
+    if log.read == count:
         log.fault(source, 0, "no sentence RMC in this file")

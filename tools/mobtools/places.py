@@ -104,11 +104,6 @@ def add_projection(parser, to):
     return group
 
 
-def are_degrees(x, y):
-    """Whether two numbers, a thousand million times, may be a longitude and a latitude."""
-    return abs(x) <= 180 * NANO and abs(y) <= 90 * NANO
-
-
 def degree(value, most):
     """A longitude or latitude, of its text or as it is."""
     if isinstance(value, str):

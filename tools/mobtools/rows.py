@@ -11,8 +11,13 @@ ROUNDED = "rounded"
 class Shown:
     """A row that is being made, and which of its columns had to be rounded."""
 
-    def __init__(self, digits):
+    def __init__(self, digits, root):
         self.digits, self.values, self.rounded = digits, {}, []
+        self.squared, self.root_name = root or (None, None)
+
+    def name(self, column):
+        """The name under which a column is shown."""
+        return self.root_name if column == self.squared else column
 
     def put(self, name, value, is_rounded):
         self.values[name] = value
@@ -20,13 +25,16 @@ class Shown:
             self.rounded.append(name)
 
     def number(self, name, value):
-        """A number as a decimal."""
-        self.put(name, *decimal(value, self.digits))
+        """A number as a decimal; in its place the root, if that is asked for."""
+        if name == self.squared:
+            self.root(self.root_name, value)
+        else:
+            self.put(name, *decimal(value, self.digits))
 
     def root(self, name, square):
         """The square root of a number as a decimal."""
         if square < 0:
-            raise Refused(f"{name} has no root: it is below 0")
+            raise Refused(f"{self.squared} has no root: it is below 0")
         value, is_exact = root(square, self.digits + 3)
         text, is_rounded = decimal(value, self.digits)
         self.put(name, text, is_rounded or not is_exact)

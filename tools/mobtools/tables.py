@@ -1,6 +1,7 @@
 """Table files: the rows of a log, in files that mobsql accepts, and the statements for them."""
 import os
 
+from .command import write_lines
 from .texts import is_text, name_of, table_field
 from .tracks import literal, readings_of, track_of
 
@@ -60,9 +61,9 @@ class Table:
 
     def bound_lines(self, unit):
         """How far the tracks were moved."""
-        yield from (f"{name}: at most {unit.root_above(square)} from the reported track"
+        yield from (f"{name}: at most {unit.root_above(square)} m from the reported track"
                     for name, square in self.bounds)
-        yield f"all tracks: at most {unit.root_above(self.square)} from the reported ones"
+        yield f"all tracks: at most {unit.root_above(self.square)} m from the reported ones"
 
 
 def parts_of(header, rows):
@@ -76,11 +77,6 @@ def parts_of(header, rows):
         parts[-1].append(row)
         size += its_size
     return parts[1:] or [[]]
-
-
-def write_table(path, header, rows):
-    with open(path, "w", encoding="utf-8", errors="surrogateescape", newline="\n") as file:
-        file.write("\n".join([header, *rows, ""]))
 
 
 def paths_of(path, count):
@@ -99,14 +95,13 @@ def string(text):
     return "'" + text.replace("'", "''") + "'"
 
 
-def write_files(path, table):
-    """Writes a table to files, and yields the statements that read them."""
+def write_files(path, table, parts):
+    """Writes the parts of a table to files, and yields the statements that read them."""
     name = table_name(path)
     columns = ", ".join(f"{column} {kind}" for column, kind in table.columns)
     yield f"CREATE TABLE {name} ({columns});"
-    parts = parts_of(table.header(), table.rows)
     for its_path, rows in zip(paths_of(path, len(parts)), parts):
-        write_table(its_path, table.header(), rows)
+        write_lines(its_path, [table.header(), *rows])
         yield f"COPY {name} FROM {string(its_path)} WITH (FORMAT csv, HEADER);"
 
 

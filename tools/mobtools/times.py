@@ -93,6 +93,8 @@ def zone_of(text):
     """A time zone by its offset, such as +02:00, or by its name, such as Europe/Berlin."""
     found = OFFSET.fullmatch(text)
     if found:
+        if int(found[2]) > 15 or int(found[3]) > 59:
+            raise Refused(f"an offset that does not exist: {text}")
         ahead = timedelta(hours=int(found[2]), minutes=int(found[3]))
         return timezone(-ahead if found[1] == "-" else ahead)
     try:
