@@ -110,7 +110,7 @@ def check_table(name, spoilt):
     kinds = list(spoilt.values())
     read_lines = re.match(r"dropped (\d+) of (\d+) reports: ", note)
     want(read_lines and int(read_lines[1]) == len(kinds), f"{name}: the first line is {note[:200]}")
-    want("at most 0.1 from the reported" in note, f"{name}: {note}")
+    want("at most 0.1 m from the reported" in note, f"{name}: {note}")
     check_dropped(name, spoilt)
     refused, faults = run("log_to_table", "track", "600", *words, *AROUND, *files, status=1)
     # In GPX a point without a time is no report; elsewhere a missing position is dropped.
@@ -491,7 +491,165 @@ REFUSED = [
     ("no GPX", b"<gpx><trk>", ["--gpx", *AROUND], "no GPX"),
     ("an offset", b"time,ship,x,y\n2026-05-05 06:00+99,a,1000,1\n", [], "an offset that does not"),
     ("no NMEA", b"$GPGGA,1\n", ["--nmea", *AROUND], "no sentence RMC"),
+    ("two sentences on a line", b"$GPRMC,1$GPRMC,2\n", ["--nmea", *AROUND], "two sentences"),
+    ("a degree and a missing place", b"time,ship,x,y\n2026-05-05 06:00,a,12.5,55.5\n"
+     b"2026-05-05 06:01,a,181,91\n", [], "these look like degrees"),
+    ("an unknown encoding", b'<?xml version="1.0" encoding="klingon"?><gpx/>', ["--gpx", *AROUND],
+     "unknown encoding: klingon"),
+    ("waypoints alone", b'<gpx><wpt lat="1" lon="2"/></gpx>', ["--gpx", *AROUND], "no point of a"),
+    ("a long text", b"time,ship,x,y\n" + b"9" * 10**6 + b",a,1000,1\n", [],
+     f"line 2: no time: {'9' * 60}..\n"),
+    ("a bad role", b"time,ship,x,y\n", ["--columns", "time=time", "speed=x", "name=ship"], "takes"),
 ]
+
+
+def check_outputs():
+    """No tool writes over what it reads. A stream that is full or closed ends it with a line."""
+    shutil.copy("names.csv", "kept.csv")
+    os.symlink("names.csv", "link.csv")
+    for words in (["--out", "names.csv", "names.csv"], ["--dropped", "./names.csv", "names.csv"],
+                  ["--out", "names.csv", "kept.csv", "link.csv"], ["--out", "link.csv", "names.csv"],
+                  ["--out", "new.csv", "--dropped", "./new.csv", "names.csv"]):
+        _, note = run("log_to_table", "track", "600", "--duplicates", "first", *words, status=1)
+        want("would overwrite" in note and not os.path.exists("new.csv"), note)
+    run("log_to_table", "track", "600", "--gtfs", "night", *AROUND, "--date", "2026-03-29", "--zone",
+        "+00:00", "--out", "night/stops.txt", status=1)
+    want(read("names.csv") == read("kept.csv"), "a log is overwritten")
+    tool = os.path.join(TOP, "tools", "log_to_table")
+    note = shell(f"{tool} track 600 --out names.csv < names.csv")
+    want("would overwrite" in note and read("names.csv") == read("kept.csv"), note)
+    write("answer", "ship,place\na,POINT(1 2)\n(1 rows)\n")
+    write("over_time", "ship,speed\na,[1@2026-05-05 06:00:00+00]\n(1 rows)\n")
+    for words, given in (("log_to_table track 600", "names.csv"), ("picture map", "answer"),
+                         ("picture map --html", "answer"), ("picture curves", "over_time"),
+                         ("spans_to_rows", "answer"), ("table_to_geojson --around 1,1", "answer"),
+                         ("table_to_log v", "over_time")):
+        command = f"{os.path.join(TOP, 'tools', words)} < {given}"
+        note = shell(f"{command} > /dev/full")
+        want(note.endswith(": standard output: No space left on device\n"), f"{words}: {note}")
+        for closed in ("<&-", ">&-"):
+            note = shell(f"{command} {closed}")
+            want(note.endswith(": a standard stream is closed\n"), f"{words} {closed}: {note}")
+    for option in ("--out", "--dropped"):
+        _, note = run("log_to_table", "track", "600", option, "/dev/full", "kept.csv", status=1)
+        want(note == "log_to_table: /dev/full: No space left on device\n", note)
+
+
+def shell(command):
+    """What a shell command that must fail says: one line."""
+    ran = subprocess.run(["sh", "-c", command], capture_output=True, text=True, check=False)
+    want(ran.returncode == 1 and ran.stderr.count("\n") == 1, f"{command}: {ran.stderr}")
+    return ran.stderr
+
+
+def check_counts():
+    """What is dropped is counted once, and each line that is dropped is listed."""
+    table = ["log_to_table", "track", "600", *AROUND, "--skip-malformed", "--dropped", "dropped.csv"]
+    _, note = run(*table, given="time,ship,x,y\n2026-05-05 06:00,a,12.6,55.7\n"
+                  "2026-05-05 06:01,a,181,55\n2026-05-05 06:02,a,12,91\n")
+    want(note.startswith("dropped 2 of 3 reports: 2 malformed\n"), note)
+    rmc = "$GPRMC,06{:02}00.00,A,5542.0,N,01236.0,E,10.0,45.0,050526,,,A"
+    log = "\n".join(lead + rmc.format(at) for at, lead in enumerate(
+        ("", "\\s:x*11\\", "  ", "2026-05-05 ", "x$GPRMC,", "!")))
+    output, note = run(*table, "--nmea", given=log + "\n$GPGGA,1\nGPRMC,1\n")
+    want(output.count("POINT") == 5 and note.startswith("dropped 2 of 7 reports: 2"), output + note)
+    os.makedirs("spoilt")
+    shutil.copy("night/stops.txt", "spoilt/stops.txt")
+    times = ("t,08:00:00,08:01:00,a,1", "t,09:00:00,09:00:00,b,2", "t,10:00:00,10:00:00,b,3,",
+             "ghost,08:00:00,08:01:00,a,1", "half,08:00:00,08:00:00,a,1", "half,,,b,2",
+             "half,,,a,3", "rest,08:00:00,08:00:00,a,1")
+    write("spoilt/stop_times.txt", "\n".join(
+        ["trip_id,arrival_time,departure_time,stop_id,stop_sequence", *times, ""]))
+    write("spoilt/calendar_dates.txt", "service_id,date,exception_type\ns,20260504,1\n")
+    write("spoilt/trips.txt", "trip_id,service_id\nt,s\nhalf,s\nrest,other\n")
+    words = ["--gtfs", "spoilt", "--date", "2026-05-04", "--zone"]
+    output, note = run(*table, *words, "+00:00")
+    want(note.startswith("dropped 5 of 8 reports: 5 malformed\n"), note)
+    rows = [row[1] for row in csv.reader(io.StringIO(read("dropped.csv")))][1:]
+    want(rows == ["4", "5", "6", "7", "8"] and output.count("POINT") == 3, f"{rows}, {output}")
+    _, note = run(*table[:5], "--to", "1", *words, "+00:00", status=1)
+    want(note.startswith("log_to_table: 3 faults;") and "no trip ghost" in note, note)
+    _, note = run(*table, *words, "+99:99", status=1)
+    want(note == "log_to_table: an offset that does not exist: +99:99\n", note)
+
+
+def check_order():
+    """Files are read in the order of the command line, also after --columns."""
+    for name, x in (("one", 1000), ("two", 2000), ("three", 3000)):
+        write(f"{name}.csv", f"t,n,x,y\n2026-05-05 06:00,a,{x},1\n")
+    columns = ["--columns", "time=t", "name=n", "x=x", "y=y"]
+    for words in ([*columns, "one.csv", "two.csv", "three.csv"], ["one.csv", *columns, "two.csv"],
+                  [*columns, "one.csv", "--to", "1", "two.csv"], ["one.csv", "two.csv", *columns]):
+        output, _ = run("log_to_table", "track", "600", "--duplicates", "first", *words)
+        want("POINT(1000 1)" in output, f"{words}: {output}")
+
+
+def check_types():
+    """A text that looks like a number or a span is one only in a column of such."""
+    span = "[2026-05-05 00:00:00+00, 2026-05-05 00:00:01+00]"
+    for given, wanted in ((f'n,s\n"{span}",1\nb,2\n', f'n,s,rounded\n"{span}",1,\nb,2,\n'),
+                          (f'n,s\na,"{span}"\nb,\\N\n', "n,start,end,seconds,rounded\n"
+                           "a,2026-05-05 00:00:00,2026-05-05 00:00:01,1,\n"),
+                          ("n,s\n10/2,1\n1/3,\\N\n", "n,s,rounded\n10/2,1,\n1/3,,\n"),
+                          ("n,s\n-0,1/3\n\\N,2\n", "n,s,rounded\n-0,0.333,s\n,2,\n"),
+                          ("n,s\n7,a\n1/2,9\n", "n,s,rounded\n7,a,\n0.5,9,\n")):
+        output, _ = run("spans_to_rows", given=given + "(2 rows)\n")
+        want(output == wanted, f"{given}: {output}")
+    given = "ship,squared,s\n10/2,1/4,1/3\nx,9,2\n(2 rows)\nn\n1\n(1 rows)\n"
+    words = ["--answer", "1", "--root", "squared=metres"]
+    output, _ = run("table_to_geojson", *AROUND[:2], *words, given=given)
+    found = [it["properties"] for it in json.loads(output)["features"]]
+    want(found == [{"ship": "10/2", "metres": 0.5, "s": 0.333, "rounded": ["s"]},
+                   {"ship": "x", "metres": 3, "s": 2}], f"other properties: {found}")
+    output, _ = run("spans_to_rows", *words, given=given)
+    want(output == "ship,metres,s,rounded\n10/2,0.5,0.333,s\nx,3,2,\n", output)
+    for tool in (["spans_to_rows"], ["table_to_geojson", *AROUND[:2]]):
+        for wrong in (["--answer", "1", "--root", "none"], ["--answer", "3"], ["--answer", "0"]):
+            run(*tool, *wrong, given=given, status=1)
+
+
+def check_rings():
+    """An outer ring is counterclockwise and a hole clockwise, whichever way mobsql has them."""
+    rings = [[(0, 0), (0, 900), (900, 900), (900, 0), (0, 0)],
+             [(100, 100), (200, 100), (200, 200), (100, 100)]]
+    for outer, hole in ((1, 1), (1, -1), (-1, 1), (-1, -1)):
+        text = ",".join("(" + ",".join(f"{x} {y}" for x, y in ring[::way]) + ")"
+                        for ring, way in zip(rings, (outer, hole)))
+        output, _ = run("table_to_geojson", *AROUND[:2],
+                        given=f'n,g\na,"POLYGON({text})"\n(1 rows)\n')
+        for ring, sign in zip(json.loads(output)["features"][0]["geometry"]["coordinates"], (1, -1)):
+            area = sum(a[0] * b[1] - b[0] * a[1] for a, b in zip(
+                [(x - 12.6, y - 55.7) for x, y in ring], [(x - 12.6, y - 55.7) for x, y in ring[1:]]))
+            want(sign * area > 0, f"{text}: the ring {ring} goes round the wrong way")
+
+
+def check_legend():
+    """The legend names each ship of an encounter, and no text of it leaves the picture."""
+    for names in (("MAERSK@@", "Bob"), ("219000101", "219000102"), ("a", "b")):
+        near = "[POINT(0 0)@2026-05-05 06:00:00+00, POINT(9 9)@2026-05-05 06:01:00+00]"
+        given = f'one,other,squared,near\n{names[0]},{names[1]},2500,"{near}"\n' * 1
+        given += f'{names[1]},{names[0]},2500,"{near}"\n(2 rows)\n'
+        text, _ = run("picture", "map", given=given)
+        for one, other in (names, names[::-1]):
+            line = f">{one} and {other} 06:00:00\u201306:01:00, nearest 50.0<"
+            want(line in text, f"the legend lacks {line}")
+        lefts = [float(it) for it in re.findall(r'<text x="([0-9.]+)"[^>]*>[^<]* and [^<]*<', text)]
+        wide = 7.2 * len(f"{names[0]} and {names[1]} 06:00:00-06:01:00, nearest 50.0")
+        want(len(lefts) == 2 and all(it + wide < 900 for it in lefts), f"{names}: {lefts}, {wide}")
+        want(len(set(lefts)) == (1 if wide > 390 else 2), f"{names}: texts over one another")
+
+
+def check_near(load):
+    """The query of examples/logs has the spans of the octagon and the squares of the distances."""
+    query = read(os.path.join(TOP, "examples", "logs", "queries", "near.sql"))
+    output, _ = run("mobsql", given=load + query.replace("ship", "mmsi"))
+    _, near, times = answers(output)
+    squares = {it: square for it, square in scene.nearest(TRACKS).items() if square <= 2500}
+    for rows in (near, times):
+        want({(a, b): Fraction(it) for a, b, it, _ in rows} == squares, f"other pairs: {rows}")
+    for one, other, _, text in times:
+        moves = scene.all_stretches(TRACKS[one], TRACKS[other])
+        want(spans_of(text) == scene.in_octagon(moves, 50, 71), f"{one}, {other}: {text}")
 
 
 def check_refused():
@@ -563,6 +721,7 @@ def main():
         key = {"ais": "mmsi", "gtfs": "trip"}.get(name, "name")
         output = check_answers(name, load, key)
         if name == "ais":
+            check_near(load)
             check_rows(output)
             browser = check_pictures(load, questions(key).replace("\n", " "))
     check_last()
@@ -571,6 +730,12 @@ def main():
     print(f"tools: {check_projection()}")
     check_names()
     check_files()
+    check_outputs()
+    check_counts()
+    check_order()
+    check_types()
+    check_rings()
+    check_legend()
     check_refused()
     check_example()
     print(f"tools: {check_large()}")

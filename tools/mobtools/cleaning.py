@@ -2,7 +2,7 @@
 from fractions import Fraction
 from statistics import median_low
 
-from .command import Refused
+from .command import Refused, shown
 from .logs import Report
 from .numbers import NANO, nano
 from .places import degree, to_nano
@@ -64,7 +64,7 @@ def drop_duplicates(log, keep):
                 continue
             earlier = kept[-1]
             dropped = earlier if keep == "last" else it
-            why = f"a second report of {name} at {it.time or time_of(it.seconds)}"
+            why = f"a second report of {shown(name)} at {it.time or time_of(it.seconds)}"
             if keep == "refuse":
                 log.fault(it.source, it.line, f"{why}; the other is {log.part} {earlier.line}")
                 continue
@@ -91,9 +91,9 @@ def drop_jumps(log, fastest):
                 in_a_row = 0
                 continue
             log.drop(it.source, it.line, "too fast",
-                     f"{name} cannot be here so soon after {log.part} {kept[-1].line}")
+                     f"{shown(name)} cannot be here so soon after {log.part} {kept[-1].line}")
             in_a_row += 1
             if in_a_row == 10:
-                log.notes.append(f"{name}: 10 reports or more in a row are too fast; look at "
+                log.notes.append(f"{shown(name)}: 10 reports or more in a row are too fast; look at "
                                  f"{log.place(kept[-1].source, kept[-1].line)} before them")
         log.reports[name] = kept

@@ -1,7 +1,7 @@
 """Logs in CSV: which columns are read, and how."""
 import re
 
-from .command import Refused
+from .command import Refused, shown
 from .logs import Report
 from .numbers import number
 from .places import degree
@@ -21,13 +21,13 @@ def any_value(text):
 
 def whole_number(text):
     if not re.fullmatch(r"[-+]?\d{1,18}", text, re.ASCII):
-        raise Refused(f"no whole number: {text}")
+        raise Refused(f"no whole number: {shown(text)}")
     return text
 
 
 def truth(text):
     if text.lower() not in TRUTHS:
-        raise Refused(f"neither true nor false: {text}")
+        raise Refused(f"neither true nor false: {shown(text)}")
     return TRUTHS[text.lower()]
 
 
@@ -143,7 +143,7 @@ class Reader:
         if self.x is not None:
             place = self.layout.place(fields[self.x], fields[self.y])
             if place is None:
-                self.log.missing(self.source, line, f"no place of {name}")
+                self.log.missing(self.source, line, f"no place of {shown(name)}")
                 return
             x, y = place
         if self.value is not None:

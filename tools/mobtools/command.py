@@ -6,8 +6,17 @@ import signal
 import sys
 
 
+# The characters of a text that a message shows.
+LONGEST = 60
+
+
 class Refused(Exception):
     """Why an input is not accepted."""
+
+
+def shown(text):
+    """A text of an input in a message, cut where it is long."""
+    return text if len(text) <= LONGEST else text[:LONGEST] + ".."
 
 
 def parser(description, usage):

@@ -6,7 +6,7 @@ from datetime import date
 from math import cos, hypot, radians
 
 from .columns import Layout
-from .command import Refused
+from .command import Refused, shown
 from .logs import Report
 from .numbers import number
 from .texts import MARK, fields_of, line_of
@@ -34,7 +34,7 @@ def date_of(text):
     try:
         return date(*map(int, found.groups()))
     except (AttributeError, ValueError) as fault:
-        raise Refused(f"no date: {text}") from fault
+        raise Refused(f"no date: {shown(text)}") from fault
 
 
 def service_seconds(text):
@@ -43,7 +43,7 @@ def service_seconds(text):
         return None
     found = CLOCK.fullmatch(text.rstrip())
     if not found:
-        raise Refused(f"no time: {text}")
+        raise Refused(f"no time: {shown(text)}")
     return int(found[1]) * 3600 + int(found[2]) * 60 + int(found[3])
 
 
@@ -125,9 +125,9 @@ def stops_of(feed, log, trips):
             continue
         try:
             if trips is not None and trip not in trips:
-                raise Refused(f"trips.txt has no trip {trip}")
+                raise Refused(f"trips.txt has no trip {shown(trip)}")
             if stop not in places:
-                raise Refused(f"stops.txt has no stop {stop}")
+                raise Refused(f"stops.txt has no stop {shown(stop)}")
             lon, lat = map(number, places[stop])
             comes, goes = service_seconds(comes), service_seconds(goes)
             stops = found.setdefault(trip, [])
@@ -188,11 +188,12 @@ def read_folder(log, folder, day_text, zone_text):
         except Refused as why:
             # Each line is dropped, but one fault is enough.
             for it in stops if log.skips_malformed else stops[:1]:
-                log.malformed(0, it.line, f"trip {trip}: {why}")
+                log.malformed(0, it.line, f"trip {shown(trip)}: {why}")
             continue
         for it in stops:
             if it.comes is None:
-                log.missing(0, it.line, f"no second for this stop of trip {trip}", "without a time")
+                log.missing(0, it.line, f"no second for this stop of trip {shown(trip)}",
+                            "without a time")
         log.computed += guessed - sum(it.comes is None for it in stops)
         for report in reports_of(stops, midnight):
             log.add(trip, report)

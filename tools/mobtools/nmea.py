@@ -2,7 +2,7 @@
 import re
 from functools import reduce
 
-from .command import Refused
+from .command import Refused, shown
 from .logs import Report
 from .texts import line_of
 from .times import seconds_of
@@ -17,7 +17,7 @@ def angle(text, side):
     """The degrees of ddmm.mmmm and a side."""
     found = ANGLE.fullmatch(text)
     if not found or side not in ("N", "S", "E", "W") or float(found[2]) >= 60:
-        raise Refused(f"no angle: {text} {side}")
+        raise Refused(f"no angle: {shown(f'{text} {side}')}")
     degrees = int(found[1]) + float(found[2]) / 60
     return f"{-degrees if side in 'SW' else degrees:.9f}"
 
@@ -26,7 +26,7 @@ def time_text(clock, date):
     """The time of hhmmss.sss and ddmmyy."""
     found, day = CLOCK.fullmatch(clock), DATE.fullmatch(date)
     if not found or not day:
-        raise Refused(f"no time: {clock} {date}")
+        raise Refused(f"no time: {shown(f'{clock} {date}')}")
     century = "19" if day[3] >= "80" else "20"
     part = (found[4] or "").rstrip("0").rstrip(".")
     return f"{century}{day[3]}-{day[2]}-{day[1]} {found[1]}:{found[2]}:{found[3]}{part}"
@@ -65,7 +65,7 @@ def read_lines(log, source, name, lines):
             if found:
                 log.add(name, found)
             else:
-                log.missing(source, line, f"no position of {name}")
+                log.missing(source, line, f"no position of {shown(name)}")
         except Refused as why:
             log.malformed(source, line, why)
     if log.read == count:

@@ -6,7 +6,7 @@ from fractions import Fraction
 from functools import lru_cache
 from zoneinfo import ZoneInfo, ZoneInfoNotFoundError
 
-from .command import Refused
+from .command import Refused, shown
 
 DAY = 86400
 ISO = re.compile(
@@ -38,7 +38,7 @@ def second_of(date, hour, minute, second, text):
     """The seconds of a date (year, month, day) and a time of day."""
     midnight = midnight_of(*date)
     if midnight is None or hour > 23 or minute > 59 or second > 59:
-        raise Refused(f"a time that does not exist: {text}")
+        raise Refused(f"a time that does not exist: {shown(text)}")
     return midnight + hour * 3600 + minute * 60 + second
 
 
@@ -47,11 +47,11 @@ def seconds_of(text):
     """The seconds of a time such as 2026-05-05 09:12:08 or 2026-05-05T11:12:08.5+02:00."""
     found = ISO.fullmatch(text)
     if not found:
-        raise Refused(f"no time: {text}")
+        raise Refused(f"no time: {shown(text)}")
     year, month, day, hour, minute, second = (int(it or 0) for it in found.groups()[:6])
     part, sign, ahead_hours, ahead_minutes = found.groups()[6:]
     if int(ahead_hours or 0) > 15 or int(ahead_minutes or 0) > 59:
-        raise Refused(f"an offset that does not exist: {text}")
+        raise Refused(f"an offset that does not exist: {shown(text)}")
     ahead = 3600 * int(ahead_hours or 0) + 60 * int(ahead_minutes or 0)
     whole = second_of((year, month, day), hour, minute, second, text)
     whole -= -ahead if sign == "-" else ahead
@@ -64,7 +64,7 @@ def danish_time(text):
     """The seconds of a time such as 05/05/2026 09:12:08, and its usual text."""
     found = DATE_FIRST.fullmatch(text)
     if not found:
-        raise Refused(f"no time: {text}")
+        raise Refused(f"no time: {shown(text)}")
     day, month, year, hour, minute, second = found.groups()
     date = int(year), int(month), int(day)
     seconds = second_of(date, int(hour), int(minute), int(second), text)
@@ -94,13 +94,13 @@ def zone_of(text):
     found = OFFSET.fullmatch(text)
     if found:
         if int(found[2]) > 15 or int(found[3]) > 59:
-            raise Refused(f"an offset that does not exist: {text}")
+            raise Refused(f"an offset that does not exist: {shown(text)}")
         ahead = timedelta(hours=int(found[2]), minutes=int(found[3]))
         return timezone(-ahead if found[1] == "-" else ahead)
     try:
         return ZoneInfo(text)
     except (ZoneInfoNotFoundError, ValueError, OSError) as fault:
-        raise Refused(f"no time zone: {text}") from fault
+        raise Refused(f"no time zone: {shown(text)}") from fault
 
 
 def start_of_service(date, zone):
