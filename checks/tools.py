@@ -508,20 +508,22 @@ def check_outputs():
     shutil.copy("names.csv", "kept.csv")
     os.symlink("names.csv", "link.csv")
     for words in (["--out", "names.csv", "names.csv"], ["--dropped", "./names.csv", "names.csv"],
-                  ["--out", "names.csv", "kept.csv", "link.csv"], ["--out", "link.csv", "names.csv"],
+                  ["--out", "names.csv", "kept.csv", "link.csv"],
+                  ["--out", "link.csv", "names.csv"],
                   ["--out", "new.csv", "--dropped", "./new.csv", "names.csv"]):
         _, note = run("log_to_table", "track", "600", "--duplicates", "first", *words, status=1)
         want("would overwrite" in note and not os.path.exists("new.csv"), note)
-    run("log_to_table", "track", "600", "--gtfs", "night", *AROUND, "--date", "2026-03-29", "--zone",
-        "+00:00", "--out", "night/stops.txt", status=1)
+    run("log_to_table", "track", "600", "--gtfs", "night", *AROUND, "--date", "2026-03-29",
+        "--zone", "+00:00", "--out", "night/stops.txt", status=1)
     want(read("names.csv") == read("kept.csv"), "a log is overwritten")
     tool = os.path.join(TOP, "tools", "log_to_table")
     note = shell(f"{tool} track 600 --out names.csv < names.csv")
     want("would overwrite" in note and read("names.csv") == read("kept.csv"), note)
     write("answer", "ship,place\na,POINT(1 2)\n(1 rows)\n")
+    write("moving", "ship,track\na,[POINT(1 2)@2026-05-05 06:00:00+00]\n(1 rows)\n")
     write("over_time", "ship,speed\na,[1@2026-05-05 06:00:00+00]\n(1 rows)\n")
     for words, given in (("log_to_table track 600", "names.csv"), ("picture map", "answer"),
-                         ("picture map --html", "answer"), ("picture curves", "over_time"),
+                         ("picture map --html", "moving"), ("picture curves", "over_time"),
                          ("spans_to_rows", "answer"), ("table_to_geojson --around 1,1", "answer"),
                          ("table_to_log v", "over_time")):
         command = f"{os.path.join(TOP, 'tools', words)} < {given}"
@@ -544,7 +546,8 @@ def shell(command):
 
 def check_counts():
     """What is dropped is counted once, and each line that is dropped is listed."""
-    table = ["log_to_table", "track", "600", *AROUND, "--skip-malformed", "--dropped", "dropped.csv"]
+    table = ["log_to_table", "track", "600", *AROUND, "--skip-malformed",
+             "--dropped", "dropped.csv"]
     _, note = run(*table, given="time,ship,x,y\n2026-05-05 06:00,a,12.6,55.7\n"
                   "2026-05-05 06:01,a,181,55\n2026-05-05 06:02,a,12,91\n")
     want(note.startswith("dropped 2 of 3 reports: 2 malformed\n"), note)
@@ -617,9 +620,10 @@ def check_rings():
                         for ring, way in zip(rings, (outer, hole)))
         output, _ = run("table_to_geojson", *AROUND[:2],
                         given=f'n,g\na,"POLYGON({text})"\n(1 rows)\n')
-        for ring, sign in zip(json.loads(output)["features"][0]["geometry"]["coordinates"], (1, -1)):
-            area = sum(a[0] * b[1] - b[0] * a[1] for a, b in zip(
-                [(x - 12.6, y - 55.7) for x, y in ring], [(x - 12.6, y - 55.7) for x, y in ring[1:]]))
+        found = json.loads(output)["features"][0]["geometry"]["coordinates"]
+        for ring, sign in zip(found, (1, -1)):
+            ring = [(x - 12.6, y - 55.7) for x, y in ring]
+            area = sum(a[0] * b[1] - b[0] * a[1] for a, b in zip(ring, ring[1:]))
             want(sign * area > 0, f"{text}: the ring {ring} goes round the wrong way")
 
 

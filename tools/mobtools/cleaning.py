@@ -94,6 +94,6 @@ def drop_jumps(log, fastest):
                      f"{shown(name)} cannot be here so soon after {log.part} {kept[-1].line}")
             in_a_row += 1
             if in_a_row == 10:
-                log.notes.append(f"{shown(name)}: 10 reports or more in a row are too fast; look at "
-                                 f"{log.place(kept[-1].source, kept[-1].line)} before them")
+                log.notes.append(f"{shown(name)}: 10 reports or more in a row are too fast; look "
+                                 f"at {log.place(kept[-1].source, kept[-1].line)} before them")
         log.reports[name] = kept

@@ -68,7 +68,7 @@ def write_lines(path, lines):
 def is_same_file(one, other):
     """Whether two paths lead to one file. A path may be the number of a stream."""
     try:
-        return os.path.isfile(one) and os.path.samefile(one, other)
+        return os.path.samefile(one, other) and os.path.isfile(one)
     except OSError:
         return not isinstance(one, int) and os.path.realpath(one) == os.path.realpath(other)
 
