@@ -1,4 +1,4 @@
-"""Tries examples/log_to_table --every and --to on random logs: `python3 checks/log_tracks.py`.
+"""Tries tools/log_to_table --every and --to on random logs: `python3 checks/log_tracks.py`.
 
 It shares nothing with the script. It reads the table, works out the distance of both tracks in
 exact fractions, and wants of each track: the span of the reported one, its instants, its places
@@ -11,7 +11,7 @@ import sys
 from datetime import datetime, timedelta
 from fractions import Fraction
 
-SCRIPT = "examples/log_to_table"
+SCRIPT = "tools/log_to_table"
 START = datetime(2026, 2, 27)
 SILENT = 3600
 POINT = re.compile(r"POINT\((\S+) (\S+)\)@(\d{4}-\d\d-\d\d)[ T]"
