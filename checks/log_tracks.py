@@ -112,7 +112,7 @@ def check_piece(chance, reported, new, every, unit):
 
 
 def check_bound(note, square, unit):
-    bound = Fraction(re.search(r": at most (\S+) from", note)[1])
+    bound = Fraction(re.search(r": at most (\S+) m from", note)[1])
     assert bound**2 >= square, f"a bound below the distance: {note}"
     assert bound == 0 or (bound - unit / 10) ** 2 < square, f"a bound too far above: {note}"
 
