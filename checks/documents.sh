@@ -7,7 +7,8 @@
 #   after the word `sql`, with the arguments after that. The block `answer` that follows is its
 #   output and its note. Scripts run with one worker and with three.
 # - A block `sh` with a folder of examples/ after the word is a shell script. It runs in a copy of
-#   that folder with the programs on the PATH, and the block `answer` that follows is its output.
+#   that folder with the programs and tools/ on the PATH. The block `answer` that follows is its
+#   output.
 #
 # `sh checks/documents.sh PROGRAM` uses that program, and the other programs beside it or in their
 # crates; without an argument the one that ./try builds, and builds the others.
@@ -41,7 +42,7 @@ for commands in "$work"/*.sh; do
     rm -rf "$work/examples"
     cp -R examples "$work/examples"
     (cd "$work/examples/$(cat "${commands%.sh}.folder")" &&
-        PATH=$work/path:$PATH sh "$commands") > "$work/written" 2>&1 || true
+        PATH=$work/path:$top/tools:$PATH sh "$commands") > "$work/written" 2>&1 || true
     shown "$commands" ""
 done
 report

@@ -3,10 +3,10 @@
 #
 # - NAME.sql must print NAME.answer, put NAME.note on standard error and exit with the status in
 #   NAME.status. A missing file means no answer, no note or status 0.
-# - NAME.svg must be what examples/picture draws of NAME.answer, with the title that NAME.svg has.
+# - NAME.svg must be what tools/picture draws of NAME.answer, with the title that NAME.svg has.
 #   A picture without an answer is drawn by a document.
-# - The tables that come from logs must be what examples/log_to_table makes of them, and corners.csv
-#   what examples/table_to_log makes of corners.answer.
+# - The tables that come from logs must be what tools/log_to_table makes of them, and corners.csv
+#   what tools/table_to_log makes of corners.answer.
 #
 # `sh checks/examples.sh PROGRAM` uses that program; without an argument the one that ./try builds.
 . "$(dirname "$0")/common"
@@ -40,13 +40,13 @@ for picture in examples/*/*.svg; do
     kind=bars
     [ "$(basename "$picture")" != map.svg ] || kind=map
     title=$(sed -n 's:<title>\(.*\)</title>:\1:p' "$picture")
-    examples/picture "$kind" "$title" < "${picture%.svg}.answer" > "$work/made"
+    tools/picture "$kind" "$title" < "${picture%.svg}.answer" > "$work/made"
     must_be "$picture" < "$work/made"
 done
-examples/log_to_table track 3600 < examples/harbour/log.csv > "$work/made"
+tools/log_to_table track 3600 < examples/harbour/log.csv > "$work/made"
 must_be examples/harbour/tracks.csv < "$work/made"
-examples/log_to_table celsius 86400 < examples/sensors/readings.csv > "$work/made"
+tools/log_to_table celsius 86400 < examples/sensors/readings.csv > "$work/made"
 must_be examples/sensors/heat.csv < "$work/made"
-examples/table_to_log x y < examples/harbour/corners.answer > "$work/made"
+tools/table_to_log x y < examples/harbour/corners.answer > "$work/made"
 must_be examples/harbour/corners.csv < "$work/made"
 report

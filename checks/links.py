@@ -12,7 +12,7 @@ import sys
 
 # Pages for users. A name of theirs may stand in an example or in a check instead of a crate.
 USERS = {f"docs/{page}.md" for page in """
-REFERENCE COOKBOOK ERRORS FROM_MOBILITYDB MOBNEAR MOBTHIN MOBTILE
+REFERENCE COOKBOOK ERRORS FROM_MOBILITYDB MOBNEAR MOBTHIN MOBTILE TOOLS
 """.split()} | {"README.md", "CHANGELOG.md"}
 # This page names the functions of another system: only its links, paths and crates are tried.
 FOREIGN = {"docs/FROM_MOBILITYDB.md"}
@@ -29,7 +29,7 @@ LINK = re.compile(r"\]\(<?([^)\s>]+)>?(?: \"[^\"]*\")?\)")
 DEFINED = re.compile(r"^ {0,3}\[([^\]]+)\]:\s*<?(\S+?)>?\s*$")
 FULL_REFERENCE = re.compile(r"\]\s?\[([^\]]+)\]")
 SHORT_REFERENCE = re.compile(r"(?<![\]\\!])\[(`[^`\]]+`)\](?![\[(:])")
-PATH = re.compile(r"^(crates|checks|docs|examples|bench|\.ci|mob_\w+)/[\w./*{}, -]+$")
+PATH = re.compile(r"^(crates|checks|docs|examples|tools|bench|\.ci|mob_\w+)/[\w./*{}, -]+$")
 SNAKE = re.compile(r"^[a-z][a-z0-9]*(_[a-z0-9]+)+$")
 CAMEL = re.compile(r"^[A-Z][a-z0-9]+([A-Z][a-z0-9]*)+$")
 OF_CRATE = re.compile(r"`([\w:]+)` of `(mob_\w+)`")

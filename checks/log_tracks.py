@@ -1,4 +1,4 @@
-"""Tries examples/log_to_table --every and --to on random logs: `python3 checks/log_tracks.py`.
+"""Tries tools/log_to_table --every and --to on random logs: `python3 checks/log_tracks.py`.
 
 It shares nothing with the script. It reads the table, works out the distance of both tracks in
 exact fractions, and wants of each track: the span of the reported one, its instants, its places
@@ -11,7 +11,7 @@ import sys
 from datetime import datetime, timedelta
 from fractions import Fraction
 
-SCRIPT = "examples/log_to_table"
+SCRIPT = "tools/log_to_table"
 START = datetime(2026, 2, 27)
 SILENT = 3600
 POINT = re.compile(r"POINT\((\S+) (\S+)\)@(\d{4}-\d\d-\d\d)[ T]"
@@ -112,7 +112,7 @@ def check_piece(chance, reported, new, every, unit):
 
 
 def check_bound(note, square, unit):
-    bound = Fraction(re.search(r": at most (\S+) from", note)[1])
+    bound = Fraction(re.search(r": at most (\S+) m from", note)[1])
     assert bound**2 >= square, f"a bound below the distance: {note}"
     assert bound == 0 or (bound - unit / 10) ** 2 < square, f"a bound too far above: {note}"
 

@@ -1,7 +1,7 @@
 -- For the map in `map.svg`: the light, the zones, the track of each ship, and the pairs that came
 -- within 50 metres. `near` is where the one was in the square of 50 metres to each side of the
 -- other, and `squared` the square of the least distance. This draws it:
--- mobsql < map.sql | ../picture map 'Who came within 50 metres of whom' > map.svg
+-- mobsql < map.sql | picture map 'Who came within 50 metres of whom' > map.svg
 CREATE TABLE tracks (ship text, track tgeompoint);
 CREATE TABLE zones (zone text, area geometry(Polygon));
 COPY tracks FROM 'tracks.csv' WITH (FORMAT csv, HEADER);

@@ -1,5 +1,5 @@
 -- Who came near whom? Thirteen ships on one day, in metres from the light. Gannet lies at anchor.
--- Heron leaves and comes back. `../log_to_table track 3600 < log.csv > tracks.csv` made the table
+-- Heron leaves and comes back. `log_to_table track 3600 < log.csv > tracks.csv` made the table
 -- from the log, which has a line for each report.
 CREATE TABLE tracks (ship text, track tgeompoint);
 CREATE TABLE watches (watch text, hours tstzspan);

@@ -1,5 +1,5 @@
 -- The log of a night: the state of each device as a text, and the temperature of two of them as a
--- whole number, each a function of time. `../log_to_table celsius 86400 < readings.csv > heat.csv`
+-- whole number, each a function of time. `log_to_table celsius 86400 < readings.csv > heat.csv`
 -- made the table of temperatures from the readings.
 CREATE TABLE devices (id int, room text, state ttext);
 CREATE TABLE heat (device int, celsius tint);
