@@ -3,13 +3,14 @@
 use Rattle.std.{specs.Prelude.{codes}, specs.Str.{bytes_eq}}
 use Rattle.std.proofs.Common.{◌≡◌, ◌∙◌, ◌⊎◌, rules, inl, inr, ℕ, suc, length, ◌++◌, List, [], ◌∷◌, true, false, cond, Ok, Err, refl, sym, ap, ap₂, subst, Bool, arith}
 use Rattle.std.proofs.lemmas.Slice.Eq.{bytes_eq-Decides}
+use Rattle.std.proofs.lemmas.Bool.{cases_Bool}
 use Rattle.mob_ast.specs.Trees.{Tree, Trees}
 use Rattle.mob_grammar.{specs.declared.mark.Mark.TheVariants.{Times, Open, Close}, specs.TokenKinds.{expression_heads}}
 use Rattle.mob_grammar.specs.Symbols.{Symbol, fixed, name, number, quoted, PlacedSymbol, sign, identifier, is_sign, is_count, is_count_symbol, counts_all, rest, starts, binding}
 use Rattle.mob_grammar.specs.Expressions.{Rank, disjunction, conjunction, negation, nullness, comparison, other as other_rank, complement, sum, product, signed, cast, primary, chains, prefixes}
 use Rattle.mob_grammar.specs.Expressions.{Phrase, plain, inner, up, chain, prefixed, is_null, is_not_null, compared, cast_to, a_number, a_string, is_true, is_false, a_null, a_literal, a_call}
 use Rattle.mob_grammar.{specs.Expressions.{a_column, a_table_column, in_brackets, Arguments, nothing, something}, specs.Forms.{Production, Builds, ◌⇒◌, ◌▸◌, Expression, CountOrExpression}}
-use Rattle.mob_grammar.{specs.Reading.{Answer, TokenReader, ◌>>=◌, closed, expression_at, counted_at}, proofs.Steps.{told, token_is, passed}, proofs.Tells.{Tells, Alike, tells_token}}
+use Rattle.mob_grammar.{specs.Reading.{Answer, TokenReader, ◌>>=◌, closed, expression_at, counted_at}, proofs.Steps.{token_is, passed}, proofs.Tells.{Tells, Alike, tells_token}}
 use Rattle.mob_grammar.{proofs.Heads.{not_this, phrase_begins}, proofs.Sets.{both_true}, proofs.Complete.{Stops, stops_mark}}
 use Rattle.mob_grammar.proofs.ReadRules.{Complete, IsRead, built_keeps, read_built, read_closed, read_expression, read_then}
 
@@ -87,14 +88,14 @@ still_alone : (taken r y : List PlacedSymbol) → Alike r y → counts_all (take
 still_alone taken [] (t ∷ y) a clean left = absurd a
 still_alone taken (t ∷ r) [] a clean left = absurd a
 still_alone taken [] [] a clean left = clean
-still_alone [] (t ∷ r) (u ∷ y) a clean left = elim (told (counts_all (u ∷ y))) [
+still_alone [] (t ∷ r) (u ∷ y) a clean left = elim (cases_Bool (counts_all (u ∷ y))) [
   | inr none_there ↦ none_there
   | inl is_one ↦
       let k = both_true (is_count u) _ is_one in
       let e = count_token u k.0 in
       absurd (not_left u [] (alone_at (u ∷ [])) (left (u ∷ []) a) (subst (λ v. left_of (alone_at (v ∷ [])) ≡ []) (sym e) (a_name_left (codes "count") u.place)))
 ]
-still_alone (a ∷ []) (t ∷ r) (u ∷ y) h clean left = elim (told (counts_all (a ∷ (u ∷ y)))) [
+still_alone (a ∷ []) (t ∷ r) (u ∷ y) h clean left = elim (cases_Bool (counts_all (a ∷ (u ∷ y)))) [
   | inr none_there ↦ none_there
   | inl is_one ↦
       let k = both_true (is_count a) (cond (is_sign Open u) (starts Times y) false) is_one in
@@ -133,7 +134,7 @@ count_tells p q o u =
     (λ k x r d. inl (p, sign Open q ∷ (sign Times o ∷ k), refl, (q, sign Times o ∷ k, refl, (o, k, refl, d)))) u (closed Close (inl p) u) ((read_end p).lawful (suc (length u)) u (omega arith))))
 
 counted_tells : (l : List PlacedSymbol) → Tells CountOrExpression (λ m. counted_at) l (counted_at l)
-counted_tells l = elim (told (counts_all l)) [
+counted_tells l = elim (cases_Bool (counts_all l)) [
   | inl is_one ↦
       let (p, q, o, u, e) = count_tokens l is_one in
       subst (λ v. Tells CountOrExpression (λ m. counted_at) v (counted_at v)) (sym e) (subst (Tells CountOrExpression (λ m. counted_at) (identifier (codes "count") p ∷ (sign Open q ∷ (sign Times o ∷ u)))) (sym (counted_all p q o u)) (count_tells p q o u))
@@ -159,7 +160,7 @@ chains_no_open k t c h = let e = token_is Open t h in let f : chains k (sign Ope
   no primary p h = cc h
 
 prefix_no_count : (k : Rank) (t : PlacedSymbol) → prefixes k t ≡ true → is_count t ≡ false
-prefix_no_count k t c = elim (told (is_count t)) [
+prefix_no_count k t c = elim (cases_Bool (is_count t)) [
   | inr none_there ↦ none_there
   | inl is_one ↦ absurd (no k t.place (subst (λ v. prefixes k v ≡ true) (count_token t is_one) c))
 ] where
@@ -183,11 +184,11 @@ arguments_no_times (something {l = l} a b) = not_this Times expression_heads ref
 
 phrase_no_count : {k : Rank} {l r : List PlacedSymbol} {e : Tree} → Phrase k l e r → starts Open r ≡ false → counts_all l ≡ false
 phrase_no_count (up d) h = phrase_no_count d h
-phrase_no_count (chain {k = k} {t = t} d c b) h = elim (told (is_sign Open t)) [ inl is_one ↦ absurd (chains_no_open k t c is_one) | inr none_there ↦ phrase_no_count d none_there ]
+phrase_no_count (chain {k = k} {t = t} d c b) h = elim (cases_Bool (is_sign Open t)) [ inl is_one ↦ absurd (chains_no_open k t c is_one) | inr none_there ↦ phrase_no_count d none_there ]
 phrase_no_count (prefixed {k = k} {l = l} {t = t} c d) h = ap (λ b. cond b (cond (starts Open l) (starts Times (rest l)) false) false) (prefix_no_count k t c)
 phrase_no_count (is_null d) h = phrase_no_count d refl
 phrase_no_count (is_not_null d) h = phrase_no_count d refl
-phrase_no_count (compared {t = t} d c b) h = elim (told (is_sign Open t)) [ inl is_one ↦ (let e : binding t ≡ 12 = ap binding (token_is Open t is_one) in absurd (omega arith)) | inr none_there ↦ phrase_no_count d none_there ]
+phrase_no_count (compared {t = t} d c b) h = elim (cases_Bool (is_sign Open t)) [ inl is_one ↦ (let e : binding t ≡ 12 = ap binding (token_is Open t is_one) in absurd (omega arith)) | inr none_there ↦ phrase_no_count d none_there ]
 phrase_no_count (cast_to d t) h = phrase_no_count d refl
 phrase_no_count a_number h = refl
 phrase_no_count a_string h = refl

@@ -1,17 +1,17 @@
 -- What an expression begins with, and what ends one.
-use Rattle.std.{proofs.Common.{rules, inl, inr, ◌≡◌, ◌==◌, ◌<◌, ℕ, List, [], ◌∷◌, Bool, true, false, cond, refl, sym, ap, ◌∙◌, arith}, proofs.lemmas.Bool.{eqb-true}}
+use Rattle.std.{proofs.Common.{rules, inl, inr, ◌≡◌, ◌==◌, ◌<◌, ℕ, List, [], ◌∷◌, Bool, true, false, cond, refl, sym, ap, ◌∙◌, arith}, proofs.lemmas.Bool.{eqb-true, cases_Bool}}
 use Rattle.mob_ast.{specs.Trees.{Tree}, specs.declared.types.TypeWord.{TypeWord}}
 use Rattle.mob_grammar.{specs.declared.mark.Mark.{Mark}, specs.declared.mark.Mark.TheVariants.{Not, Tilde, Plus, Minus}, specs.Marks.{is, strength}}
 use Rattle.mob_grammar.specs.TokenKinds.{TokenKinds, of_mark, names, only_kind, only_mark, expression_heads, expression_continues}
 use Rattle.mob_grammar.specs.Symbols.{Symbol, fixed, name, number, quoted, PlacedSymbol, sign, kind, among, begins, starts, symbol_strength}
 use Rattle.mob_grammar.specs.Expressions.{Rank, disjunction, conjunction, negation, nullness, comparison, other, complement, sum, product, signed, cast, primary, prefixes, Phrase, TypeName, plain}
 use Rattle.mob_grammar.specs.Expressions.{inner, up, chain, prefixed, is_null, is_not_null, compared, cast_to, a_number, a_string, is_true, is_false, a_null, a_literal, a_call, a_column}
-use Rattle.mob_grammar.{specs.Expressions.{a_table_column, in_brackets}, proofs.Steps.{told, token_is}}
+use Rattle.mob_grammar.{specs.Expressions.{a_table_column, in_brackets}, proofs.Steps.{token_is}}
 
 -- a mark outside the set is not the first token, if that is in the set
 pub not_this : (m : Mark) (k : TokenKinds) → k (of_mark m) ≡ false → (l : List PlacedSymbol) → begins (among k) l ≡ true → starts m l ≡ false
 not_this m k h [] b = refl
-not_this m k h (t ∷ l) b = elim (told (starts m (t ∷ l))) [
+not_this m k h (t ∷ l) b = elim (cases_Bool (starts m (t ∷ l))) [
   | inl one ↦ absurd (cc (sym b ∙ ap (among k) (token_is m t one) ∙ h))
   | inr none_there ↦ none_there
 ]

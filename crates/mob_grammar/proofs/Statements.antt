@@ -6,7 +6,7 @@ use Rattle.mob_list.proofs.Each.{each_both, each_parts}
 use Rattle.mob_ast.specs.Trees.{FromParts}
 use Rattle.mob_grammar.{specs.declared.mark.Mark.TheVariants.{Plus, Minus, Semicolon}, specs.Symbols.{PlacedSymbol, sign}}
 use Rattle.mob_grammar.specs.Forms.{single, several, Meaning, flag, word, text, expression, counted, from, item, many, maybe, pair, built, Derives}
-use Rattle.mob_grammar.specs.Scripts.{string_form, signed_form, number_form, typed_form, const_form, row_form, column_type_form, create_table_form, create_index_form, create_form, insert_form}
+use Rattle.mob_grammar.specs.Scripts.{string_form, signed_form, number_form, typed_form, const_form, row_form, column_type_form, create_table_form, indexed_form, create_index_form, create_form, insert_form}
 use Rattle.mob_grammar.specs.Scripts.{header_form, format_form, delimiter_form, options_form, copy_form, some_name_form, second_name_form, entry_form, joined_form, joins_form, source_form, tables_of}
 use Rattle.mob_grammar.specs.Scripts.{sources_form, from_form, alias_form, named_item, item_form, direction_form, key_form, distinct_form, where_form, column_leaf, group_column_form, by_form}
 use Rattle.mob_grammar.{specs.Scripts.{group_form, order_form, limit_form, ordering_form, select_form, delete_form, explain_form, statement_form, script_form}, specs.Reading.{read}}
@@ -18,7 +18,7 @@ use Rattle.mob_grammar.proofs.Within.{within_all, within_back, within_both, with
 
 -- what is tested of the whole table
 table_tests : (fits script_form ≡ true) × (whole statement_form ≡ true)
-unfolding string_form signed_form number_form typed_form const_form row_form column_type_form create_table_form create_index_form create_form insert_form header_form format_form delimiter_form options_form copy_form some_name_form second_name_form entry_form joined_form joins_form source_form sources_form from_form alias_form item_form direction_form key_form distinct_form where_form group_column_form by_form group_form order_form limit_form ordering_form select_form delete_form explain_form statement_form
+unfolding string_form signed_form number_form typed_form const_form row_form column_type_form create_table_form indexed_form create_index_form create_form insert_form header_form format_form delimiter_form options_form copy_form some_name_form second_name_form entry_form joined_form joins_form source_form sources_form from_form alias_form item_form direction_form key_form distinct_form where_form group_column_form by_form group_form order_form limit_form ordering_form select_form delete_form explain_form statement_form
 table_tests = (refl, refl)
 
 pub script_fits : fits script_form ≡ true
@@ -90,7 +90,7 @@ unfolding row_form
 row_keeps = ((λ (p, values). (omega arith, within_all _, λ P h. h)), (tt, const_keeps))
 
 create_keeps : KeepsParts create_form
-unfolding create_form create_table_form create_index_form column_type_form
+unfolding create_form create_table_form indexed_form create_index_form column_type_form
 create_keeps = (((λ (name, columns). (omega arith, nothing, λ P h. h)), (tt, (tt, tt))), ((λ (name, (table, column)). (omega arith, nothing, λ P h. h)), (tt, (tt, tt))))
 
 insert_keeps : KeepsParts insert_form

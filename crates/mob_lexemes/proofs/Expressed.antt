@@ -7,7 +7,7 @@ use Rattle.mob_grammar.specs.TokenKinds.{TokenKinds, of_mark, names, numbers, st
 use Rattle.mob_grammar.specs.Symbols.{Symbol, fixed, name, number, quoted, PlacedSymbol, sign, identifier, kind, among, begins, starts}
 use Rattle.mob_grammar.specs.Forms.{Listed, single, several, Sort, Meaning, Form, built, mark, a_name, a_number, a_string, a_type, an_expression, a_count_or_expression, made, both, behind, ended}
 use Rattle.mob_grammar.{specs.Forms.{choice, either, separated, Derives}, specs.Reading.{nullable, heads}}
-use Rattle.mob_grammar.specs.Scripts.{string_form, signed_form, number_form, typed_form, const_form, row_form, column_type_form, create_table_form, create_index_form, create_form, insert_form}
+use Rattle.mob_grammar.specs.Scripts.{string_form, signed_form, number_form, typed_form, const_form, row_form, column_type_form, create_table_form, indexed_form, create_index_form, create_form, insert_form}
 use Rattle.mob_grammar.specs.Scripts.{header_form, format_form, delimiter_form, options_form, copy_form, some_name_form, second_name_form, entry_form, joined_form, joins_form, source_form}
 use Rattle.mob_grammar.specs.Scripts.{sources_form, from_form, alias_form, item_form, direction_form, key_form, distinct_form, where_form, group_column_form, by_form, group_form, order_form}
 use Rattle.mob_grammar.{specs.Scripts.{limit_form, ordering_form, select_form, delete_form, explain_form, statement_form, Statement}, proofs.Forms.{begun}, proofs.Heads.{begins_mark, not_this}}
@@ -157,7 +157,7 @@ dotted_walks a_name h e x r d = none_walks (dot_calm e d)
 dotted_walks (made g f) h e y r (x, m, d, (v, w)) = walks_then (dotted_walks f h e x m d) (same_tokens w)
 dotted_walks _ h e x r d = absurd (cc h)
 
--- behind the mark of a choice
+-- after the mark of a choice
 chosen_walks : {a : Sort} (m : Mark) (f : Form a) (k : TokenKinds) → cond (is m Dot) (is_dotted f) (cond (is_quiet m) (is_calm f k) false) ≡ true → {p : ℕ} {l u : List PlacedSymbol} → l ≡ sign m p ∷ u → (x : Meaning a) (r : List PlacedSymbol) (d : Derives f u x r)
     → (is_calm f k ≡ true → Walks (HasLightExpressions f u x r d) (at 0 0) u r) → Walks (HasLightExpressions f u x r d) (at 0 0) l r
 chosen_walks m f k h {p = p} {l = l} {u = u} e x r d other = by (is m Dot) refl h where
@@ -226,7 +226,7 @@ entered m f h c {p = p} {l = l} {u = u} e x r d s =
     let g = form_walks f end_kinds c u x r d s.follows in
     record { there = λ v. let w = g.there (i.0 (b.there v)) in (w.0, s.outward w.1); back = λ v w. b.back (i.1 (g.back v (s.inward w))) }
 
--- behind a mark outside SELECT and DELETE
+-- after a mark outside SELECT and DELETE
 mark_walks : {a : Sort} (last : Bool) (m : Mark) (f : Form a) → cond (begins_expressions m) (cond last (is_calm f end_kinds) false) (is_skipped last f) ≡ true → {p : ℕ} {l u : List PlacedSymbol} → l ≡ sign m p ∷ u → (x : Meaning a) (r : List PlacedSymbol) (d : Derives f u x r)
     → (last ≡ true → IsEnd r) → (is_skipped last f ≡ true → Walks (HasLightExpressions f u x r d) outside u r) → Walks (HasLightExpressions f u x r d) outside l r
 mark_walks last m f h {p = p} {l = l} {u = u} e x r d s other = by (begins_expressions m) refl h where
@@ -266,7 +266,7 @@ form_skips last (either f g) h l x r (inr d) s = form_skips last g (both_true (i
 form_skips last (separated m f) h l xs r d s = let t = not_first (begins_expressions m) _ h in list_skips m f t.0 (λ l x r d. form_skips false f t.1 l x r d (λ q. absurd (cc q))) l xs r d
 
 statement_skips : is_skipped true statement_form ≡ true
-unfolding string_form signed_form number_form typed_form const_form row_form column_type_form create_table_form create_index_form create_form insert_form header_form format_form delimiter_form options_form copy_form some_name_form second_name_form entry_form joined_form joins_form source_form sources_form from_form alias_form item_form direction_form key_form distinct_form where_form group_column_form by_form group_form order_form limit_form ordering_form select_form delete_form explain_form statement_form
+unfolding string_form signed_form number_form typed_form const_form row_form column_type_form create_table_form indexed_form create_index_form create_form insert_form header_form format_form delimiter_form options_form copy_form some_name_form second_name_form entry_form joined_form joins_form source_form sources_form from_form alias_form item_form direction_form key_form distinct_form where_form group_column_form by_form group_form order_form limit_form ordering_form select_form delete_form explain_form statement_form
 statement_skips = refl
 
 script_walks : (l : List PlacedSymbol) (xs : List StatementParts) (r : List PlacedSymbol) (ds : Listed Semicolon Statement l xs r) → IsEnd r → Walks (AllLight Semicolon Statement (HasLightExpressions statement_form) l xs r ds) outside l r

@@ -1,10 +1,11 @@
 -- The walk along a script in the two ways to stand: outside the statements with expressions, where
 -- nothing is counted, and inside one, at the beginning of an expression.
 use Rattle.std.proofs.Common.{◌≡◌, ◌==◌, ◌≤◌, ◌⊎◌, ◌↔◌, inl, inr, ℕ, List, [], ◌∷◌, Bool, true, false, cond, refl, sym, ap, subst, ◌∙◌, arith}
+use Rattle.std.proofs.lemmas.Bool.{cases_Bool}
 use Rattle.mob_ast.{specs.declared.types.TypeWord.{TypeWord}, specs.Trees.{Tree}}
 use Rattle.mob_grammar.{specs.declared.mark.Mark.{Mark}, specs.declared.mark.Mark.TheVariants.{Select, Delete, Dot, Times, Open, Close, Semicolon}, specs.Marks.{is}}
 use Rattle.mob_grammar.specs.Symbols.{Symbol, fixed, name, number, quoted, PlacedSymbol, sign, identifier, is_mark, is_sign, is_string_symbol, starts, is_literal}
-use Rattle.mob_grammar.{specs.Expressions.{disjunction, Phrase, TypeName, plain, inner}, proofs.Steps.{told, token_is}}
+use Rattle.mob_grammar.{specs.Expressions.{disjunction, Phrase, TypeName, plain, inner}, proofs.Steps.{token_is}}
 use Rattle.mob_lexemes.{specs.declared.heavy.TokenStanding.{TokenStanding}, specs.Weights.{outside, is_function, counts, mark_counts}}
 use Rattle.mob_lexemes.{specs.Heavy.{begins_expressions, ends, selects_after, no_call_after, standing_after, is_heavy}, specs.Weighed.{phrase_weight}}
 use Rattle.mob_lexemes.proofs.Walked.{Light, at, behind, quiet, never, name_quiet, Clear, along, column_is}
@@ -37,7 +38,7 @@ start_symbol (number n) h a = absurd (cc h)
 start_symbol (quoted c) h a = absurd (cc h)
 
 pub start_is : (t : PlacedSymbol) → is_start t ≡ true → (t ≡ sign Select t.place) ⊎ (t ≡ sign Delete t.place)
-start_is t h = elim (told (is_sign Select t)) [ inl a ↦ inl (token_is Select t a) | inr a ↦ inr (token_is Delete t (start_symbol t.symbol h a)) ]
+start_is t h = elim (cases_Bool (is_sign Select t)) [ inl a ↦ inl (token_is Select t a) | inr a ↦ inr (token_is Delete t (start_symbol t.symbol h a)) ]
 
 idle_after : (x : Symbol) → starts_counting x ≡ false → selects_after false x ≡ false
 idle_after (fixed m) h = ap (λ b. cond b true (cond (is m Semicolon) false false)) h ∙ never (is m Semicolon)
@@ -49,7 +50,7 @@ idle_after (quoted c) h = refl
 idle_same : (s z : TokenStanding) (l : List PlacedSymbol) → s.selects ≡ false → z.selects ≡ false → Light s l → Light z l
 idle_same s z [] hs hz k = tt
 idle_same s z (t ∷ l) hs hz k =
-    (idle_heavy z hz t.symbol l, by (told (is_start t)) (λ h. idle_same (standing_after s t.symbol l) (standing_after z t.symbol l) l (ap (λ b. selects_after b t.symbol) hs ∙ idle_after t.symbol h) (ap (λ b. selects_after b t.symbol) hz ∙ idle_after t.symbol h) k.1))
+    (idle_heavy z hz t.symbol l, by (cases_Bool (is_start t)) (λ h. idle_same (standing_after s t.symbol l) (standing_after z t.symbol l) l (ap (λ b. selects_after b t.symbol) hs ∙ idle_after t.symbol h) (ap (λ b. selects_after b t.symbol) hz ∙ idle_after t.symbol h) k.1))
   where
     selects : {q : PlacedSymbol} → q ≡ sign Select q.place → standing_after s q.symbol l ≡ standing_after z q.symbol l
     selects e = ap (λ q. standing_after s q.symbol l) e ∙ sym (ap (λ q. standing_after z q.symbol l) e)

@@ -2,9 +2,9 @@
 use Rattle.std.{specs.Prelude.{IfSome}, proofs.Common.{◌≡◌, ◌∙◌, inl, inr, refl, sym, ap, subst, arith, ℕ, ℤ, ◌-◌, ◌+◌, ◌≤◌, rules, List, [], ◌∷◌, ◌++◌, take, Option, Some, None, Result, Ok, Err}}
 use Rattle.std.proofs.lemmas.List.{append-nil}
 use Rattle.mob_ast.specs.declared.refusal.Kind.{Kind}
-use Rattle.mob_outside.{specs.Faults.{Rose}, specs.Told.{Contents, file_of, KeepsFiles, MayAskFor}}
+use Rattle.mob_outside.{specs.Faults.{Rose}, specs.Fronts.{IsFront}, specs.Told.{Contents, file_of, KeepsFiles, MayAskFor}}
 use Rattle.mob_typed.specs.Statements.{ColumnList, ScriptOut}
-use Rattle.mob_load.{specs.declared.program.Program.{Program}, specs.Checks.{CheckParts, file, checks_of}, specs.Fronts.{AreFilesFor, AsksForSome, IsFront, OnFiles}}
+use Rattle.mob_load.{specs.declared.program.Program.{Program}, specs.Checks.{CheckParts, file, checks_of}, specs.Fronts.{AreFilesFor, AsksForSome, OnFiles}}
 use Rattle.mob_load.specs.Loads.{LoadsTo, Halt, HasFaultCause, IsLoadOutcome, refused, table_refused, Loaded, Loads, LoadsScript, LoadsCheck, LoadsFile, RefusesFile, ChecksStopBy, ContinuesBy}
 use Rattle.mob_load.{specs.Loads.{copied_files, loaded_columns, greatest_rows, loaded_row_count, nothing_loaded}, specs.declared.program.LoadEnd.{LoadEnd}}
 use Rattle.mob_load.{specs.declared.program.LoadEnd.TheVariants.{Refused, TableRefused, ReadFault, NoMemory}, proofs.Fronts.{table_front, fails_front}}
@@ -41,7 +41,7 @@ of_told name names (Some m) P h files (inl is) = let same : m ≡ files = cc is 
 of_told name names told P h files (inr none) = cc
 
 pub file_loads : {A : Type 0} (day : ℤ) (t : ℕ) (name bytes : List ℕ) (l : Loaded) (files : Option Contents) (r : Result A LoadEnd) (after : Loaded)
-    → IfSome files (λ m. IsFront name m bytes) → LoadsTo r after (LoadsFile day t name l (Some bytes)) → IfSome files (λ m. LoadsTo r after (LoadsFile day t name l (file_of name m)))
+    → IfSome files (λ m. IsFront file_limit name m bytes) → LoadsTo r after (LoadsFile day t name l (Some bytes)) → IfSome files (λ m. LoadsTo r after (LoadsFile day t name l (file_of name m)))
 file_loads day t name bytes l None r after is gives = tt
 file_loads day t name bytes l (Some m) r after is gives =
     loads_on (LoadsFile day t name l (Some bytes)) (LoadsFile day t name l (file_of name m))

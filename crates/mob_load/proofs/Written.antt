@@ -140,22 +140,23 @@ own_rise n (deletion s) h = tt
 own_rise n (query s) h = tt
 own_rise n (plan_of s) h = tt
 
--- the checkpoints of a statement are in it
-abbrev StandsIn : ℕ → Checkpoint → Type 0
-StandsIn n m = m.statement ≡ n
+-- the checkpoint is of this statement
+abbrev IsOfStatement : ℕ → Checkpoint → Type 0
+IsOfStatement n m = m.statement ≡ n
 
-abbrev StandsFrom : ℕ → Checkpoint → Type 0
-StandsFrom n m = n ≤ m.statement
+-- the checkpoint is of this statement, or of one after it
+abbrev IsFromStatement : ℕ → Checkpoint → Type 0
+IsFromStatement n m = n ≤ m.statement
 
-own_stand : (n : ℕ) (s : StatementOut) → AllByRecursion (StandsIn n) (checkpoints_of n s)
-own_stand n s = each_checkpoint (StandsIn n) n (λ t p. refl) (λ t name. refl) s (λ t name columns is. refl)
+own_stand : (n : ℕ) (s : StatementOut) → AllByRecursion (IsOfStatement n) (checkpoints_of n s)
+own_stand n s = each_checkpoint (IsOfStatement n) n (λ t p. refl) (λ t name. refl) s (λ t name columns is. refl)
 
-all_stand : (n : ℕ) (ss : List StatementOut) → AllByRecursion (StandsFrom n) (checkpoints_from n ss)
+all_stand : (n : ℕ) (ss : List StatementOut) → AllByRecursion (IsFromStatement n) (checkpoints_from n ss)
 all_stand n [] = tt
 all_stand n (s ∷ ss) =
-    each_both (StandsFrom n) (checkpoints_of n s) (checkpoints_from (n + 1) ss)
-    (each_on (StandsIn n) (StandsFrom n) (λ m is. omega arith) (checkpoints_of n s) (own_stand n s))
-    (each_on (StandsFrom (n + 1)) (StandsFrom n) (λ m le. omega arith) (checkpoints_from (n + 1) ss) (all_stand (n + 1) ss))
+    each_both (IsFromStatement n) (checkpoints_of n s) (checkpoints_from (n + 1) ss)
+    (each_on (IsOfStatement n) (IsFromStatement n) (λ m is. omega arith) (checkpoints_of n s) (own_stand n s))
+    (each_on (IsFromStatement (n + 1)) (IsFromStatement n) (λ m le. omega arith) (checkpoints_from (n + 1) ss) (all_stand (n + 1) ss))
 
 all_rise : (n : ℕ) (ss : List StatementOut) → AllByRecursion HasRisingRows ss → Rises CheckpointUpTo (checkpoints_from n ss)
 all_rise n [] h = tt

@@ -1,15 +1,6 @@
--- What reading a table file consumes, and the names that it asks for.
-use Rattle.std.specs.Prelude.{◌≡◌, ◌⊎◌, ◌≤◌, ◌+◌, ◌++◌, ⊤, ℕ, List, [], take, length, slice_get, Option, Some, None}
-use Rattle.mob_catalog.specs.TableFile.{file_limit}
-use Rattle.mob_outside.{specs.Told.{Contents, file_of}, specs.Streams.{ReadsPart}}
-
--- the front of the file with this name, up to one byte past the limit
-abbrev pub IsFront : List ℕ → Contents → List ℕ → Type 0
-IsFront name files bytes = (whole : List ℕ) × (file_of name files ≡ Some whole) × (bytes ≡ take (file_limit + 1) whole)
-
--- the rest of the file with this name: at most one byte past the limit was read from its front
-abbrev pub IsLeftOf : List ℕ → Contents → Option (List ℕ) → Type 0
-IsLeftOf name files left = (whole : List ℕ) × (file_of name files ≡ Some whole) × ReadsPart file_limit (Some whole) left
+-- The files that a script copies, and the names that it asks for.
+use Rattle.std.specs.Prelude.{◌≡◌, ◌⊎◌, ◌≤◌, ◌++◌, ⊤, ℕ, List, [], take, length, slice_get, Option, Some, None}
+use Rattle.mob_outside.specs.Told.{Contents}
 
 -- The files of a script that copies the files of these names: those that are visible; or any, if it
 -- copies none.

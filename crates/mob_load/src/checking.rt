@@ -9,14 +9,13 @@ ghost use Rattle.mob_load.specs.Loads.{LoadsTo, HasFaultCause, HasNarrow, IsFaul
 ghost use Rattle.mob_load.specs.declared.program.LoadEnd.TheVariants.{NoMemory, Refused};
 
 use crate::check::Check;
-use crate::file::{FileEnd, read_file};
 use crate::loading::Loading;
 use crate::program::LoadEnd;
 use mob_ast::{Kind, Refusal, SqlType};
-use mob_catalog::{LoadFault, constant, read_table};
+use mob_catalog::{FILE_LIMIT, LoadFault, constant, read_table};
 use mob_list::fault::Fault;
 use mob_list::text::Text;
-use mob_outside::Files;
+use mob_outside::{FileEnd, Files, read_file};
 use mob_scalar::Epoch;
 use mob_typed::ConstText;
 use mob_value::{Rows, Value};
@@ -203,7 +202,7 @@ fn load_file<F: Files>(
     ensures may_ask { MayAskFor name.now (F.asked files.old) (F.asked files.new) }
     ensures later { F.faults files.old ≤ F.faults files.new }
 {
-    match read_file(alloc, files, name.as_str()) {
+    match read_file(alloc, files, name.as_str(), FILE_LIMIT) {
         Ok(bytes) => load_bytes(alloc, loading, table, name, &bytes, epoch),
         Err(FileEnd::NotOpened | FileEnd::Fault) => Err(LoadEnd::ReadFault {
             file: name.copy(alloc)?,

@@ -4,7 +4,6 @@
 
 mod check;
 mod checking;
-mod file;
 pub mod laws;
 mod loading;
 mod order;

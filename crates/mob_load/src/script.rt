@@ -49,10 +49,7 @@ fn load_checks<'a, F: Files>(
 {
     let mut loading = nothing_loaded(alloc);
     for check in checks {
-        match run_check(alloc, *check, &mut loading, files, epoch) {
-            Ok(()) => {}
-            Err(end) => return Err(end),
-        }
+        run_check(alloc, *check, &mut loading, files, epoch)?;
     }
     Ok(loading)
 }

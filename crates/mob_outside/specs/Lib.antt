@@ -1,5 +1,6 @@
 pub mod EndsSeen
 pub mod Faults
+pub mod Fronts
 pub mod Memory
 pub mod Streams
 pub mod Told

@@ -18,6 +18,6 @@ pub use fault::Failed;
 pub use files::{DirFiles, Files, MemFiles};
 pub use gate::{Gate, OpenGate};
 pub use putting::{put_all, put_pieces};
-pub use reading::{ReadEnd, read_opened, read_to};
+pub use reading::{FileEnd, ReadEnd, read_file, read_opened, read_to};
 pub use sink::{MemSink, Sink, StdSink};
 pub use source::{MemSource, Source, StdSource, SteadySource};

@@ -1,10 +1,12 @@
-//! Reads whole texts through the calls of a source, or of an open file.
-ghost use Rattle.std.specs.Prelude.{◌≡◌, ◌<◌, ◌≤◌, ◌^◌, Bool, IfOk, IsErrOf, List, None, OnOk, Option, length, true, ℕ};
+//! Reads whole texts through the calls of a source, or of a file.
+ghost use Rattle.std.specs.Prelude.{◌≡◌, ◌⊎◌, ◌<◌, ◌≤◌, ◌^◌, Bool, Err, IfErr, IfOk, IfSome, IsErrOf, List, None, OnOk, Option, length, true, ℕ};
 ghost use Rattle.std.specs.Io.{ReadsAtMost};
 ghost use Rattle.std.specs.Io.KnownBytes.{ReadConsumes};
 ghost use Rattle.mob_outside.specs.Faults.{HasCause, Rose};
+ghost use Rattle.mob_outside.specs.Fronts.{IsFront, IsLeftOf};
 ghost use Rattle.mob_outside.specs.Streams.{ReadsPart, ReadsTo};
-ghost use Rattle.mob_outside.specs.Told.{Contents, KeepsFiles, KeepsNames};
+ghost use Rattle.mob_outside.specs.Told.{AsksFor, Contents, KeepsFiles, KeepsNames, MayAskFor};
+ghost use Rattle.mob_outside.specs.declared.reading.FileEnd.TheVariants.{NoMemory, NotOpened};
 ghost use Rattle.mob_outside.specs.declared.reading.ReadEnd.TheVariants.{Fault};
 
 use crate::{Failed, Files, Source};
@@ -15,6 +17,17 @@ use std::marker::PhantomData;
 #[derive(Clone, Copy, Debug, PartialEq, Eq)]
 pub enum ReadEnd {
     /// A call of the source failed.
+    Fault,
+    /// An allocation failed.
+    NoMemory,
+}
+
+/// The reason why a file was not read.
+#[derive(Clone, Copy, Debug, PartialEq, Eq)]
+pub enum FileEnd {
+    /// It could not be opened.
+    NotOpened,
+    /// It was opened, and a call failed then.
     Fault,
     /// An allocation failed.
     NoMemory,
@@ -160,4 +173,32 @@ pub fn read_opened<F: Files>(alloc: Global, files: &mut F, limit: usize) -> Resu
     ensures cause { IsErrOf result Fault → Rose (F.faults files.old) (F.faults files.new) }
 {
     read_through::<OfOpened<F>>(alloc, files, limit)
+}
+
+/// The bytes of the file with this name, or those up to one byte past the limit if it is longer. No
+/// more are read of it, however the call ends. `NotOpened` and `Fault` come only if the files
+/// failed; else the error is a failed allocation.
+pub fn read_file<F: Files>(
+    alloc: Global,
+    files: &mut F,
+    name: &str,
+    limit: usize,
+) -> Result<Vec<u8>, FileEnd>
+    requires small { limit < 2 ^ 32 }
+    ensures bytes { IfOk result (λ v. IfSome (F.files files.old) (λ m. IsFront limit name.now m v.items)) }
+    ensures part { (result ≡ Err NotOpened) ⊎ IfSome (F.files files.old) (λ m. IsLeftOf limit name.now m (F.left files.new)) }
+    ensures fault { IfErr result (λ e. (e ≡ NoMemory) ⊎ Rose (F.faults files.old) (F.faults files.new)) }
+    ensures files { KeepsFiles (F.files files.old) (F.files files.new) }
+    ensures asked { IfOk result (λ _. AsksFor name.now (F.asked files.old) (F.asked files.new)) }
+    ensures may_ask { MayAskFor name.now (F.asked files.old) (F.asked files.new) }
+    ensures later { F.faults files.old ≤ F.faults files.new }
+{
+    if files.open(name).is_err() {
+        return Err(FileEnd::NotOpened);
+    }
+    match read_opened(alloc, files, limit) {
+        Ok(bytes) => Ok(bytes),
+        Err(ReadEnd::Fault) => Err(FileEnd::Fault),
+        Err(ReadEnd::NoMemory) => Err(FileEnd::NoMemory),
+    }
 }

@@ -1,10 +1,10 @@
 -- If the grammar reads a constant of one token, it is the first token.
-use Rattle.std.proofs.Common.{◌≡◌, ◌∙◌, ℕ, List, [], ◌∷◌, true, false, Ok, refl, sym, ap, subst}
-use Rattle.mob_ast.{specs.declared.types.Quoted.{Quoted}, specs.declared.types.TypeWord.{TypeWord}, specs.Trees.{Tree}}
-use Rattle.mob_grammar.{specs.declared.mark.Mark.{Mark}, specs.declared.mark.Mark.TheVariants.{Open, Plus, Minus}, specs.Marks.{is}}
-use Rattle.mob_grammar.specs.Symbols.{Symbol, fixed, name, number, quoted, PlacedSymbol, sign, is_mark, is_name, is_name_symbol, begins, starts, leaf}
+use Rattle.std.{proofs.Common.{◌≡◌, ◌∙◌, ℕ, List, [], ◌∷◌, true, false, cond, Ok, Err, refl, sym, ap, subst}, proofs.lemmas.Bool.{eq-eqb}}
+use Rattle.mob_ast.{specs.declared.types.Quoted.{Quoted}, specs.declared.types.TypeWord.{TypeWord}, specs.declared.types.Word.{Word}, specs.Trees.{Tree}}
+use Rattle.mob_grammar.{specs.declared.mark.Mark.{Mark}, specs.declared.mark.Mark.TheVariants.{Open, Plus, Minus}, specs.Marks.{code, is}}
+use Rattle.mob_grammar.specs.Symbols.{Symbol, fixed, name, number, quoted, PlacedSymbol, sign, is_mark, is_name, is_name_symbol, begins, starts, first, rest, unary, leaf}
 use Rattle.mob_grammar.specs.Reading.{Answer, TokenReader, ◌>>=◌, primary, mark_primary, mark_at, type_at, name_at, string_at, number_at, literal_at, read}
-use Rattle.mob_grammar.{specs.Scripts.{string_form, signed_form, number_form, typed_form, const_form}, proofs.Steps.{token_is}}
+use Rattle.mob_grammar.{specs.Scripts.{string_form, signed_form, number_form, typed_form, const_form}, proofs.Steps.{token_is}, proofs.Tells.{through}}
 use Rattle.mob_parse.{specs.Constants.{constant_leaf_at}, proofs.Mapped.{mapped, after, mapped_after}}
 use Rattle.mob_ast.specs.declared.expression.Node.TheVariants as node
 
@@ -74,3 +74,21 @@ pub const_minus : (l : List PlacedSymbol) → starts Minus l ≡ true → read c
 unfolding read const_form string_form signed_form number_form
 const_minus [] signed = absurd (cc signed)
 const_minus (t ∷ l) signed = subst (λ v. read const_form (v ∷ l) ≡ read (signed_form Minus) (v ∷ l)) (sym (token_is Minus t signed)) refl
+
+-- a sign and a number
+pub signed_read : (m : Mark) (p : ℕ) (l u : List PlacedSymbol) → l ≡ sign m p ∷ u → read (signed_form m) l ≡ mapped (λ (n : Word). unary (sign m p) (leaf (node.Number n.text) n.place)) (number_at u)
+unfolding read signed_form mark_at
+signed_read m p l u parts =
+    let made : ℕ × Word → Tree = λ z. unary (sign m z.0) (leaf (node.Number z.1.text) z.1.place) in
+    ap (read (signed_form m)) parts ∙ ap (λ b. mapped made (cond b (Ok (p, u)) (Err (sign m p ∷ u)) >>= λ x. after x.0 (number_at x.1))) (eq-eqb (code m) (code m) refl) ∙ mapped_after made p (number_at u)
+
+-- the tree made of them
+pub signed_made : (m : Mark) (p : ℕ) (l u r : List PlacedSymbol) (w : Word) (value whole : Tree) → l ≡ sign m p ∷ u → number_at u ≡ Ok (w, r) → value ≡ leaf (node.Number w.text) w.place → whole ≡ unary (sign m p) value → read (signed_form m) l ≡ Ok (whole, r)
+signed_made m p l u r w value whole parts reads made over =
+    signed_read m p l u parts ∙ through (number_at u) w r _ reads ∙ ap (λ t. Ok (t, r)) (sym (over ∙ ap (unary (sign m p)) made))
+
+pub signed_stops : (m : Mark) (l : List PlacedSymbol) → starts m l ≡ false → read (signed_form m) l ≡ Err l
+unfolding read signed_form mark_at
+signed_stops m l none =
+    let made : ℕ × Word → Tree = λ z. unary (sign m z.0) (leaf (node.Number z.1.text) z.1.place) in
+    ap (λ b. mapped made (cond b (Ok ((first l).place, rest l)) (Err l) >>= λ x. after x.0 (number_at x.1))) none

@@ -1,7 +1,8 @@
 -- Readers never add to the remaining tokens.
 use Rattle.std.proofs.Common.{◌≡◌, ◌≤◌, ◌+◌, ◌∙◌, ◌⊎◌, inl, inr, ℕ, List, [], ◌∷◌, length, true, false, Ok, refl, sym, arith}
+use Rattle.std.proofs.lemmas.Bool.{cases_Bool}
 use Rattle.mob_grammar.{specs.declared.mark.Mark.{Mark}, specs.Symbols.{PlacedSymbol, is_sign}, specs.Expressions.{disjunction, Phrase}, specs.Forms.{Production, Sort, Form, Derives}}
-use Rattle.mob_grammar.{specs.Reading.{TokenReader, if_mark, expression_at, read}, proofs.Forms.{fits, form_read}, proofs.Steps.{told, if_there, if_not}, proofs.Tells.{Lawful}}
+use Rattle.mob_grammar.{specs.Reading.{TokenReader, if_mark, expression_at, read}, proofs.Forms.{fits, form_read}, proofs.Steps.{if_there, if_not}, proofs.Tells.{Lawful}}
 use Rattle.mob_grammar.proofs.Same.{shrinks, lawful_expression}
 
 abbrev pub Shrinks : {A : Type 0} → TokenReader A → Type 0
@@ -17,7 +18,7 @@ if_by m s z f g t l r x (inr none_there) h = g (t ∷ l) r x (sym (if_not m s z 
 
 pub if_shrinks : {A : Type 0} (m : Mark) (s z : TokenReader A) → Shrinks s → Shrinks z → Shrinks (if_mark m s z)
 if_shrinks m s z f g [] r x h = g [] r x (sym (if_not m s z [] refl) ∙ h)
-if_shrinks m s z f g (t ∷ l) r x h = if_by m s z f g t l r x (told (is_sign m t)) h
+if_shrinks m s z f g (t ∷ l) r x h = if_by m s z f g t l r x (cases_Bool (is_sign m t)) h
 
 pub expression_shrinks : Shrinks expression_at
 expression_shrinks = lawful_shrinks (Phrase disjunction) expression_at lawful_expression

@@ -3,7 +3,7 @@ ghost use Rattle.std.specs.Prelude.{◌≡◌, Ok, true, false, map, IfOk, Match
 ghost use Rattle.mob_ast.specs.Trees.{tree_of, from_of, item_of, key_of, select_of, statement_of};
 ghost use Rattle.mob_grammar.specs.Forms.{expression, from, item, key, statement};
 ghost use Rattle.mob_grammar.specs.Symbols.{begins, is_name, counts_all, first, rest};
-ghost use Rattle.mob_grammar.specs.Reading.{read};
+ghost use Rattle.mob_grammar.specs.Reading.{behind_mark, expression_at, read};
 ghost use Rattle.mob_grammar.specs.Scripts.{some_name_form, second_name_form, entry_form, joined_form, joins_form, source_form, sources_form, from_form, alias_form, item_form, direction_form, key_form, distinct_form, where_form, group_column_form, by_form, limit_form, ordering_form, select_form, delete_form, statement_form, script_form};
 ghost use Rattle.mob_grammar.proofs.Statements.{joined_fits, item_fits, group_column_fits, key_fits, statement_fits};
 ghost use Rattle.mob_parse.specs.Behind.{put_behind};
@@ -125,6 +125,17 @@ impl<'a> Cursor<'a> {
         let value = self.expression()?;
         let (value, alias) = self.aliased(value)?;
         Ok(Item::One { value, alias })
+    }
+
+    // Reads ON and its condition, after `front`.
+    #[tactic(auto, unfolding(mob_grammar::specs::Reading::behind_mark))]
+    fn condition<T: Drop>(&mut self, front: T) -> Result<(T, Expr), Fault<Syntax>>
+        ensures reads { FollowsReading (λ r. tree_of r.1) result (left self.new) (behind_mark Mark.On expression_at (left self.old)) }
+        ensures same { IfOk result (λ r. r.0 ≡ front) }
+    {
+        self.expect(Mark::On)?;
+        let cond = self.expression()?;
+        Ok((front, cond))
     }
 
     // Reads the left-joined tables, if there are any, and appends them.
@@ -299,8 +310,7 @@ impl Entry for Joined {
         cursor.expect(Mark::Join)?;
         let table = cursor.name()?;
         let alias = cursor.second_name()?;
-        cursor.expect(Mark::On)?;
-        let cond = cursor.expression()?;
+        let ((table, alias), cond) = cursor.condition((table, alias))?;
         Ok(FromTable {
             table,
             alias,

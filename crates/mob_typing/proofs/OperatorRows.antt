@@ -3,6 +3,7 @@
 use Rattle.std.{specs.Prelude.{◌⊎◌, IfSome, not, option_map, option_and_then, codes}, specs.List.{list_all}, specs.Option.{option_or}, specs.Str.{bytes_eq}}
 use Rattle.std.{proofs.Common.{◌≡◌, ◌∙◌, refl, sym, ap, subst, inl, inr, ℕ, List, [], ◌∷◌, Bool, true, false, cond, ◌&&◌, ◌||◌, Option, Some, None}, proofs.lemmas.Bool.{and_parts}}
 use Rattle.std.proofs.lemmas.Slice.Eq.{bytes_eq-Decides}
+use Rattle.std.proofs.Math.Bool.{and-false}
 use Rattle.mob_ast.specs.declared.types.SqlType.{SqlType}
 use Rattle.mob_operators.{specs.declared.operator.Spelling.{Spelling}, specs.declared.operator.Op.{Op}, specs.declared.table.Bond.{Bond}}
 use Rattle.mob_operators.{specs.Lookup.{Line, operator_named, operator_in, same_form, types_fit, meets, takes, given, answer_of, found_in}, specs.Table.{table}}
@@ -111,10 +112,6 @@ table_divides : list_all divides_by_literal table ≡ true
 unfolding table
 table_divides = refl
 
-ends_false : (a : Bool) → (a && false) ≡ false
-ends_false true = refl
-ends_false false = refl
-
 module _ (f : Spelling) (name : List ℕ) (ts : List SqlType) where
   -- the answer of a line, depending on whether it takes its arguments
   abbrev answer_by : Line → Bool → Option Answer
@@ -136,7 +133,7 @@ module _ (f : Spelling) (name : List ℕ) (ts : List SqlType) where
   without_literal l h = by l.bond refl h
     where
       by : (b : Bond) → l.bond ≡ b → cond (asks_literal b) (list_all (λ n. is_division n.1) l.names) (list_all (λ n. not_division n.1) l.names) ≡ true → WithoutLiteral l
-      by bond.ByLiteral is own = inl (ap (λ b. answer_by l (types_fit l.takes ts && meets b ts false)) is ∙ ap (answer_by l) (ends_false (types_fit l.takes ts)) ∙ untaken l, line_passes is_division l f name ts true own)
+      by bond.ByLiteral is own = inl (ap (λ b. answer_by l (types_fit l.takes ts && meets b ts false)) is ∙ ap (answer_by l) (and-false (types_fit l.takes ts)) ∙ untaken l, line_passes is_division l f name ts true own)
       by bond.Free is own = inr (ap (λ b. answer_by l (types_fit l.takes ts && meets b ts true)) is ∙ sym (ap (λ b. answer_by l (types_fit l.takes ts && meets b ts false)) is), line_passes not_division l f name ts false own)
       by bond.OneMoving is own = inr (ap (λ b. answer_by l (types_fit l.takes ts && meets b ts true)) is ∙ sym (ap (λ b. answer_by l (types_fit l.takes ts && meets b ts false)) is), line_passes not_division l f name ts false own)
       by bond.SameType is own = inr (ap (λ b. answer_by l (types_fit l.takes ts && meets b ts true)) is ∙ sym (ap (λ b. answer_by l (types_fit l.takes ts && meets b ts false)) is), line_passes not_division l f name ts false own)

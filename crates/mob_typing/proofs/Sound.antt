@@ -8,6 +8,7 @@ use Rattle.mob_typed.{specs.declared.typed.ConstText.{ConstText}, specs.Trees.{T
 use Rattle.mob_typed.specs.Named.{names_before, all_name_before, names_from, all_name_from}
 use Rattle.mob_typed.specs.Statements.{ColumnList, nothing, new_table, new_index, new_rows, rows_from, deletion, query, plan_of}
 use Rattle.mob_list.proofs.Each.{each_both, each_on}
+use Rattle.mob_list.proofs.Entries.{get_seam}
 use Rattle.mob_scope.specs.Names.{entry_from}
 use Rattle.mob_expression.specs.Words.{number_type}
 use Rattle.mob_clauses.{specs.Conditions.{is_bool}, specs.Keys.{is_key}}
@@ -22,10 +23,6 @@ slice_more [] more k x h = absurd (cc)
 slice_more (y ∷ xs) more zero x h = h
 slice_more (y ∷ xs) more (suc k) x h = slice_more xs more k x h
 
-pub slice_seam : {A : Type 0} (xs ys : List A) (x : A) → slice_get (xs ++ x ∷ ys) (length xs) ≡ Some x
-slice_seam [] ys x = refl
-slice_seam (y ∷ xs) ys x = slice_seam xs ys x
-
 -- the element at a position of a list, after other elements
 pub slice_behind : {A : Type 0} (xs ys : List A) (k : ℕ) (y : A) → slice_get ys k ≡ Some y → slice_get (xs ++ ys) (length xs + k) ≡ Some y
 slice_behind [] ys k y h = let e : 0 + k ≡ k = omega arith in ap (λ n. slice_get ys n) e ∙ h
@@ -37,22 +34,22 @@ slice_map f (y ∷ xs) zero x h = let same : y ≡ x = cc in ap (λ z. Some (f z
 slice_map f (y ∷ xs) (suc k) x h = slice_map f xs k x h
 
 -- this entry is in the list, at its number
-abbrev pub StandsIn : {A : Type 0} → List (List ℕ × A) → ℕ × A → Type 0
-StandsIn {A} all e = (found : List ℕ × A) × (slice_get all e.0 ≡ Some found) × (found.1 ≡ e.1)
+abbrev pub IsNumbered : {A : Type 0} → List (List ℕ × A) → ℕ × A → Type 0
+IsNumbered {A} all e = (found : List ℕ × A) × (slice_get all e.0 ≡ Some found) × (found.1 ≡ e.1)
 
 -- the entry with a name is at its number
-pub entry_stands : {A : Type 0} (before es : List (List ℕ × A)) (name : List ℕ) (e : ℕ × A) → entry_from (length before) es name ≡ Some e → StandsIn (before ++ es) e
+pub entry_stands : {A : Type 0} (before es : List (List ℕ × A)) (name : List ℕ) (e : ℕ × A) → entry_from (length before) es name ≡ Some e → IsNumbered (before ++ es) e
 entry_stands before [] name e h = absurd (cc)
 entry_stands {A} before (x ∷ es) name e h = by (bytes_eq name x.0) refl (entry_stands (before ++ x ∷ []) es name e)
   where
-    by : (b : Bool) → bytes_eq name x.0 ≡ b → (entry_from (length (before ++ x ∷ [])) es name ≡ Some e → StandsIn ((before ++ x ∷ []) ++ es) e) → StandsIn (before ++ x ∷ es) e
+    by : (b : Bool) → bytes_eq name x.0 ≡ b → (entry_from (length (before ++ x ∷ [])) es name ≡ Some e → IsNumbered ((before ++ x ∷ []) ++ es) e) → IsNumbered (before ++ x ∷ es) e
     by true is later =
         let here : ◌≡◌ {A = Option (ℕ × A)} (Some (length before, x.1)) (Some e) = sym (ap (λ b. cond b (Some (length before, x.1)) (entry_from (length before + 1) es name)) is) ∙ h in
         let pair : ◌≡◌ {A = ℕ × A} (length before, x.1) e = cc in
-        (x, ap (λ n. slice_get (before ++ x ∷ es) n) (sym (ap (λ y. y.0) pair)) ∙ slice_seam before es x, ap (λ y. y.1) pair)
+        (x, ap (λ n. slice_get (before ++ x ∷ es) n) (sym (ap (λ y. y.0) pair)) ∙ get_seam before x es, ap (λ y. y.1) pair)
     by false is later =
         let behind : entry_from (length before + 1) es name ≡ Some e = sym (ap (λ b. cond b (Some (length before, x.1)) (entry_from (length before + 1) es name)) is) ∙ h in
-        subst (λ all. StandsIn all e) (append_assoc before (x ∷ []) es) (later (ap (λ n. entry_from n es name) (length-append before (x ∷ [])) ∙ behind))
+        subst (λ all. IsNumbered all e) (append_assoc before (x ∷ []) es) (later (ap (λ n. entry_from n es name) (length-append before (x ∷ [])) ∙ behind))
 
 -- soundness after more constants
 module _ {A : Type 0} (f : ConstText → A) where
@@ -64,7 +61,7 @@ module _ {A : Type 0} (f : ConstText → A) where
       by (Some c) is = ap (option_map f) (slice_more cs more k c is) ∙ sym (ap (option_map f) is) ∙ h
 
   pub part_here : (cs : List ConstText) (c : ConstText) → option_map f (slice_get (cs ++ c ∷ []) (length cs)) ≡ Some (f c)
-  part_here cs c = ap (option_map f) (slice_seam cs [] c)
+  part_here cs c = ap (option_map f) (get_seam cs c [])
 
 pub constant_stays : (ty : SqlType) (k : ℕ) (cs more : List ConstText) → constant_type cs k ≡ Some ty → constant_type (cs ++ more) k ≡ Some ty
 constant_stays ty k cs more h = part_stays (λ (c : ConstText). c.ty) ty k cs more h

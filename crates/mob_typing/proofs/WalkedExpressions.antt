@@ -10,6 +10,7 @@ use Rattle.mob_operators.{specs.declared.operator.Op.{Op}, specs.declared.operat
 use Rattle.mob_typed.{specs.declared.typed.ConstText.{ConstText}, specs.Trees.{TypedTree, typed, none, typed_trees, type_of, types_of}, specs.Statements.{ColumnList}}
 use Rattle.mob_typed.specs.Named.{reads_before, names_before, all_name_before, reads_from, names_from, all_name_from}
 use Rattle.mob_list.proofs.Each.{each_get, each_on, each_parts}
+use Rattle.mob_list.proofs.Entries.{get_seam}
 use Rattle.mob_scope.{specs.declared.scope.Found.{Found}, specs.Answers.{◌>>=◌, found}, specs.Names.{column_of, entry_from}, specs.Scopes.{ScopeTableParts, ScopeParts}}
 use Rattle.mob_scope.specs.Columns.{with_first, matches, the_one, column_among, in_from, column_named}
 use Rattle.mob_expression.{specs.Steps.{TypingTurn}, specs.Words.{type_named, literal_type, number_type, is_zero}}
@@ -21,7 +22,7 @@ use Rattle.mob_typing.specs.Stands.{operators_in}
 use Rattle.mob_typing.specs.WellTyped.{column_type, from_type, HasNamedType, HasNamedTypes, IsNumberLiteral, the_number, HasDivisor, is_division, FitsArguments, IsOperated}
 use Rattle.mob_typing.proofs.Walk.{GivesOrStops, gives, stops, then, also, passes, finds, not_false, adds_none, adds_one, adds_within, adds_both, Steps, Stays, still}
 use Rattle.mob_typing.proofs.OperatorRows.{is_of_table, found_of_table, names_nothing, reads_nothing, row_fits, division_alone, has_row, own_cast, keeps_number, sign_keeps, behind_sign}
-use Rattle.mob_typing.proofs.Sound.{slice_more, slice_behind, slice_map, slice_seam, both_true, all_above, all_below, entry_stands, part_here, constant_here, literal_stays, operands_hold}
+use Rattle.mob_typing.proofs.Sound.{slice_more, slice_behind, slice_map, both_true, all_above, all_below, entry_stands, part_here, constant_here, literal_stays, operands_hold}
 use Rattle.mob_typing.proofs.Sound.{all_operated, all_placed, types_are, IsSound, sound_stays}
 use Rattle.mob_ast.specs.declared.types.SqlType.TheVariants as sql
 use Rattle.mob_ast.specs.declared.refusal.Kind.TheVariants as kind
@@ -62,7 +63,7 @@ module _ (At : ℕ → Type 0) (tables : List ColumnList) (seen : List (List ℕ
       by (column_of t.1.columns name) refl (subst (λ n. AllByRecursion IsAmong (matches n behind name)) (length-append before (t ∷ [])) (matches_there (before ++ t ∷ []) behind name (append_assoc before (t ∷ []) behind ∙ parts)))
     where
       at : slice_get seen (length before) ≡ Some t
-      at = ap (λ xs. slice_get xs (length before)) (sym parts) ∙ slice_seam before behind t
+      at = ap (λ xs. slice_get xs (length before)) (sym parts) ∙ get_seam before t behind
 
       by : (o : Option (ℕ × SqlType)) → column_of t.1.columns name ≡ o → AllByRecursion IsAmong (matches (length before + 1) behind name) → AllByRecursion IsAmong (with_first o (length before) (matches (length before + 1) behind name))
       by None is others = others

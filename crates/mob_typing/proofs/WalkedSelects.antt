@@ -3,13 +3,14 @@ use Rattle.std.{specs.Prelude.{IfSome, not, nat_le, nat_lt, slice_get, slice_ran
 use Rattle.std.specs.Str.{bytes_eq}
 use Rattle.std.proofs.Common.{◌≡◌, ◌==◌, ◌≤◌, ◌<◌, ◌+◌, ◌-◌, ◌^◌, ◌∙◌, ◌⊎◌, inl, inr, ◌||◌, refl, sym, ap, subst, arith, Bool, true, false, cond, ℕ, zero, suc, List, [], ◌∷◌, ◌++◌, append_assoc}
 use Rattle.std.{proofs.Common.{append-nil, length, length-append, map, take, drop, Option, Some, None, Result, Ok, Err}, proofs.lemmas.Bool.{leb-false, or_parts}}
-use Rattle.std.{proofs.lemmas.Bool.Decides.{nat_tests}, proofs.lemmas.List.{length-map, length-drop, length-take-le, take-append-drop}, proofs.lemmas.List.Folds.{drop_split}}
+use Rattle.std.{proofs.lemmas.Bool.Decides.{nat_tests}, proofs.lemmas.List.{length-map, length-drop, length-take-le, take-append-drop, nil_from_length}, proofs.lemmas.List.Folds.{drop_split}}
 use Rattle.std.proofs.lemmas.Option.{slice_get_within}
 use Rattle.mob_ast.{specs.declared.types.Word.{Word}, specs.declared.types.SqlType.{SqlType}, specs.Trees.{Tree, tree, Trees, ItemParts, every, one, count_all, FromParts, KeyParts, SelectParts}}
 use Rattle.mob_operators.specs.Aggregates.{is_aggregate, aggregate_row}
 use Rattle.mob_typed.{specs.declared.typed.Agg.{Agg}, specs.declared.typed.ConstText.{ConstText}, specs.Named.{names_before}, specs.Trees.{TypedTree, type_of}}
 use Rattle.mob_typed.{specs.Selects.{Output, TypedSelectParts, on_of}, specs.Statements.{ColumnList}}
 use Rattle.mob_list.proofs.Each.{each_both, each_get, each_map, each_on, each_parts}
+use Rattle.mob_list.proofs.Entries.{get_seam}
 use Rattle.mob_scope.{specs.declared.scope.Found.{Found}, specs.Answers.{◌>>=◌}, specs.declared.fault.Mistake.{Mistake}, specs.Columns.{column_named}, specs.Names.{has_entry}}
 use Rattle.mob_scope.specs.Scopes.{ScopeTableParts, ScopeParts}
 use Rattle.mob_expression.specs.Steps.{one_more}
@@ -17,7 +18,7 @@ use Rattle.mob_typing.{specs.Names.{table_of}, specs.Selects.{from_name, from_ta
 use Rattle.mob_typing.specs.WellTyped.{column_type, from_type, HasNamedTypes, IsOperated, condition_alone, AreOfSources, column_in, columns_in, IsGroup, IsAggregateOf, IsTypedItem, IsTypedKey}
 use Rattle.mob_typing.specs.WellTyped.{IsTypedQuery, IsTypedDeletion}
 use Rattle.mob_typing.proofs.Walk.{GivesOrStops, gives, stops, then, also, passes, finds, not_false, Adds, adds_none, adds_within, adds_both, Steps, Stays, still, all_stay}
-use Rattle.mob_typing.{proofs.Apart.{entry_last}, proofs.Sound.{slice_map, slice_seam, entry_stands, IsSound, both_true, sound_stays}}
+use Rattle.mob_typing.{proofs.Apart.{entry_last}, proofs.Sound.{slice_map, entry_stands, IsSound, both_true, sound_stays}}
 use Rattle.mob_typing.proofs.WalkedExpressions.{AreThere, numbers_of, IsPart, IsFound, column_walked, arguments_walked, expression_walked}
 use Rattle.mob_clauses.specs.Conditions.{condition, is_bool, tree_place, source_start, seen_by_on, joins_from, typed_joins}
 use Rattle.mob_clauses.specs.Outputs.{is_aggregate_call, is_aggregate_item, is_grouped, ColumnNumbers, column_numbers, group_column, grouping, is_column, is_ungrouped, any_ungrouped, columns_of_table}
@@ -77,10 +78,6 @@ either_true false b (inr h) = h
 
 one_longer : {A B : Type 0} (xs : List A) (ys : List B) (x : A) (y : B) → length xs ≡ length ys → length (x ∷ xs) ≡ length (y ∷ ys)
 one_longer xs ys x y h = omega (arith, h)
-
-nothing_left : {A : Type 0} (xs : List A) → length xs ≡ 0 → xs ≡ []
-nothing_left [] h = refl
-nothing_left (x ∷ xs) h = absurd (omega (arith, h))
 
 any_grouped : (x : SelectParts) → list_any is_aggregate_item x.items ≡ true → is_grouped x ≡ true
 any_grouped x own = either_true (not (length x.groups == 0)) (list_any is_aggregate_item x.items) (inr own)
@@ -252,13 +249,13 @@ module _ (At : ℕ → Type 0) (tables : List ColumnList) (s : ScopeParts) (begi
       typed_so : from_type tables (numbers_of s.from) f (length before) ≡ Some c.1
       typed_so = ap (option_and_then (λ j. column_type tables j (length before))) (slice_map (λ (x : List ℕ × ScopeTableParts). x.1.table) s.from f t at)
           ∙ ap (option_and_then (λ (columns : ColumnList). option_map (λ k. k.1) (slice_get columns (length before)))) (each_get (λ (x : List ℕ × ScopeTableParts). slice_get tables x.1.table ≡ Some x.1.columns) s.from f t there at)
-          ∙ ap (λ (columns : ColumnList). option_map (λ k. k.1) (slice_get columns (length before))) (sym parts) ∙ ap (option_map (λ (k : List ℕ × SqlType). k.1)) (slice_seam before columns c)
+          ∙ ap (λ (columns : ColumnList). option_map (λ k. k.1) (slice_get columns (length before))) (sym parts) ∙ ap (option_map (λ (k : List ℕ × SqlType). k.1)) (get_seam before c columns)
 
   all_hold : (cs : List ConstText) (p : ℕ) (before more : List (List ℕ × ScopeTableParts)) → At p → before ++ more ≡ s.from → AllByRecursion (OutputHolds cs) (all_outputs (length before) more p)
   all_hold cs p before [] own parts = tt
   all_hold cs p before (t ∷ more) own parts =
       each_both (OutputHolds cs) (columns_of_table (length before) 0 t.1.columns p) (all_outputs (length before + 1) more p)
-      (columns_hold cs (length before) t p [] t.1.columns own (ap (λ xs. slice_get xs (length before)) (sym parts) ∙ slice_seam before more t) refl)
+      (columns_hold cs (length before) t p [] t.1.columns own (ap (λ xs. slice_get xs (length before)) (sym parts) ∙ get_seam before t more) refl)
       (subst (λ k. AllByRecursion (OutputHolds cs) (all_outputs k more p)) (length-append before (t ∷ [])) (all_hold cs p (before ++ t ∷ []) more own (append_assoc before (t ∷ []) more ∙ parts)))
 
   -- the columns of a SELECT, which may be grouped
@@ -574,7 +571,7 @@ module _ (At : ℕ → Type 0) (tables : List ColumnList) (s : ScopeParts) (begi
         none_grouped plain =
             let empty : not (length x.groups == 0) ≡ false = (or_parts (not (length x.groups == 0)) (list_any is_aggregate_item x.items) plain).0 in
             let none : length x.groups ≡ 0 = grind (arith, nat_tests, empty) in
-            let long = groups.1.1 in nothing_left gr (omega (arith, long, none))
+            let long = groups.1.1 in nil_from_length gr (omega (arith, long, none))
 
         expressions : List TypedTree
         expressions = map (λ (y : Output). y.0) o.columns ++ (flat_map condition_alone js ++ (condition_alone c ++ (gr ++ map (λ (k : TypedTree × Bool). k.0) ks)))

@@ -2,7 +2,7 @@
 use Rattle.std.{specs.Prelude.{◌&&◌, not, nat_eq}, specs.Char.{to_ascii_lowercase}}
 use Rattle.std.proofs.Common.{◌≡◌, ℕ, List, [], ◌∷◌, ◌++◌, Bool, true, false, cond, Option, Some, None, refl, sym, ap, subst, ◌∙◌, append_assoc, append-nil, rules, inl, inr, ◌⊎◌}
 use Rattle.std.proofs.lemmas.Bool.{or_parts, and_parts, and_right}
-use Rattle.mob_language.{specs.Language.{Text, AnyCase, is_blank}, proofs.Exact.{Exact, Stops, bind_some, some_is, any_case_exact}, proofs.Heads.{after_any, spaced_exact}}
+use Rattle.mob_language.{specs.Language.{Text, AnyCase, is_blank}, proofs.Exact.{Exact, Stops, bind_some, some_is, any_case_exact, regrouped}, proofs.Heads.{after_any, spaced_exact}}
 use Rattle.mob_written.specs.declared.written.Prefixes.{Prefixes}
 use Rattle.mob_written.specs.Prefix.{Prefix, interpolation, reference, prefix_word, prefix_of, admits, without_text, remaining, ArePrefixes, says_step, is_first, begins_prefix, prefix_at, with_left}
 use Rattle.mob_written.specs.Prefix.{one_prefix_at, prefixes_at}
@@ -143,9 +143,6 @@ then_one : (a b c : Prefixes) (text rest end : Text) → one_prefix_at a text �
 unfolding prefixes_at
 then_one a b c text rest end e f = rw e f
 
-parts_again : (text front back rest : Text) → text ≡ front ++ back → text ++ rest ≡ front ++ (back ++ rest)
-parts_again text front back rest e = ap (λ (t : Text). t ++ rest) e ∙ append_assoc front back rest
-
 -- prefixes are read if what follows begins neither with a blank nor with the letter of one more
 pub prefixes_read : (a : Prefixes) (said : List Prefix) (front rest : Text) → ArePrefixes a front said → Stops is_blank rest → Stops (begins_prefix (remaining a said)) rest → prefixes_at a (front ++ rest) ≡ Some (remaining a said, rest)
 prefixes_read a [] front rest are blank stops = subst (λ (t : Text). prefixes_at a (t ++ rest) ≡ Some (a, rest)) (sym are) (then_one a a a rest rest rest (one_none a rest stops) (one_none a rest stops))
@@ -156,7 +153,7 @@ prefixes_read a (p ∷ q ∷ []) front rest are blank stops =
     let next = are.5 in
     let whole : next.0 ++ rest ≡ are.1 ++ rest = ap (λ (t : Text). t ++ rest) (sym (next.2 ∙ ap (λ (t : Text). next.0 ++ t) next.5 ∙ append-nil next.0)) in
     then_one a (without_text p a) (without_text q (without_text p a)) (front ++ rest) (are.1 ++ rest) rest
-    (ap (one_prefix_at a) (parts_again front are.0 are.1 rest are.2) ∙ one_read a p are.0 (are.1 ++ rest) are.3 are.4 (prefixes_stop (without_text p a) (q ∷ []) are.1 rest next blank))
+    (ap (one_prefix_at a) (regrouped front are.0 are.1 rest are.2) ∙ one_read a p are.0 (are.1 ++ rest) are.3 are.4 (prefixes_stop (without_text p a) (q ∷ []) are.1 rest next blank))
     (ap (one_prefix_at (without_text p a)) (sym whole) ∙ one_read (without_text p a) q next.0 rest next.3 next.4 blank)
 prefixes_read a (p ∷ q ∷ r ∷ said) front rest are blank stops =
     let none : admits none_left r ≡ true = subst (λ (b : Prefixes). admits b r ≡ true) (both_said a p q are.3 are.5.3) are.5.5.3 in

@@ -73,10 +73,7 @@ impl WrittenValue for WholeNumbers {
     ghost has_value = { is_whole_number };
 
     fn value_at(alloc: Global, bytes: &[u8]) -> Result<Option<(Option<Frac>, &[u8])>, AllocError> {
-        match number_value_at(bytes) {
-            Some((value, rest)) => Ok(Some((value, rest))),
-            None => Ok(None),
-        }
+        Ok(number_value_at(bytes))
     }
 
     fn has_value(value: &Frac) -> bool {
@@ -108,10 +105,7 @@ impl WrittenValue for Numbers {
     ghost has_value = { any_value };
 
     fn value_at(alloc: Global, bytes: &[u8]) -> Result<Option<(Option<Frac>, &[u8])>, AllocError> {
-        match number_value_at(bytes) {
-            Some((value, rest)) => Ok(Some((value, rest))),
-            None => Ok(None),
-        }
+        Ok(number_value_at(bytes))
     }
 
     fn has_value(value: &Frac) -> bool {
@@ -181,10 +175,7 @@ impl WrittenValue for Points {
     ghost has_value = { any_value };
 
     fn value_at(alloc: Global, bytes: &[u8]) -> Result<Option<(Option<Point>, &[u8])>, AllocError> {
-        match point_value_at(bytes) {
-            Some((point, rest)) => Ok(Some((point, rest))),
-            None => Ok(None),
-        }
+        Ok(point_value_at(bytes))
     }
 
     fn has_value(value: &Point) -> bool {

@@ -1,4 +1,4 @@
-use Rattle.std.{proofs.Common.{rules, ◌≡◌, ◌∙◌, ◌+◌, ◌∷◌, sym, ap, subst, map, drop, take, List, Ok}, proofs.lemmas.List.{drop_more, drop_all, take_all}}
+use Rattle.std.{proofs.Common.{rules, ◌≡◌, ◌∙◌, ◌+◌, ◌∷◌, sym, ap, subst, map, drop, take, List, Ok}, proofs.lemmas.List.{drop_more, drop_all, take_all}, proofs.lemmas.Result.{err_from_is_err_and}}
 use Rattle.mob_load.{specs.Checks.{check_seen}, specs.declared.check.Check.{Check}, specs.Loads.{IsNarrow, Loads, loaded_of, nothing_loaded}, proofs.Narrow.{check_narrow, nothing_narrow}}
 use Rattle.mob_load.{proofs.Asked.{around, asked_on, asked_some, files_here, front_more, asked_all, all_some, none_asked}, proofs.Reading.{all_unread, check_reads, none_unread}}
 use Rattle.mob_load.{proofs.Steps.{keeps_same, keeps_on, passes_more, rose_before}, proofs.Stopping.{check_stops}}
@@ -24,39 +24,41 @@ loop-check-preserved g c =
     record {
       passed = λ m are. passes_more c.args.epoch.now m (map check_seen (take i all)) (map check_seen (take (i + 1) all)) (check_seen x) (loaded_of c.loop-check.loading) (loaded_of c.run_check.new.loading)
           (front_more all i x c.loop-check-test.true c.check-item.is) (c.loop-check.invariant.passed m are)
-          (c.in-Ok.ensures.loads m (files_here all i x c.loop-check-test.true c.check-item.is (g.F.Files.files c.args.files.now) (g.F.Files.files c.loop-check.files) m c.loop-check.invariant.files are));
+          (c.in_ok-run_check.ensures.loads m (files_here all i x c.loop-check-test.true c.check-item.is (g.F.Files.files c.args.files.now) (g.F.Files.files c.loop-check.files) m c.loop-check.invariant.files are));
       unread = check_reads c.args.epoch.now (map check_seen all) (map check_seen (drop i all)) (map check_seen (drop (i + 1) all)) (check_seen x) here (loaded_of c.loop-check.loading)
-          (loaded_of c.run_check.new.loading) c.loop-check.invariant.unread c.in-Ok.ensures.reads;
-      files = keeps_on (g.F.Files.files c.args.files.now) (g.F.Files.files c.loop-check.files) (g.F.Files.files c.run_check.new.files) c.loop-check.invariant.files c.in-Ok.ensures.files;
+          (loaded_of c.run_check.new.loading) c.loop-check.invariant.unread c.in_ok-run_check.ensures.reads;
+      files = keeps_on (g.F.Files.files c.args.files.now) (g.F.Files.files c.loop-check.files) (g.F.Files.files c.run_check.new.files) c.loop-check.invariant.files c.in_ok-run_check.ensures.files;
       asked = asked_on all i x c.loop-check-test.true c.check-item.is (g.F.Files.asked c.args.files.now) (g.F.Files.asked c.loop-check.files) (g.F.Files.asked c.run_check.new.files)
-          c.loop-check.invariant.asked c.in-Ok.ensures.asked;
-      narrow = c.in-Ok.ensures.narrow;
+          c.loop-check.invariant.asked c.in_ok-run_check.ensures.asked;
+      narrow = c.in_ok-run_check.ensures.narrow;
       later = search rules;
     }
 
-pub returns-in-Err-clause-stopped : goal.returns-in-Err-clause-stopped
-returns-in-Err-clause-stopped g c =
+pub returns-in_err-run_check-clause-stopped : goal.returns-in_err-run_check-clause-stopped
+returns-in_err-run_check-clause-stopped g c =
+    let p = err_from_is_err_and c.from_residual.result c.from_residual.ensures.1 in
     let all = c.args.checks.now in
     let i = c.loop-check.check-index in
     let x = c.check-item.result in
     let at = c.loop-check.invariant in
-    check_stops c.args.epoch.now (map check_seen (take i all)) (map check_seen (drop (i + 1) all)) (g.F.Files.files c.args.files.now) (g.F.Files.asked c.args.files.now) (g.F.Files.asked c.loop-check.files)
-    (g.F.Files.asked c.run_check.new.files) at.asked (loaded_of c.loop-check.loading) (loaded_of c.run_check.new.loading) (map check_seen all) (check_seen x) (around all i x c.loop-check-test.true c.check-item.is) c.in-Err.end c.in-Err.ensures.fault
-    c.in-Err.ensures.some c.in-Err.ensures.asked at.passed
-    (λ m are. c.in-Err.ensures.loads m (files_here all i x c.loop-check-test.true c.check-item.is (g.F.Files.files c.args.files.now) (g.F.Files.files c.loop-check.files) m at.files are))
+    rw (p.1, p.2) (check_stops c.args.epoch.now (map check_seen (take i all)) (map check_seen (drop (i + 1) all)) (g.F.Files.files c.args.files.now) (g.F.Files.asked c.args.files.now) (g.F.Files.asked c.loop-check.files)
+    (g.F.Files.asked c.run_check.new.files) at.asked (loaded_of c.loop-check.loading) (loaded_of c.run_check.new.loading) (map check_seen all) (check_seen x) (around all i x c.loop-check-test.true c.check-item.is) c.in_err-run_check.field-0.0 c.in_err-run_check.ensures.fault
+    c.in_err-run_check.ensures.some c.in_err-run_check.ensures.asked at.passed
+    (λ m are. c.in_err-run_check.ensures.loads m (files_here all i x c.loop-check-test.true c.check-item.is (g.F.Files.files c.args.files.now) (g.F.Files.files c.loop-check.files) m at.files are)))
 
-pub returns-in-Err-clause-cause : goal.returns-in-Err-clause-cause
-returns-in-Err-clause-cause g c =
-    rose_before (g.F.Files.faults c.args.files.now) (g.F.Files.faults c.loop-check.files) (g.F.Files.faults c.run_check.new.files) c.loop-check.invariant.later c.in-Err.end c.in-Err.ensures.cause
+pub returns-in_err-run_check-clause-cause : goal.returns-in_err-run_check-clause-cause
+returns-in_err-run_check-clause-cause g c =
+    let p = err_from_is_err_and c.from_residual.result c.from_residual.ensures.1 in
+    rw (p.1, p.2) (rose_before (g.F.Files.faults c.args.files.now) (g.F.Files.faults c.loop-check.files) (g.F.Files.faults c.run_check.new.files) c.loop-check.invariant.later c.in_err-run_check.field-0.0 c.in_err-run_check.ensures.cause)
 
-pub returns-in-Err-clause-some : goal.returns-in-Err-clause-some
-returns-in-Err-clause-some g c =
+pub returns-in_err-run_check-clause-some : goal.returns-in_err-run_check-clause-some
+returns-in_err-run_check-clause-some g c =
     asked_some c.args.checks.now c.loop-check.check-index c.check-item.result c.loop-check-test.true c.check-item.is (g.F.Files.asked c.args.files.now) (g.F.Files.asked c.loop-check.files)
-    (g.F.Files.asked c.run_check.new.files) c.loop-check.invariant.asked c.in-Err.ensures.some
+    (g.F.Files.asked c.run_check.new.files) c.loop-check.invariant.asked c.in_err-run_check.ensures.some
 
-pub returns-in-Err-clause-files : goal.returns-in-Err-clause-files
-returns-in-Err-clause-files g c =
-    keeps_on (g.F.Files.files c.args.files.now) (g.F.Files.files c.loop-check.files) (g.F.Files.files c.run_check.new.files) c.loop-check.invariant.files c.in-Err.ensures.files
+pub returns-in_err-run_check-clause-files : goal.returns-in_err-run_check-clause-files
+returns-in_err-run_check-clause-files g c =
+    keeps_on (g.F.Files.files c.args.files.now) (g.F.Files.files c.loop-check.files) (g.F.Files.files c.run_check.new.files) c.loop-check.invariant.files c.in_err-run_check.ensures.files
 
 pub returns-clause-loaded : goal.returns-clause-loaded
 returns-clause-loaded g c =
