@@ -1,6 +1,6 @@
 -- A property of each line of a table of operators is checked for all types that the line takes, one
 -- by one, by computing.
-use Rattle.std.{specs.Prelude.{◌&&◌, ◌||◌, not}, specs.List.{AllByRecursion, list_all}}
+use Rattle.std.{specs.Prelude.{◌||◌, not}, specs.List.{AllByRecursion, list_all}}
 use Rattle.std.{proofs.Common.{◌≡◌, ℕ, Bool, true, false, true≢false, List, [], ◌∷◌, Option, Some, None, refl, sym, ap, subst, ◌∙◌}, proofs.lemmas.Bool.{and_parts}}
 use Rattle.mob_ast.specs.declared.types.SqlType.{SqlType}
 use Rattle.mob_operators.{specs.declared.operator.Op.{Op}, specs.declared.table.Bond.{Bond}, specs.Lookup.{Line, same_type, has_type, types_fit, meets, given, takes}}

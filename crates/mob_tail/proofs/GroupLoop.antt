@@ -1,6 +1,6 @@
 -- The invariant of the loop that adds tuples to their groups.
 use Rattle.std.specs.Prelude.{◌≡◌, ◌⊎◌, Bool, true, false, cond, not, ◌||◌, ℕ, ◌+◌, ◌<◌, ℤ, refl, List, [], ◌∷◌, ◌++◌, Some, None, is_none, map, length, get_or, set, take, drop, filter, ◌≤◌, ◌^◌}
-use Rattle.std.{specs.Prelude.{zero, suc}, specs.List.{AllZip, AllByRecursion, list_any, position_or_len}, proofs.Common.{ap, ap₂, sym, ◌∙◌, subst, inl, inr, arith}}
+use Rattle.std.{specs.List.{AllZip, AllByRecursion, list_any, position_or_len}, proofs.Common.{ap, ap₂, sym, ◌∙◌, subst, inl, inr, arith}}
 use Rattle.std.{proofs.lemmas.List.{take_more, take-append-drop}, proofs.lemmas.Slice.Zip.{AllZip-long}}
 use Rattle.mob_typed.specs.Selects.{TypedSelectParts}
 use Rattle.mob_value.{specs.declared.value.Value.{Value}, specs.declared.value.Value.TheVariants.{Null}, specs.declared.store.Store.{Store}}
