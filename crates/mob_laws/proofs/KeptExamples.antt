@@ -6,7 +6,7 @@ use Rattle.std.specs.List.{Contains}
 use Rattle.std.proofs.Common.{◌≡◌, ◌∙◌, ◌==◌, ◌&&◌, arith, inl, inr, refl, sym, ap, subst, get_or, zero, suc, ℕ, true, Option, Some, None, List, [], ◌∷◌, ◌++◌, slice_get, take}
 use Rattle.mob_list.proofs.Entries.{first_in, later_in, none_in, which_in}
 use Rattle.mob_tuples.{specs.Tuples.{no_row}, specs.Visits.{Conditions, Meeting, on_at}}
-use Rattle.mob_join.{specs.KeptTuples.{AreThoseThatMeet, IsEntryOf, IsTupleOfFrom}}
+use Rattle.mob_join.specs.KeptTuples.{AreThoseThatMeet, IsEntryOf, IsTupleOfFrom}
 
 abbrev second_joined : Conditions
 second_joined = record { joined = λ place. place == 1; filtered = true }
