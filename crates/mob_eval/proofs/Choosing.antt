@@ -1,7 +1,7 @@
 -- The nodes of expressions at a place of the script, and the places that an expression names.
 use Rattle.std.specs.List.{AllByRecursion}
 use Rattle.std.proofs.Common.{◌≡◌, ◌<◌, ◌≤◌, ◌+◌, ◌==◌, ◌&&◌, ◌||◌, ◌++◌, ◌∷◌, [], ℕ, Bool, true, false, List, Option, Some, None, length, drop, map, get_or, refl, sym, ap, subst, ◌∙◌, arith}
-use Rattle.std.{proofs.Common.{append_assoc, append-nil, true≢false}, proofs.lemmas.List.{drop_all}}
+use Rattle.std.{proofs.Common.{append_assoc, append-nil, true≢false}, proofs.lemmas.List.{drop_all}, proofs.lemmas.Bool.{and_parts, false_from_ne_true}}
 use Rattle.mob_list.{proofs.Each.{each_both}, proofs.Entries.{drop_read}}
 use Rattle.mob_operators.specs.declared.operator.Op.{Op}
 use Rattle.mob_typed.{specs.declared.typed.TExpr.{TExpr}, specs.declared.typed.TExpr.TheViews.{out-TExpr}, specs.Trees.{TypedTree, typed, TypedTrees, none, more, typed_of, typed_trees}}
@@ -9,10 +9,6 @@ use Rattle.mob_typed.proofs.TreeFacts.{typed_is}
 use Rattle.mob_meaning.specs.Depends.{names, any_names, reads, NamesOnly}
 use Rattle.mob_eval.{specs.SoFar.{trees}, specs.Remembered.{Recollection, IsOfPlace, AreCopies, names_only, all_name_only, reads_only, place_of, nodes_here, nodes_at, all_nodes_at}}
 use Rattle.mob_operators.specs.declared.operator.Op.TheVariants as op
-
-pub both_true : (a b : Bool) → (a && b) ≡ true → (a ≡ true) × (b ≡ true)
-both_true true b h = (refl, h)
-both_true false b h = absurd (true≢false (sym h))
 
 either_true : {X : Type 0} → (a b : Bool) → (a ≡ true → X) → (b ≡ true → X) → (a || b) ≡ true → X
 either_true true b f g h = f refl
@@ -34,34 +30,30 @@ reads_nothing other _ h r = absurd (true≢false (sym r))
 mutual
   named_there : (place other : ℕ) (e : TypedTree) → names_only (Some place) e ≡ true → names other e ≡ true → other ≡ place
   named_there place other (typed o ty at args) h n =
-      let both = both_true (reads_only (Some place) o) (all_name_only (Some place) args) h in
+      let both = and_parts (reads_only (Some place) o) (all_name_only (Some place) args) h in
       either_true (reads other o) (any_names other args) (reads_there place other o both.0) (all_named_there place other args both.1) n
 
   all_named_there : (place other : ℕ) (es : TypedTrees) → all_name_only (Some place) es ≡ true → any_names other es ≡ true → other ≡ place
   all_named_there place other none h n = absurd (true≢false (sym n))
   all_named_there place other (more e es) h n =
-      let both = both_true (names_only (Some place) e) (all_name_only (Some place) es) h in
+      let both = and_parts (names_only (Some place) e) (all_name_only (Some place) es) h in
       either_true (names other e) (any_names other es) (named_there place other e both.0) (all_named_there place other es both.1) n
 
 mutual
   named_nowhere : {X : Type 0} → (other : ℕ) (e : TypedTree) → names_only None e ≡ true → names other e ≡ true → X
   named_nowhere other (typed o ty at args) h n =
-      let both = both_true (reads_only None o) (all_name_only None args) h in
+      let both = and_parts (reads_only None o) (all_name_only None args) h in
       either_true (reads other o) (any_names other args) (reads_nothing other o both.0) (all_named_nowhere other args both.1) n
 
   all_named_nowhere : {X : Type 0} → (other : ℕ) (es : TypedTrees) → all_name_only None es ≡ true → any_names other es ≡ true → X
   all_named_nowhere other none h n = absurd (true≢false (sym n))
   all_named_nowhere other (more e es) h n =
-      let both = both_true (names_only None e) (all_name_only None es) h in
+      let both = and_parts (names_only None e) (all_name_only None es) h in
       either_true (names other e) (any_names other es) (named_nowhere other e both.0) (all_named_nowhere other es both.1) n
-
-is_false : (b : Bool) → (b ≡ true → ⊥) → b ≡ false
-is_false true h = elim (h refl) [ ]
-is_false false h = refl
 
 pub names_alone : (place : Option ℕ) (e : TypedTree) → names_only place e ≡ true → NamesOnly place e
 names_alone (Some place) e h = λ other n. named_there place other e h n
-names_alone None e h = λ other. is_false (names other e) (named_nowhere other e h)
+names_alone None e h = λ other. false_from_ne_true (names other e) (named_nowhere other e h)
 
 -- ---- the nodes at a place
 

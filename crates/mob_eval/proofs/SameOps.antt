@@ -1,8 +1,8 @@
 -- Two operators that `==` finds equal are equal.
-use Rattle.std.proofs.Common.{◌≡◌, ◌==◌, ◌&&◌, inl, inr, ℕ, Bool, true, false, List, [], ◌∷◌, refl, sym, ap, true≢false, rules}
+use Rattle.std.{proofs.Common.{◌≡◌, ◌==◌, ◌&&◌, inl, inr, ℕ, Bool, true, false, List, [], ◌∷◌, refl, sym, ap, true≢false, rules}, proofs.lemmas.Bool.{and_parts}}
 use Rattle.mob_ast.{specs.declared.types.Cmp.{Cmp}, specs.contracts.types.Cmp.{the_type as sign}}
 use Rattle.mob_operators.{specs.declared.operator.Op.{Op}, specs.contracts.operator.Op.{enum, the_parts, as_values}}
-use Rattle.mob_eval.proofs.Choosing.{both_true, same_if}
+use Rattle.mob_eval.proofs.Choosing.{same_if}
 use denote.Struct.Field.{Field}
 use denote.Struct.Values.{Values}
 use denote.Enum.Declared.{Choice, values_one}
@@ -40,7 +40,7 @@ same_sign x y h = let p = same_true sign (search rules) x.0 y.0 h in λ i. (p i,
 
 pub same_numbers : (x y : ℕ × (ℕ × Unit {0})) → ((x.0 == y.0) && (x.1.0 == y.1.0)) ≡ true → x ≡ y
 same_numbers x y h =
-    let both = both_true (x.0 == y.0) (x.1.0 == y.1.0) h in
+    let both = and_parts (x.0 == y.0) (x.1.0 == y.1.0) h in
     let p = same_if x.0 y.0 both.0 in
     let q = same_if x.1.0 y.1.0 both.1 in
     λ i. (p i, (q i, tt))

@@ -1,14 +1,11 @@
 -- Lists made entry by entry.
 use Rattle.std.{specs.Prelude.{slice_get}, proofs.Common.{◌≡◌, ◌∙◌, ◌<◌, ◌≤◌, ap, ℕ, ◌+◌, List, [], ◌∷◌, ◌++◌, append_assoc, length, map, Some, drop, get_or, sym}}
-use Rattle.std.{proofs.lemmas.Option.{slice_get_within, slice_get-get_or}, proofs.lemmas.List.{drop_more, drop_all, append-nil}}
-
-some_same : {A : Type 0} (x y : A) → Some x ≡ Some y → x ≡ y
-some_same x y h = cc
+use Rattle.std.{proofs.lemmas.Option.{same_Some, slice_get_within, slice_get-get_or}, proofs.lemmas.List.{drop_more, drop_all, append-nil}}
 
 pub drop_at : {A : Type 0} (xs : List A) (k : ℕ) (x : A) → slice_get xs k ≡ Some x → drop k xs ≡ x ∷ drop (k + 1) xs
 drop_at xs k x h =
     let within = slice_get_within xs k x h in
-    drop_more xs k x within ∙ ap (λ y. y ∷ drop (k + 1) xs) (some_same (get_or xs k x) x (sym (slice_get-get_or xs k x within) ∙ h))
+    drop_more xs k x within ∙ ap (λ y. y ∷ drop (k + 1) xs) (same_Some (get_or xs k x) x (sym (slice_get-get_or xs k x within) ∙ h))
 
 -- a list that is made of another in two steps, if the entries before this one are made
 module _ {A B C : Type 0} (f : A → B) (g : B → C) (xs : List A) (i : ℕ) where

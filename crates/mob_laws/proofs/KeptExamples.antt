@@ -2,9 +2,11 @@
 -- is left-joined. ON is true for the row 1 of the first table with the row 0 of the second, and for
 -- no others; WHERE is true if the row of the first table is 0. The tuples are (0, no row) and (1,
 -- 0), and the first of them is kept.
+use Rattle.std.specs.List.{Contains}
 use Rattle.std.proofs.Common.{◌≡◌, ◌∙◌, ◌==◌, ◌&&◌, arith, inl, inr, refl, sym, ap, subst, get_or, zero, suc, ℕ, true, Option, Some, None, List, [], ◌∷◌, ◌++◌, slice_get, take}
-use Rattle.mob_tuples.{specs.Tuples.{StandsIn, no_row}, specs.Visits.{Conditions, Meeting, on_at}}
-use Rattle.mob_join.{specs.KeptTuples.{AreThoseThatMeet, IsEntryOf, IsTupleOfFrom}, proofs.Members.{in_by_standing, stands_by_in}}
+use Rattle.mob_list.proofs.Entries.{first_in, later_in, none_in, which_in}
+use Rattle.mob_tuples.{specs.Tuples.{no_row}, specs.Visits.{Conditions, Meeting, on_at}}
+use Rattle.mob_join.specs.KeptTuples.{AreThoseThatMeet, IsEntryOf, IsTupleOfFrom}
 
 abbrev second_joined : Conditions
 second_joined = record { joined = λ place. place == 1; filtered = true }
@@ -27,7 +29,7 @@ alone : IsPair (0 ∷ no_row ∷ [])
 alone = record { count = refl; entries = entries }
   where
     entries : (place table entry : ℕ) → slice_get (7 ∷ 8 ∷ []) place ≡ Some table → slice_get (0 ∷ no_row ∷ []) place ≡ Some entry → IsEntryOf (place == 1) (λ row. met (on_at place (take place (0 ∷ no_row ∷ []) ++ row ∷ []))) (0 ∷ 1 ∷ []) entry
-    entries zero table entry t e = subst (λ z. StandsIn z (0 ∷ 1 ∷ [])) (cc e) ([], 1 ∷ [], refl)
+    entries zero table entry t e = subst (Contains (0 ∷ 1 ∷ [])) (cc e) (first_in 0 (1 ∷ []))
     entries (suc zero) table entry t e = let same : entry ≡ no_row = cc e in inr (same, λ row stands hit. absurd (cc hit))
     entries (suc (suc place)) table entry t e = absurd (cc t)
 
@@ -36,8 +38,8 @@ joined : IsPair (1 ∷ 0 ∷ [])
 joined = record { count = refl; entries = entries }
   where
     entries : (place table entry : ℕ) → slice_get (7 ∷ 8 ∷ []) place ≡ Some table → slice_get (1 ∷ 0 ∷ []) place ≡ Some entry → IsEntryOf (place == 1) (λ row. met (on_at place (take place (1 ∷ 0 ∷ []) ++ row ∷ []))) (0 ∷ 1 ∷ []) entry
-    entries zero table entry t e = subst (λ z. StandsIn z (0 ∷ 1 ∷ [])) (cc e) (0 ∷ [], [], refl)
-    entries (suc zero) table entry t e = let same : 0 ≡ entry = cc e in subst (λ z. IsEntryOf true (λ row. met (on_at 1 (1 ∷ row ∷ []))) (0 ∷ 1 ∷ []) z) same (inl (([], 1 ∷ [], refl), refl))
+    entries zero table entry t e = subst (Contains (0 ∷ 1 ∷ [])) (cc e) (later_in 0 (1 ∷ []) 1 (first_in 1 []))
+    entries (suc zero) table entry t e = let same : 0 ≡ entry = cc e in subst (λ z. IsEntryOf true (λ row. met (on_at 1 (1 ∷ row ∷ []))) (0 ∷ 1 ∷ []) z) same (inl (first_in 0 (1 ∷ []), refl))
     entries (suc (suc place)) table entry t e = absurd (cc t)
 
 -- a tuple whose first row is 0 has no row of the second table
@@ -54,11 +56,11 @@ only (x ∷ y ∷ []) h first = by (h.entries 1 8 y refl refl)
 kept : AreThoseThatMeet second_joined met two (7 ∷ 8 ∷ []) ((0 ∷ no_row ∷ []) ∷ [])
 kept = record {
   tuples = λ tuple. (
-    λ stands. elim (in_by_standing tuple ((0 ∷ no_row ∷ []) ∷ []) stands) [
-      | inl e ↦ subst (λ z. IsPair z × (get_or z 0 9 ≡ 0)) (sym e) (alone, refl)
-      | inr k ↦ absurd k
+    λ among. elim (which_in (0 ∷ no_row ∷ []) [] tuple among) [
+      | inl e ↦ subst (λ z. IsPair z × (get_or z 0 9 ≡ 0)) e (alone, refl)
+      | inr k ↦ absurd (none_in tuple k)
     ],
-    λ meets. stands_by_in tuple ((0 ∷ no_row ∷ []) ∷ []) (inl (only tuple meets.0 meets.1)),
+    λ meets. subst (Contains ((0 ∷ no_row ∷ []) ∷ [])) (sym (only tuple meets.0 meets.1)) (first_in (0 ∷ no_row ∷ []) []),
   );
   rising = (tt, tt);
 }

@@ -1,8 +1,9 @@
 -- Kept tuples consist of live rows.
 use Rattle.std.{specs.Prelude.{Option, is_some}, proofs.Common.{◌≡◌, ◌+◌, arith, inl, inr, refl, subst, suc, ℕ, ℤ, Bool, true, false, List, [], ◌∷◌, Some, length, slice_get}}
+use Rattle.mob_list.proofs.Entries.{all_by_each}
 use Rattle.mob_typed.{specs.Selects.{TypedSelectParts, on_of}, specs.Trees.{TypedTree}}
 use Rattle.mob_catalog.specs.Catalogue.{Catalogue, live_rows}
-use Rattle.mob_join.{specs.KeptTuples.{IsEntryOf}, specs.Query.{IsTupleOf}, proofs.Members.{each_standing}}
+use Rattle.mob_join.{specs.KeptTuples.{IsEntryOf}, specs.Query.{IsTupleOf}}
 use Rattle.mob_shell.specs.ReadAsStored.{AreLiveRows, IsLiveRow, IsLiveTuple}
 use Rattle.mob_laws.specs.KeptTuples.{KeptTuplesAreLive}
 
@@ -38,4 +39,4 @@ tuple_live q c day tuple h = rows_live c q.joins 0 q.from tuple h.count (λ plac
     counted place = omega arith
 
 pub kept_live : KeptTuplesAreLive
-kept_live q c day kept h = each_standing (IsLiveTuple c q.joins q.from) kept (λ tuple stands. tuple_live q c day tuple ((h.1.tuples tuple).0 stands).0)
+kept_live q c day kept h = all_by_each (IsLiveTuple c q.joins q.from) kept (λ tuple among. tuple_live q c day tuple ((h.1.tuples tuple).0 among).0)

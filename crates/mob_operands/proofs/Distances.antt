@@ -1,5 +1,5 @@
 -- The operators that take a distance: eDwithin and expandSpace.
-use Rattle.std.{specs.Prelude.{◌&&◌}, proofs.Common.{◌≡◌, Bool, true, false, true≢false, List, [], ◌∷◌, Option, Some, None, inl, inr, refl, sym}}
+use Rattle.std.{specs.Prelude.{◌&&◌}, proofs.Common.{◌≡◌, Bool, true, false, true≢false, List, [], ◌∷◌, Option, Some, None, inl, inr, refl, sym}, proofs.lemmas.Bool.{and_parts}}
 use Rattle.mob_ratio.specs.Ratio.{Ratio}
 use Rattle.mob_stbox.{specs.Boxes.{BoxOf}, specs.Expansion.{expanded}}
 use Rattle.mob_slice.{specs.declared.line.PlaneLine.{PlaneLine}, specs.declared.slice.Slice.{Slice}}
@@ -9,7 +9,7 @@ use Rattle.mob_value.{specs.ValueBoxes.{HasBox}, specs.declared.value.Value.{Val
 use Rattle.mob_compare.{specs.declared.sql.scope.When.TheVariants.{Ever}, specs.Sql.Signs.{IsAsked}}
 use Rattle.mob_clip.specs.Sql.Boxes.{IsExpansion}
 use Rattle.mob_catalog.specs.OwnTypes.{IsValueOf}
-use Rattle.mob_operands.{specs.Rows.{IsAnswer}, proofs.Forms.{OnForms, by_type, by_types, null_answer, made_answer, first_null, second_null}, proofs.Plain.{is_plain_number}, proofs.Table.{both_true}}
+use Rattle.mob_operands.{specs.Rows.{IsAnswer}, proofs.Forms.{OnForms, by_type, by_types, null_answer, made_answer, first_null, second_null}, proofs.Plain.{is_plain_number}}
 use Rattle.mob_operands.proofs.Together.{are_points, asked_row, point_pair_answers}
 use Rattle.mob_ast.specs.declared.types.SqlType.TheVariants as sql
 use Rattle.mob_operators.specs.declared.operator.Op.TheVariants as op
@@ -38,7 +38,7 @@ by_distance t u sql.Numeric e p a b c h k l = by_type sql.Numeric (Within a b) (
 by_distance t u _ e p a b c h k l = absurd (true≢false (sym p))
 
 pub within_answers : (t u w : SqlType) → are_near t u w ≡ true → (a b c : Value) → IsValueOf t a → IsValueOf u b → IsValueOf w c → Within a b c
-within_answers t u w e a b c h k l = let p = both_true (are_points t u) (is_plain_number w) e in by_distance t u w p.0 p.1 a b c h k l
+within_answers t u w e a b c h k l = let p = and_parts (are_points t u) (is_plain_number w) e in by_distance t u w p.0 p.1 a b c h k l
 
 -- ---- expanded boxes
 

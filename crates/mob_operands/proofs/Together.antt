@@ -1,6 +1,7 @@
 -- An operator that applies at each instant gives NULL only if its operands never exist together.
 use Rattle.std.{specs.Prelude.{is_some, MatchOption}, proofs.Common.{◌≡◌, ◌≢◌, ◌∙◌, ℕ, Bool, true, false, true≢false, List, [], ◌∷◌, Option, Some, None, map, refl, sym, ap, subst}}
 use Rattle.mob_ratio.specs.Ratio.{Ratio}
+use Rattle.mob_list.proofs.Tests.{some_of}
 use Rattle.mob_plane.specs.declared.point.Point.{Point as PointOf}
 use Rattle.mob_value.{specs.Lines.{level_line, line_pair}, specs.declared.value.Value.{Value}, specs.declared.value.Value.TheVariants.{Null, Bool as Truth, Number, MovingBool, MovingFrac, MovingText}}
 use Rattle.mob_value.{specs.Moving.{SteadySlices, OverTime, step_function, line_function, or_nothing, IsFunctionOrNull}, specs.Truths.{known}}
@@ -16,13 +17,9 @@ use Rattle.mob_catalog.specs.OwnTypes.{IsValueOf}
 use Rattle.mob_operands.{specs.Rows.{is_there, AreNeverTogether, NullIsDue, IsAnswer}, proofs.Forms.{OnForms, by_types, null_answer}}
 use Rattle.mob_ast.specs.declared.types.SqlType.TheVariants as sql
 
-there : {X : Type 0} (o : Option X) → is_some o ≡ true → (x : X) × (o ≡ Some x)
-there None h = absurd (true≢false (sym h))
-there (Some x) h = (x, refl)
-
 -- two functions that are defined at an instant have it in common
 pub common : {X Y : Type 0} (f : OverTime X) (g : OverTime Y) (t : Ratio) → is_some (f t) ≡ true → is_some (g t) ≡ true → HaveCommon f g
-common f g t h k = let x = there (f t) h in let y = there (g t) k in (t, x.0, y.0, x.1, y.1, tt)
+common f g t h k = let x = some_of (f t) h in let y = some_of (g t) k in (t, x.0, y.0, x.1, y.1, tt)
 
 -- a tint is defined as a tfrac where it is defined as a tint
 pub level_there : (m : SteadySlices Ratio) (t : Ratio) → is_some (step_function m t) ≡ true → is_some (line_function (map level_line m) t) ≡ true

@@ -1,23 +1,23 @@
 -- The fault of a statement is a part of a formula of its query that does not fit.
-use Rattle.std.{specs.Prelude.{◌⊎◌, true, false}, proofs.Common.{◌≡◌, inl, inr, refl, sym, subst, Bool, ℕ, ℤ, List, [], ◌∷◌, Option, Some, None, Result, Err}}
+use Rattle.std.{specs.List.{Contains}, specs.Prelude.{◌⊎◌, true, false}, proofs.Common.{◌≡◌, inl, inr, refl, sym, subst, Bool, ℕ, ℤ, List, [], ◌∷◌, Option, Some, None, Result, Err}}
+use Rattle.mob_list.proofs.Entries.{first_in, later_in, parts-Contains}
 use Rattle.mob_operators.{specs.declared.aggregate.AggKind.{AggKind}, specs.declared.aggregate.AggKind.TheVariants.{CountAll}}
 use Rattle.mob_typed.{specs.Trees.{TypedTree}, specs.Selects.{TypedSelectParts}, specs.Statements.{StatementOut, deletion, query}}
 use Rattle.mob_catalog.specs.Catalogue.{Catalogue}
 use Rattle.mob_meaning.{specs.Scene.{Scene, scene}, specs.Evaluation.{PlacedFormula}, specs.Passes.{FaultsPass, TreePasses}}
 use Rattle.mob_eval.specs.QueryFaults.{TupleFault}
-use Rattle.mob_tuples.specs.Tuples.{StandsIn}
 use Rattle.mob_join.specs.Query.{FailsBy, IsKept, condition_at}
 use Rattle.mob_tail.specs.Answers.{IsAnswerBy, IsField, IsKey, IsRowOf, IsTupleRow}
 use Rattle.mob_tail.{specs.GroupedAnswers.{AnswerColumn, IsAddingTo, IsArgument, IsArgumentOf, IsArgumentOn, IsGroupedFault, columns_of}, specs.Groups.{same_group}, specs.IsMadeOfEach.{IsMadeOfEach}}
 use Rattle.mob_arguments.specs.declared.options.Settings.{Settings}
 use Rattle.mob_shell.{specs.Answers.{QueryAnswers}, specs.Fits.{ArgumentOfPasses, ArgumentPasses, ColumnPasses, ConditionPasses, PartPasses, PassesAt, RowPasses, StatementPasses, TuplePasses}}
-use Rattle.mob_shell.{specs.Inputs.{Input}, specs.Program.{StopsWith}, specs.Runs.{RunState, Stops}, proofs.GroupFaults.{FailsAt, stands_behind, tuple_fails}}
+use Rattle.mob_shell.{specs.Inputs.{Input}, specs.Program.{StopsWith}, specs.Runs.{RunState, Stops}, proofs.GroupFaults.{FailsAt, tuple_fails}}
 
 -- the first fault over a list comes from one of its entries
-failing_entry : {X Y F : Type 0} (R : X → Result Y F → Type 0) (xs : List X) (f : F) → IsMadeOfEach R xs (Err f) → (x : X) × StandsIn x xs × R x (Err f)
+failing_entry : {X Y F : Type 0} (R : X → Result Y F → Type 0) (xs : List X) (f : F) → IsMadeOfEach R xs (Err f) → (x : X) × Contains xs x × R x (Err f)
 failing_entry R [] f h = absurd h
-failing_entry R (x ∷ xs) f (inl h) = (x, ([], xs, refl), h)
-failing_entry R (x ∷ xs) f (inr h) = let later = failing_entry R xs f h.2 in (later.0, stands_behind x later.0 xs later.1, later.2)
+failing_entry R (x ∷ xs) f (inl h) = (x, first_in x xs, h)
+failing_entry R (x ∷ xs) f (inr h) = let later = failing_entry R xs f h.2 in (later.0, later_in x xs later.0 later.1, later.2)
 
 module _ (pass : FaultsPass) where
   unfit_condition : (s : Scene) (c : Option TypedTree) (f : PlacedFormula) → FailsBy c s f → (e : TypedTree) × (c ≡ Some e) × TreePasses s e f
@@ -43,14 +43,14 @@ module _ (pass : FaultsPass) where
         let of = failing_entry (IsKey s) select.keys f.1 key.2 in
         inr (of.0, of.1, pass s of.0.0 f.1 of.2)
 
-    unfit_row : (kept : List (List ℕ)) (f : TupleFault) → IsMadeOfEach (IsTupleRow select catalogue.store day) kept (Err f) → StandsIn f.0 kept × PartPasses select catalogue day f
+    unfit_row : (kept : List (List ℕ)) (f : TupleFault) → IsMadeOfEach (IsTupleRow select catalogue.store day) kept (Err f) → Contains kept f.0 × PartPasses select catalogue day f
     unfit_row kept f h =
         let of = failing_entry (IsTupleRow select catalogue.store day) kept f h in
         let same = sym of.2.0 in
-        (subst (λ (t : List ℕ). StandsIn t kept) same of.1, unfit_part f (subst (λ (t : List ℕ). IsRowOf select (scene catalogue.store select.from t day) (Err f.1)) same of.2.1))
+        (subst (Contains kept) same of.1, unfit_part f (subst (λ (t : List ℕ). IsRowOf select (scene catalogue.store select.from t day) (Err f.1)) same of.2.1))
 
     -- a column of a grouped query
-    unfit_column : (kept : List (List ℕ)) (f : TupleFault) → FailsAt (IsArgumentOn select catalogue.store day) IsAddingTo (same_group select catalogue.store day) (columns_of select) kept f → (column : AnswerColumn) × StandsIn column (columns_of select) × ColumnPasses select catalogue day kept f column
+    unfit_column : (kept : List (List ℕ)) (f : TupleFault) → FailsAt (IsArgumentOn select catalogue.store day) IsAddingTo (same_group select catalogue.store day) (columns_of select) kept f → (column : AnswerColumn) × Contains (columns_of select) column × ColumnPasses select catalogue day kept f column
     unfit_column kept f at = (
       at.item,
       at.stands,
@@ -60,12 +60,12 @@ module _ (pass : FaultsPass) where
       ],
     )
 
-    unfit_group : (kept : List (List ℕ)) (f : TupleFault) → IsGroupedFault select catalogue.store day kept (Some f) → StandsIn f.0 kept × TuplePasses true select catalogue day kept f
+    unfit_group : (kept : List (List ℕ)) (f : TupleFault) → IsGroupedFault select catalogue.store day kept (Some f) → Contains kept f.0 × TuplePasses true select catalogue day kept f
     unfit_group kept f h =
         let at = tuple_fails (IsArgumentOn select catalogue.store day) IsAddingTo (same_group select catalogue.store day) (columns_of select) [] kept f h in
-        ((at.before, at.behind, at.in_order), unfit_column kept f at)
+        (subst (λ z. Contains z f.0) (sym at.in_order) (parts-Contains at.before f.0 at.behind), unfit_column kept f at)
 
-    unfit_tuple : (grouped : Bool) (kept : List (List ℕ)) (f : TupleFault) → IsAnswerBy grouped select catalogue.store day kept (Err f) → StandsIn f.0 kept × TuplePasses grouped select catalogue day kept f
+    unfit_tuple : (grouped : Bool) (kept : List (List ℕ)) (f : TupleFault) → IsAnswerBy grouped select catalogue.store day kept (Err f) → Contains kept f.0 × TuplePasses grouped select catalogue day kept f
     unfit_tuple true kept f h = unfit_group kept f h
     unfit_tuple false kept f h = unfit_row kept f h
 

@@ -1,6 +1,6 @@
 -- No count of a list of fewer than 2^62 values overflows.
 use Rattle.std.{specs.Prelude.{◌≡◌, ◌+◌, ◌<◌, ◌≤◌, ◌^◌, Bool, true, false, cond, not, ℕ, pos, refl, List, [], ◌∷◌, map, filter, length, Option, Some, None}, specs.List.{AllByRecursion, flat_map}}
-use Rattle.std.proofs.Common.{ap, sym, ◌∙◌, subst, inl, arith}
+use Rattle.std.{proofs.Common.{ap, sym, ◌∙◌, subst, inl, arith}, proofs.lemmas.Option.{none-some, same_Some}}
 use Rattle.mob_list.proofs.Each.{each_both}
 use Rattle.mob_ratio.{specs.Ratio.{Ratio, whole, ◌+ℚ◌}, specs.Order.{same}, proofs.Rings.{whole-add}}
 use Rattle.mob_frac.{specs.Fits.{Fits}, specs.Formula.{sum_parts}}
@@ -17,12 +17,6 @@ use Rattle.mob_tagg.{specs.Aggregates.{put_there, values_at, made_of, IsAggregat
 use Rattle.mob_tail.{specs.Aggregated.{counted_values, known_of, one_there, IsAggregated, adding_entries}, specs.States.{is_counting}}
 use Rattle.mob_ast.specs.declared.types.SqlType.TheVariants as sql
 
-none_some : {A R : Type 0} (x : A) → None ≡ Some x → R
-none_some x e = cc
-
-some_is : {A : Type 0} (x y : A) → Some x ≡ Some y → x ≡ y
-some_is x y e = cc
-
 -- ---- the steps of a value have its values
 
 module _ (P : Ratio → Type 0) where
@@ -36,7 +30,7 @@ module _ (P : Ratio → Type 0) where
       behind = all_after (λ s. s.span) s v (ordered-clear steady_limit steady_limit (s ∷ v) o)
 
       by : (t x : Ratio) → value_at steady_value v t ≡ Some x → (b : Bool) → has s.span t ≡ b → P x
-      by t x e true k = none_some x (sym (none_at s.span v t behind k) ∙ e)
+      by t x e true k = absurd (none-some x (sym (none_at s.span v t behind k) ∙ e))
       by t x e false k = f t x (ap (λ b. cond b (Some s.course.value) (value_at steady_value v t)) k ∙ e)
 
 -- ---- the entries of a sum on the pieces that two values share
@@ -84,8 +78,8 @@ few_there there (v ∷ vs) t = by (there v t) (few_there there vs t)
     by (Some x) h = omega (arith, h)
 
 count_to : (xs : List Ratio) (x : Ratio) → Some x ≡ made_of count xs → x ≡ whole (pos (length xs))
-count_to [] x e = none_some x (sym e)
-count_to (y ∷ xs) x e = some_is x (whole (pos (length (y ∷ xs)))) e
+count_to [] x e = absurd (none-some x (sym e))
+count_to (y ∷ xs) x e = same_Some x (whole (pos (length (y ∷ xs)))) e
 
 -- the steps of a count over time are counts of at most all values
 count_steps : (vs : List Value) (m : SteadySlices Ratio) → IsAggregate one_there steady_value steady_limit steady_limit (steady_course same).continues count vs (Some m) → AllByRecursion (λ s. IsCountTo (length vs) s.course.value) m

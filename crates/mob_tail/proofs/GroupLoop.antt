@@ -1,11 +1,11 @@
 -- The invariant of the loop that adds tuples to their groups.
 use Rattle.std.specs.Prelude.{◌≡◌, ◌⊎◌, Bool, true, false, cond, not, ◌||◌, ℕ, ◌+◌, ◌<◌, ℤ, refl, List, [], ◌∷◌, ◌++◌, Some, None, is_none, map, length, get_or, set, take, drop, filter, ◌≤◌, ◌^◌}
-use Rattle.std.{specs.Prelude.{zero, suc}, specs.List.{AllZip, AllByRecursion, list_any, position_or_len}, proofs.Common.{ap, ap₂, sym, ◌∙◌, subst, inl, inr, arith}}
+use Rattle.std.{specs.List.{AllZip, AllByRecursion, list_any, position_or_len}, proofs.Common.{ap, ap₂, sym, ◌∙◌, subst, inl, inr, arith}}
 use Rattle.std.{proofs.lemmas.List.{take_more, take-append-drop}, proofs.lemmas.Slice.Zip.{AllZip-long}}
 use Rattle.mob_typed.specs.Selects.{TypedSelectParts}
 use Rattle.mob_value.{specs.declared.value.Value.{Value}, specs.declared.value.Value.TheVariants.{Null}, specs.declared.store.Store.{Store}}
 use Rattle.mob_meaning.{specs.Scene.{Scene, scene}, specs.Evaluation.{PlacedFormula}}
-use Rattle.mob_list.proofs.Entries.{drop_read}
+use Rattle.mob_list.proofs.Entries.{drop_read, take_short}
 use Rattle.mob_groups.specs.Groups.{first_keys, group_number}
 use Rattle.mob_tagg.{specs.Rows.{IsTuple}, proofs.RowSteps.{none_more, fault_at}}
 use Rattle.mob_tail.{specs.declared.columns.Column.{Column as ColumnOf}, specs.declared.group_memos.GroupMemo.{GroupMemo}, specs.declared.group_memos.Group.{Group}, specs.declared.state.State.{State}}
@@ -25,12 +25,6 @@ found_within p (k ∷ ks) h = by (p k) h (found_within p ks)
     by : (b : Bool) → (b || list_any p ks) ≡ true → (list_any p ks ≡ true → position_or_len p ks < length ks) → cond (not b) (1 + position_or_len p ks) 0 < length (k ∷ ks)
     by true h f = omega arith
     by false h f = let m = f h in omega (arith, m)
-
-taken : {A : Type 0} (i : ℕ) (xs : List A) → length (take i xs) ≤ i
-taken zero [] = omega arith
-taken zero (x ∷ xs) = omega arith
-taken (suc i) [] = omega arith
-taken (suc i) (x ∷ xs) = let h = taken i xs in omega (arith, h)
 
 module _ (select : TypedSelectParts) (store : Store) (day : ℤ) where
   -- ---- no tuple
@@ -76,7 +70,7 @@ module _ (select : TypedSelectParts) (store : Store) (day : ℤ) where
       by false h = omega (arith, h)
 
   few_before : (kept : List (List ℕ)) (i : ℕ) (k : List (List ℕ)) → i < length kept → length kept < 2 ^ 62 → length (With select store day k (take i kept)) + 1 < 2 ^ 62
-  few_before kept i k lt few = let h = few_with k (take i kept) in let m = taken i kept in omega (arith, lt, few, h, m)
+  few_before kept i k lt few = let h = few_with k (take i kept) in let m = take_short i kept in omega (arith, lt, few, h, m)
 
   -- ---- the fields of the groups
 

@@ -1,6 +1,6 @@
 -- The invariant of a loop that takes a list apart and makes something of each entry.
 use Rattle.std.{specs.Prelude.{◌≡◌, refl, List, [], ◌∷◌, ◌++◌}, specs.List.{AllZip}, proofs.Common.{ap, sym, ◌∙◌, subst, append_assoc, append-nil}}
-use Rattle.mob_tail.proofs.TupleSteps.{zip_more}
+use Rattle.mob_list.proofs.Entries.{zip_more}
 
 module _ {A B C : Type 0} (R : A → B → Type 0) (Q : A → C → Type 0) where
   -- The first entries of the list are made, and the rest is left.

@@ -1,6 +1,6 @@
 -- Aggregates as groups hold them, with one more value.
 use Rattle.std.specs.Prelude.{◌≡◌, ◌↔◌, Bool, true, false, cond, IsTrue, refl, List, [], ◌∷◌, ◌++◌, Option, Some, None, MatchOption, Result, Ok, Err, OnOk, IfErr}
-use Rattle.std.proofs.Common.{ap, sym, ◌∙◌, subst}
+use Rattle.std.{proofs.Common.{ap, sym, ◌∙◌, subst}, proofs.lemmas.Option.{none-some}}
 use Rattle.mob_ratio.{specs.Ratio.{Ratio}, specs.Order.{same}, proofs.Order.{same_exact}}
 use Rattle.mob_arith.specs.Operations.{sum_of, both_hold, one_holds}
 use Rattle.mob_span.{specs.Flags.{same_bool, same_bool_exact}, proofs.SpanLemmas.{some_instant}}
@@ -17,9 +17,6 @@ use Rattle.mob_tail.{specs.declared.state.State.{State}, specs.declared.state.St
 use Rattle.mob_tail.{specs.Aggregated.{IsOverTime, IsAggregated, IsUnion, IsAggregateWith, leaves_out, one_there, truth_there, slices_there, steps_of, truths_of}, specs.Made.{made_in}}
 use Rattle.mob_tail.specs.States.{AreTogether, AreTruthsWith, IsOneMore, is_in_parts, IsKeptIn, IsStartState, IsStateWith}
 use Rattle.mob_tail.{proofs.Aggregating.{over_more, seen_steps, seen_truths, all_alone, some_alone, left_out_with}, proofs.CountsFit.{count_fits}}
-
-none_some : {A R : Type 0} (x : A) → None ≡ Some x → R
-none_some x e = cc
 
 -- ---- parts that together are a value
 
@@ -63,7 +60,7 @@ module _ {B : Type 0} (is_same : B → B → Bool) (exact : (a b : B) → IsTrue
 
   no_value : (w : SteadySlices B) → AreNormalBy (steady_course is_same) w → ((t : Ratio) → None ≡ value_at steady_value w t) → {R : Type 0} → R
   no_value [] n e = absurd (n.some refl)
-  no_value (s ∷ w) n e = let i = some_instant s.span n.chained.0.some in none_some s.course.value (e i.0 ∙ ap (λ b. cond b (Some s.course.value) (value_at steady_value w i.0)) i.1)
+  no_value (s ∷ w) n e = let i = some_instant s.span n.chained.0.some in absurd (none-some s.course.value (e i.0 ∙ ap (λ b. cond b (Some s.course.value) (value_at steady_value w i.0)) i.1))
 
   one_option : (o p : Option (SteadySlices B)) → MatchOption o (Unit {0}) (AreNormalBy (steady_course is_same)) → MatchOption p (Unit {0}) (AreNormalBy (steady_course is_same)) → ((t : Ratio) → whole_at steady_value o t ≡ slices_there steady_value p t) → o ≡ p
   one_option None None n m e = refl

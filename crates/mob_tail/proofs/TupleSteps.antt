@@ -4,17 +4,11 @@ use Rattle.std.{proofs.Common.{ap, ap₂, sym, ◌∙◌, subst, inl, inr, arith
 use Rattle.mob_typed.specs.Selects.{TypedSelectParts}
 use Rattle.mob_value.{specs.declared.value.Value.{Value}, specs.declared.value.Value.TheVariants.{Null}, specs.declared.store.Store.{Store}}
 use Rattle.mob_meaning.{specs.Scene.{Scene, scene}, specs.Evaluation.{PlacedFormula}}
-use Rattle.mob_list.proofs.Changing.{AreChanged}
+use Rattle.mob_list.{proofs.Changing.{AreChanged}, proofs.Entries.{zip_more}}
 use Rattle.mob_tagg.specs.Rows.{AreValues, IsItem, IsTuple}
 use Rattle.mob_tail.{specs.declared.group_memos.GroupMemo.{GroupMemo}, specs.GroupedAnswers.{AnswerColumn, IsArgumentOn, IsAddingTo}, specs.declared.state.State.{State}, specs.Groups.{column_on}}
 use Rattle.mob_tail.{specs.GroupSteps.{column_seen, IsColumnWith, IsMemoWith, FailsInMemos, first_of, IsKeptOf, IsStateOf, IsGroupMemoOf}, specs.States.{IsKeptIn}}
 use Rattle.mob_operators.{specs.declared.aggregate.AggKind.{AggKind}, specs.declared.aggregate.AggKind.TheVariants.{CountAll}}
-
-pub zip_more : {A B : Type 0} (R : A → B → Type 0) (xs : List A) (ys : List B) (x : A) (y : B) → AllZip R xs ys → R x y → AllZip R (xs ++ x ∷ []) (ys ++ y ∷ [])
-zip_more R [] [] x y h k = (k, tt)
-zip_more R [] (b ∷ ys) x y h k = absurd h
-zip_more R (a ∷ xs) [] x y h k = absurd h
-zip_more R (a ∷ xs) (b ∷ ys) x y h k = (h.0, zip_more R xs ys x y h.1 k)
 
 pub length_more : {A : Type 0} (xs : List A) (x : A) → length (xs ++ x ∷ []) ≡ length xs + 1
 length_more [] x = omega arith

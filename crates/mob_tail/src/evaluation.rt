@@ -49,10 +49,8 @@ fn value_of<'a, K: Remembering>(
     ensures value { IfOk result (λ v. TreeEvaluatesTo (scene_of view.now) (typed_of e.now) (Ok (row_value v))) }
     ensures fault { IfErr result (OnCause (λ f. TreeEvaluatesTo (scene_of view.now) (typed_of e.now) (Err f))) }
 {
-    match value_with(alloc, e, view, memory) {
-        Ok(found) => lent(alloc, found),
-        Err(fault) => Err(fault),
-    }
+    let found = value_with(alloc, e, view, memory)?;
+    lent(alloc, found)
 }
 
 // The values of several expressions, in order, or the first fault.
@@ -112,10 +110,8 @@ fn row_on<'a, K: Remembering>(
     ensures row { IfOk result (λ row. AreEvaluated (scene_of view.now) (map root_seen items.now) (map root_seen keys.now) (Ok row)) }
     ensures fault { IfErr result (OnCause (λ f. AreEvaluated (scene_of view.now) (map root_seen items.now) (map root_seen keys.now) (Err f))) }
 {
-    match values_on(alloc, items, view, memory) {
-        Ok(fields) => row_before(alloc, keys, view, memory, fields),
-        Err(fault) => Err(fault),
-    }
+    let fields = values_on(alloc, items, view, memory)?;
+    row_before(alloc, keys, view, memory, fields)
 }
 
 // The row of a tuple.

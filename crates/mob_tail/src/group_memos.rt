@@ -66,10 +66,8 @@ fn aggregate_on(
     ensures value { IfOk result (λ _. IsAggregateOn (scene_of view.now) (typed_of e.now) agg state.old (Ok state.new)) }
     ensures fault { IfErr result (OnCause (λ f. IsAggregateOn (scene_of view.now) (typed_of e.now) agg state.old (Err f))) }
 {
-    match argument_on(alloc, agg.kind, e, view) {
-        Ok(argument) => argument_in(alloc, agg, argument, state),
-        Err(fault) => Err(fault),
-    }
+    let argument = argument_on(alloc, agg.kind, e, view)?;
+    argument_in(alloc, agg, argument, state)
 }
 
 // Replaces the state of a column by its value on a tuple.
@@ -77,16 +75,10 @@ fn plain_on(alloc: Global, e: &TExpr, view: &View<'_>, state: &mut State) -> Res
     ensures value { IfOk result (λ _. state.new ≡ State.Whole (column_on (scene_of view.now) (typed_of e.now))) }
     ensures memory { IfErr result (λ e. e ≡ Fault.NoMemory) }
 {
-    match column_on(alloc, e, view) {
-        Ok(held) => match held.own(alloc) {
-            Ok(value) => {
-                put(state, State::Whole(value));
-                Ok(())
-            }
-            Err(_) => Err(Fault::NoMemory),
-        },
-        Err(_) => Err(Fault::NoMemory),
-    }
+    let held = column_on(alloc, e, view)?;
+    let value = held.own(alloc)?;
+    put(state, State::Whole(value));
+    Ok(())
 }
 
 // Adds one more tuple, the first of its group or a later one, to a memo.
@@ -123,10 +115,7 @@ fn cells_with(
     ensures fault { IfErr result (OnCause (λ f. FailsInMemos (scene_of view.now) is_first cells.old.items f)) }
 {
     for number in 0..cells.len() {
-        match cell_with(alloc, &mut cells[number], view, is_first) {
-            Ok(()) => {}
-            Err(fault) => return Err(fault),
-        }
+        cell_with(alloc, &mut cells[number], view, is_first)?;
     }
     Ok(())
 }

@@ -45,14 +45,10 @@ fn text_of(alloc: Global, value: &Value, epoch: &Epoch) -> Result<Text, AllocErr
 fn field_on(alloc: Global, column: &TExpr, view: &View<'_>) -> Result<Text, AllocError>
     ensures field { IfOk result (λ text. text ≡ field_text view.now.epoch.now (column_on (scene_of view.now) (typed_of column.now))) }
 {
-    match column_on(alloc, column, view) {
-        Ok(held) => {
-            let text = text_of(alloc, held.get(), view.epoch);
-            drop(held);
-            text
-        }
-        Err(fault) => Err(fault),
-    }
+    let held = column_on(alloc, column, view)?;
+    let text = text_of(alloc, held.get(), view.epoch);
+    drop(held);
+    text
 }
 
 // The printed fields of columns on a tuple.

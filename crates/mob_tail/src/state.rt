@@ -64,13 +64,9 @@ fn part_in<C: Course + Drop, U: Uniting<C>>(
     ensures memory { IfErr result (λ e. e ≡ Fault.NoMemory) }
 {
     let before = mem::replace(parts, Items::new(alloc));
-    match with_value::<C, U>(alloc, before.into_vec(), 1, value) {
-        Ok(more) => {
-            put(parts, Items::from_vec(more));
-            Ok(())
-        }
-        Err(_) => Err(Fault::NoMemory),
-    }
+    let more = with_value::<C, U>(alloc, before.into_vec(), 1, value)?;
+    put(parts, Items::from_vec(more));
+    Ok(())
 }
 
 // Adds one more value to a count over time.

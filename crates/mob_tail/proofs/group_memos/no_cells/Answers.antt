@@ -1,5 +1,6 @@
 use Rattle.std.{specs.List.{AllZip}, proofs.Common.{◌≡◌, ◌∙◌, ◌+◌, ◌++◌, ◌∷◌, [], refl, sym, ap, subst, take}, proofs.lemmas.List.{take_more}}
-use Rattle.mob_tail.{specs.GroupSteps.{IsStartMemo}, proofs.TupleSteps.{zip_more}}
+use Rattle.mob_list.proofs.Entries.{zip_more}
+use Rattle.mob_tail.specs.GroupSteps.{IsStartMemo}
 use Rattle.mob_tail.proofs.group_memos.no_cells.Goals as goal
 
 pub loop-column-preserved : goal.loop-column-preserved
