@@ -1,9 +1,9 @@
 -- Each number is in one band.
-use Rattle.std.{specs.Int.{int_div_euclid}, proofs.Common.{◌≡◌, ◌↔◌, inl, inr, ℕ, ◌*◌, ◌<◌, Bool, true, false, ℤ, pos, negsuc, ◌+ℤ◌, ◌*ℤ◌, ◌≤ℤ◌, ◌<ℤ◌, arith, refl, sym, ap, subst, ◌∙◌, not}}
-use Rattle.std.{proofs.lemmas.Int.{ints}, proofs.lemmas.Bool.{and_parts, and_from}}
+use Rattle.std.{specs.Int.{int_div_euclid}, proofs.Common.{◌≡◌, ◌↔◌, inl, inr, ℕ, ◌*◌, ◌<◌, true, ℤ, pos, negsuc, ◌+ℤ◌, ◌*ℤ◌, ◌≤ℤ◌, ◌<ℤ◌, arith, refl, sym, ap, subst, ◌∙◌}}
+use Rattle.std.{proofs.lemmas.Int.{ints}, proofs.lemmas.Bool.{and_parts, and_from, not_from_false}}
 use Rattle.mob_ratio.{specs.Ratio.{Ratio, over, whole, ◌*ℚ◌, ◌/ℚ◌, ◌<ℚ◌, ◌≤ℚ◌}, specs.Order.{before, up_to}, specs.Sign.{nil}, proofs.IntRing.{linear, products, add_mul}}
 use Rattle.mob_ratio.{proofs.Clear.{cleared, whole-over, over_le, over_lt, one_positive, same_lt}, proofs.RatioLemmas.{den_pos, over-self, over-mul}}
-use Rattle.mob_ratio.{proofs.Field.{cases_lt, not_both, lt_of_mul_pos, lt_mul_pos, le_of_eq, le_trans, le_lt}, proofs.Divide.{div-mul, over-pos}}
+use Rattle.mob_ratio.{proofs.Field.{cases_lt, not_both, lt_of_mul_pos, lt_mul_pos, le_of_eq, le_trans, le_lt, le_refl}, proofs.Divide.{div-mul, over-pos}}
 use Rattle.mob_ratio.proofs.Order.{before-lt, lt-before, not-up_to-le, le-up_to}
 use Rattle.mob_frac.specs.Fits.{ratio}
 use Rattle.mob_grid.specs.Bands.{InBand, in_band, floor_of, band_of}
@@ -68,11 +68,8 @@ band_le c n m x y p a b h = next_le n m (edges_lt c n (m +ℤ pos 1) p (le_lt (w
 le_both : (n m : ℤ) → n ≤ℤ m → m ≤ℤ n → n ≡ m
 le_both n m h k = omega (arith, ints)
 
-self_le : (x : Ratio) → x ≤ℚ x
-self_le x = le_of_eq x x refl
-
 pub one_band : (c : Ratio) (n m : ℤ) (x : Ratio) → nil <ℚ c → InBand c n x → InBand c m x → n ≡ m
-one_band c n m x p a b = le_both n m (band_le c n m x x p a b (self_le x)) (band_le c m n x x p b a (self_le x))
+one_band c n m x p a b = le_both n m (band_le c n m x x p a b (le_refl x)) (band_le c m n x x p b a (le_refl x))
 
 pub band_is : (c : Ratio) (n : ℤ) (x : Ratio) → nil <ℚ c → InBand c n x → n ≡ band_of c x
 band_is c n x p a = one_band c n (band_of c x) x p a (band_has c x p)
@@ -80,13 +77,10 @@ band_is c n x p a = one_band c n (band_of c x) x p a (band_has c x p)
 pub bands_rise : (c x y : Ratio) → nil <ℚ c → x ≤ℚ y → band_of c x ≤ℤ band_of c y
 bands_rise c x y p h = band_le c (band_of c x) (band_of c y) x y p (band_has c x p) (band_has c y p) h
 
-up_to_of : (b : Bool) → b ≡ false → not b ≡ true
-up_to_of b h = grind (arith, h)
-
 pub in_band_exact : (c : Ratio) (n : ℤ) (x : Ratio) → (in_band c n x ≡ true) ↔ InBand c n x
 in_band_exact c n x = (
   (λ h. let w = and_parts (up_to (whole n *ℚ c) x) (before x (whole (n +ℤ pos 1) *ℚ c)) h in record { from = not-up_to-le (whole n *ℚ c) x w.0; until = before-lt x (whole (n +ℤ pos 1) *ℚ c) w.1 }),
-  λ b. and_from (up_to (whole n *ℚ c) x) (before x (whole (n +ℤ pos 1) *ℚ c)) (up_to_of (before x (whole n *ℚ c)) (le-up_to (whole n *ℚ c) x b.from)) (lt-before x (whole (n +ℤ pos 1) *ℚ c) b.until),
+  λ b. and_from (up_to (whole n *ℚ c) x) (before x (whole (n +ℤ pos 1) *ℚ c)) (not_from_false (before x (whole n *ℚ c)) (le-up_to (whole n *ℚ c) x b.from)) (lt-before x (whole (n +ℤ pos 1) *ℚ c) b.until),
 )
 
 -- ---- the number of a band, from the parts of two fractions

@@ -1,19 +1,15 @@
 -- A search from its start to its ends.
 use Rattle.std.{specs.Prelude.{Contains}, specs.List.Sorted.{IsPermutation}, specs.BinaryHeap.{IsUpperBound}}
 use Rattle.std.{proofs.Common.{◌≡◌, inl, inr, ℕ, ◌<◌, true, List, [], ◌∷◌, length, length-append, Option, Some, arith, refl, sym, ap, ◌∙◌, subst}, proofs.lemmas.List.Sums.{sum_by-append}}
-use Rattle.mob_ratio.{specs.Ratio.{Ratio}, specs.Order.{up_to}, specs.Sign.{nil}}
+use Rattle.mob_ratio.{specs.Ratio.{Ratio}, specs.Order.{up_to}, specs.Sign.{nil}, proofs.Order.{up_to-self}}
 use Rattle.mob_stbox.specs.Boxes.{BoxOf}
 use Rattle.mob_slice.specs.declared.formula.Formula.{Formula}
 use Rattle.mob_list.proofs.Entries.{none_in, which_in}
 use Rattle.mob_rtree_nodes.{specs.Tree.{AreSame, EntryOf}, specs.Reach.{Branch, IsSpread, is_root, entries_under}}
 use Rattle.mob_knn.{specs.declared.waiting.Waiting.{Waiting}, specs.declared.waiting.WaitingKind.{WaitingKind}, specs.declared.waiting.WaitingKind.TheVariants.{Node, Entry, Answer}}
 use Rattle.mob_knn.{specs.Nearest.{TripOf, Asked, HasApproach, AreFirstRows, AreOfTrips, IsAskedBox, IsPassed}, specs.Steps.{State, IsAdvanced, IsEntry, IsReachedIn, HasUnfitPart}}
-use Rattle.mob_knn.{specs.Waits.{waiting_cmp, entries_in, answers_at}, proofs.Known.{entry_box, trips_known}, proofs.Lists.{box_in, flat_permuted, in_before}, proofs.Orders.{up_to-self, next_each}}
+use Rattle.mob_knn.{specs.Waits.{waiting_cmp, entries_in, answers_at}, proofs.Known.{entry_box, trips_known}, proofs.Lists.{box_in, flat_permuted, in_before}, proofs.Orders.{next_each}}
 use Rattle.mob_knn.proofs.Searching.{IsKnown, IsHeld, IsSearching, IsPopped, IsDone, opened, looked, told, told_last, unfit_gap, unfit_entry}
-
-pub nil_of : {A : Type 0} (xs : List A) → length xs ≡ 0 → xs ≡ []
-nil_of [] h = refl
-nil_of (x ∷ xs) h = absurd (omega (arith, h))
 
 module _ {bs : List Branch} {root : Option ℕ} {entries : List EntryOf} {has : ℕ → Ratio → Type 0} {q : BoxOf} (known : IsKnown bs root entries has q) where
   none_in_empty : (k : ℕ) → entries ≡ [] → AreFirstRows has k []

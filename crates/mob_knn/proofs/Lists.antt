@@ -1,28 +1,13 @@
 -- Lists of entries in any order.
 use Rattle.std.{specs.Prelude.{cond, Contains, sum_by, count_by, ◌==◌, ◌&&◌}, specs.List.{flat_map}, specs.List.Sorted.{IsPermutation}}
-use Rattle.std.{proofs.Common.{◌≡◌, inl, inr, ℕ, zero, suc, ◌+◌, ◌<◌, ◌≤◌, Bool, true, false, List, [], ◌∷◌, ◌++◌, length, arith, refl, sym, ap, ◌∙◌, subst}, proofs.lemmas.Bool.{and_parts, and_from}}
-use Rattle.std.proofs.lemmas.List.Elements.{Contains-append_cases, Contains-append_left, Contains-append_right}
+use Rattle.std.{proofs.Common.{◌≡◌, inl, inr, ℕ, zero, suc, ◌+◌, ◌<◌, ◌≤◌, Bool, true, false, List, [], ◌∷◌, ◌++◌, length, arith, refl, sym, ap, ◌∙◌, subst}, proofs.lemmas.Bool.{and_parts}}
 use Rattle.std.{proofs.lemmas.List.Sorted.{Contains-permutation, IsPermutation-sym, sum_by-IsPermutation}, proofs.lemmas.List.Sums.{sum_by-append, sum_by-cons}}
-use Rattle.mob_stbox.{specs.Boxes.{BoxOf, same_box}, specs.SameBoxes.{same_self, same_is}}
-use Rattle.mob_list.proofs.Entries.{first_in, later_in, none_in, which_in}
-use Rattle.mob_rtree_nodes.{specs.Removes.{hit}, specs.Tree.{AreSame, EntryOf}}
+use Rattle.mob_stbox.{specs.Boxes.{BoxOf, same_box}, specs.SameBoxes.{same_is}}
+use Rattle.mob_list.proofs.Entries.{first_in, later_in, none_in, which_in, Contains-flat, flat-Contains}
+use Rattle.mob_rtree_nodes.{specs.Removes.{hit}, specs.Tree.{AreSame, EntryOf}, proofs.Shrinks.{hit_self}}
 use borrow.Author.Tests.{eqb-true, eq-eqb}
 
 -- ---- lists mapped and joined
-
-pub in_flat : {A B : Type 0} (f : A → List B) (xs : List A) (b : B) → Contains (flat_map f xs) b → (a : A) × Contains xs a × Contains (f a) b
-in_flat f [] b h = absurd (none_in b h)
-in_flat f (x ∷ xs) b h = elim (Contains-append_cases (f x) (flat_map f xs) b h) [
-  | inl i ↦ (x, first_in x xs, i)
-  | inr i ↦ let w = in_flat f xs b i in (w.0, later_in x xs w.0 w.1, w.2)
-]
-
-pub flat_in : {A B : Type 0} (f : A → List B) (xs : List A) (a : A) (b : B) → Contains xs a → Contains (f a) b → Contains (flat_map f xs) b
-flat_in f [] a b h k = absurd (none_in a h)
-flat_in f (x ∷ xs) a b h k = elim (which_in x xs a h) [
-  | inl e ↦ Contains-append_left (f x) (flat_map f xs) b (subst (λ z. Contains (f z) b) (sym e) k)
-  | inr i ↦ Contains-append_right (f x) (flat_map f xs) b (flat_in f xs a b i k)
-]
 
 pub flat_sum : {A B : Type 0} (g : B → ℕ) (f : A → List B) (xs : List A) → sum_by g (flat_map f xs) ≡ sum_by (λ x. sum_by g (f x)) xs
 flat_sum g f [] = refl
@@ -33,15 +18,12 @@ pub flat_permuted : {A B : Type 0} (g : B → ℕ) (f : A → List B) (xs ys : L
 flat_permuted g f xs ys h = flat_sum g f ys ∙ sum_by-IsPermutation (λ x. sum_by g (f x)) xs ys h ∙ sym (flat_sum g f xs)
 
 pub flat_over : {A B : Type 0} (f : A → List B) (xs ys : List A) (b : B) → IsPermutation xs ys → Contains (flat_map f xs) b → Contains (flat_map f ys) b
-flat_over f xs ys b h k = let w = in_flat f xs b k in flat_in f ys w.0 b (Contains-permutation xs ys w.0 h w.1) w.2
+flat_over f xs ys b h k = let w = Contains-flat f xs b k in flat-Contains f ys w.0 b (Contains-permutation xs ys w.0 h w.1) w.2
 
 pub in_before : {A : Type 0} (xs ys : List A) (a : A) → IsPermutation xs ys → Contains ys a → Contains xs a
 in_before xs ys a h k = Contains-permutation ys xs a (IsPermutation-sym xs ys h) k
 
 -- ---- entries
-
-hit_self : (e : EntryOf) → hit e e ≡ 1
-hit_self e = ap (λ b. cond b 1 0) (and_from _ _ (same_self e.0) (eq-eqb e.1 e.1 refl))
 
 hit_is : (e x : EntryOf) (t : Bool) → (same_box x.0 e.0 && (x.1 == e.1)) ≡ t → 0 < cond t 1 0 → x ≡ e
 hit_is e x true h k =

@@ -1,15 +1,10 @@
 -- There is one list of the nearest rows.
-use Rattle.std.{specs.Prelude.{Contains, ◌||◌}, specs.List.{AllByRecursion}}
-use Rattle.std.proofs.Common.{◌≡◌, ◌⊎◌, inl, inr, ℕ, zero, suc, ◌+◌, ◌<◌, ◌≤◌, Bool, true, false, List, [], ◌∷◌, take, length, arith, refl, sym, ap, ◌∙◌, subst, true≢false}
-use Rattle.std.proofs.lemmas.Bool.{and_parts}
+use Rattle.std.proofs.Common.{◌≡◌, ◌⊎◌, inl, inr, ℕ, zero, suc, ◌+◌, ◌<◌, ◌≤◌, true, false, List, [], ◌∷◌, take, length, arith, refl, sym, ap, ◌∙◌, subst, true≢false}
+use Rattle.std.{specs.Prelude.{Contains}, specs.List.{AllByRecursion}, proofs.lemmas.Bool.{and_parts, or_cases}}
 use Rattle.mob_ratio.{specs.Ratio.{Ratio}, specs.Order.{before}, proofs.Order.{before-self, before-trans, same_exact}}
 use Rattle.mob_list.{proofs.Each.{each_take}, proofs.Entries.{first_in, later_in, none_in, which_in, each_of_all}}
 use Rattle.mob_knn.{specs.Nearest.{nearer, IsRising, AreFirstRows, AreAllRows}, proofs.Searching.{nearer_before, nearer_level}}
 use borrow.Author.Tests.{ltb-true}
-
-or_cases : (a b : Bool) → (a || b) ≡ true → (a ≡ true) ⊎ (b ≡ true)
-or_cases true b h = inl refl
-or_cases false b h = inr h
 
 nearer_cases : (a b : ℕ × Ratio) → nearer a b ≡ true → (before a.1 b.1 ≡ true) ⊎ ((a.1 ≡ b.1) × (a.0 < b.0))
 nearer_cases a b h = elim (or_cases (before a.1 b.1) _ h) [

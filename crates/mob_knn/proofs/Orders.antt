@@ -1,50 +1,13 @@
 -- The order of the items.
-use Rattle.std.{specs.Prelude.{cond, not, Contains, nat_lt, ◌==◌}, specs.BinaryHeap.{IsUpperBound}, specs.Ordering.{is_lt, ordering_then}, specs.declared.cmp.Ordering.{Ordering}}
-use Rattle.std.{specs.declared.cmp.Ordering.TheVariants.{Less, Equal, Greater}, proofs.Common.{◌≡◌, ◌⊎◌, inl, inr, ℕ, ◌<◌, ◌≤◌, Bool, true, false, List, arith, refl, sym, ap, subst, true≢false}}
-use Rattle.mob_ratio.{specs.Ratio.{Ratio}, specs.Order.{before, up_to, greater}, proofs.Order.{before-self, before-back, before-trans, before-neither}}
+use Rattle.std.{specs.Prelude.{cond, Contains, nat_lt, ◌==◌}, specs.BinaryHeap.{IsUpperBound}, specs.Ordering.{is_lt, ordering_then}, specs.declared.cmp.Ordering.{Ordering}}
+use Rattle.std.{specs.declared.cmp.Ordering.TheVariants.{Less, Equal, Greater}, proofs.Common.{◌≡◌, ◌⊎◌, inl, inr, ℕ, ◌<◌, ◌≤◌, Bool, true, false, List, arith, refl, sym, subst, true≢false}}
+use Rattle.mob_ratio.{specs.Ratio.{Ratio}, specs.Order.{before, up_to}, proofs.Order.{before-neither, before-weak, up_to-self, up_to-trans}}
 use Rattle.mob_list.proofs.Entries.{each_of_all}
 use Rattle.mob_knn.{specs.Gaps.{gap_reaches}, specs.declared.gaps.kind.Gap.{Gap}, specs.declared.gaps.kind.Gap.TheVariants.{Apart, AtLeast}, specs.declared.waiting.Waiting.{Waiting}}
 use Rattle.mob_knn.specs.Waits.{rank_of, waiting_number, waiting_cmp}
 use borrow.Author.Tests.{ltb-false, eqb-true, eqb-false}
 
 -- ---- numbers
-
-pub up_to-self : (a : Ratio) → up_to a a ≡ true
-up_to-self a = ap not (before-self a)
-
-pub up_to-trans : (a b c : Ratio) → up_to a b ≡ true → up_to b c ≡ true → up_to a c ≡ true
-up_to-trans a b c h k = grind (arith, h, k, before-trans c a b, before-trans c b a, before-neither a b, before-neither b c, before-back c a, before-back a b, before-back b c)
-
-pub before-up_to : (a b : Ratio) → before a b ≡ true → up_to a b ≡ true
-before-up_to a b h = ap not (before-back a b h)
-
-pub before_up_to : (a b c : Ratio) → before a b ≡ true → up_to b c ≡ true → before a c ≡ true
-before_up_to a b c h k = by_test (before b c) refl
-  where
-    by_test : (t : Bool) → before b c ≡ t → before a c ≡ true
-    by_test true e = before-trans a b c h e
-    by_test false e = subst (λ z. before a z ≡ true) (before-neither b c e (grind (arith, k))) h
-
-greater_first : (a b : Ratio) (t : Bool) → before a b ≡ t → up_to a (cond t b a) ≡ true
-greater_first a b true e = before-up_to a b e
-greater_first a b false e = up_to-self a
-
-greater_second : (a b : Ratio) (t : Bool) → before a b ≡ t → up_to b (cond t b a) ≡ true
-greater_second a b true e = up_to-self b
-greater_second a b false e = ap not e
-
-greater_to : (a b m : Ratio) (t : Bool) → up_to a m ≡ true → up_to b m ≡ true → up_to (cond t b a) m ≡ true
-greater_to a b m true h k = k
-greater_to a b m false h k = h
-
-pub up_to_greater_left : (a b : Ratio) → up_to a (greater a b) ≡ true
-up_to_greater_left a b = greater_first a b (before a b) refl
-
-pub up_to_greater_right : (a b : Ratio) → up_to b (greater a b) ≡ true
-up_to_greater_right a b = greater_second a b (before a b) refl
-
-pub greater_up_to : (a b m : Ratio) → up_to a m ≡ true → up_to b m ≡ true → up_to (greater a b) m ≡ true
-greater_up_to a b m h k = greater_to a b m (before a b) h k
 
 -- a gap that reaches a number reaches each greater one
 pub reaches_on : (g : Gap) (a b : Ratio) → gap_reaches g a ≡ true → up_to a b ≡ true → gap_reaches g b ≡ true
@@ -102,5 +65,5 @@ pub next_each : (x : Waiting) (rest : List Waiting) → IsUpperBound waiting_cmp
 next_each x rest h y c = next_of x y (each_of_all (λ z. is_lt (waiting_cmp x z) ≡ false) rest h y c)
 
 pub next_key : (x y : Waiting) → IsNext x y → up_to x.key y.key ≡ true
-next_key x y (inl h) = before-up_to x.key y.key h
+next_key x y (inl h) = before-weak x.key y.key h
 next_key x y (inr h) = subst (λ z. up_to x.key z ≡ true) (sym h.0) (up_to-self x.key)

@@ -1,11 +1,11 @@
 -- The invariant of a search, and its consequences at the end.
-use Rattle.std.{specs.Prelude.{cond, not, Contains, sum_by, ◌==◌, ◌&&◌, ◌||◌, nat_lt, All}, specs.List.{flat_map, AllByRecursion}, specs.List.Sorted.{IsPermutation}}
+use Rattle.std.{specs.Prelude.{cond, Contains, sum_by, ◌==◌, ◌&&◌, ◌||◌, nat_lt, All}, specs.List.{flat_map, AllByRecursion}, specs.List.Sorted.{IsPermutation}}
 use Rattle.std.proofs.Common.{length-append, map, ◌≡◌, ◌⊎◌, inl, inr, ℕ, suc, ◌+◌, ◌<◌, ◌≤◌, Bool, true, false, List, [], ◌∷◌, ◌++◌, length, Option, Some, None, arith, refl, sym, ap, ◌∙◌, subst}
 use Rattle.std.{proofs.Common.{true≢false}, proofs.lemmas.List.{length-map}, proofs.lemmas.List.Concat.{flat_map-append}}
 use Rattle.std.{proofs.lemmas.List.Elements.{All-contains, Contains-append_cases, Contains-append_left, Contains-append_right}, proofs.lemmas.List.Sorted.{Contains-permutation}}
 use Rattle.std.proofs.lemmas.List.Sums.{sum_by-append, sum_by-cons}
-use Rattle.mob_list.{proofs.Each.{each_more}, proofs.Entries.{first_in, later_in, none_in, which_in, all_by_each}}
-use Rattle.mob_ratio.{specs.Ratio.{Ratio}, specs.Order.{before, up_to, same, greater}, specs.Sign.{nil}, proofs.Order.{same_exact}}
+use Rattle.mob_list.{proofs.Each.{each_more}, proofs.Entries.{first_in, later_in, none_in, which_in, all_by_each, Contains-flat, flat-Contains}}
+use Rattle.mob_ratio.{specs.Ratio.{Ratio}, specs.Order.{before, up_to, same, greater}, specs.Sign.{nil}, proofs.Order.{same_exact, before-up_to, up_to-trans, greater_left, greater_right, greater_least, up_to-not-after}}
 use Rattle.mob_stbox.specs.Boxes.{BoxOf, contains}
 use Rattle.mob_rtree_nodes.{specs.Tree.{AreSame, EntryOf, Kid}, specs.Reach.{Branch, IsReachedNode, IsSpread, is_child, children, entries_under, entries_below}}
 use Rattle.mob_rtree_nodes.specs.declared.node.Child.TheVariants.{Node as NodeChild, Entry as EntryChild}
@@ -14,8 +14,7 @@ use Rattle.mob_knn.{specs.declared.waiting.WaitingKind.{WaitingKind}, specs.decl
 use Rattle.mob_knn.specs.Nearest.{nearer, IsRising, AreFirstRows, last_approach, reach_of, lies_within, count_within, HasFewBelow}
 use Rattle.mob_knn.specs.Steps.{IsOnly, found_answer, State, IsOpened, IsMeasured, IsRowAnswered}
 use Rattle.mob_knn.specs.Waits.{rank_of, waiting_number, what_of, waits_by, waits_at, waits_of, entries_in, answers_at}
-use Rattle.mob_knn.proofs.Lists.{box_in, in_box, sum_in, in_flat, flat_in, flat_permuted, flat_over, in_before, in_same, same_back, count_some}
-use Rattle.mob_knn.proofs.Orders.{up_to-trans, before_up_to, up_to_greater_left, up_to_greater_right, greater_up_to, reaches_on, IsNext, next_key}
+use Rattle.mob_knn.{proofs.Orders.{reaches_on, IsNext, next_key}, proofs.Lists.{box_in, in_box, sum_in, flat_permuted, flat_over, in_before, in_same, same_back, count_some}}
 use borrow.Author.Tests.{eq-eqb, lt-ltb, eqb-true}
 
 -- facts about the rows that have an approach, and about the entries of the tree
@@ -73,9 +72,6 @@ not_equal : (a b : ℕ) (t : Bool) → (a == b) ≡ t → a < b → t ≡ false
 not_equal a b true e lt = let f = eqb-true a b e in absurd (omega (arith, f, lt))
 not_equal a b false e lt = refl
 
-not_before : (a b : Ratio) → up_to a b ≡ true → before b a ≡ true → ⊥
-not_before a b h k = true≢false (sym h ∙ ap not k)
-
 module _ (bs : List Branch) (root : Option ℕ) (entries : List EntryOf) (has : ℕ → Ratio → Type 0) (q : BoxOf) where
   -- the box of a row's entry
   abbrev pub box_at : ℕ → BoxOf
@@ -126,9 +122,9 @@ module _ (bs : List Branch) (root : Option ℕ) (entries : List EntryOf) (has : 
     pub cost : steps ≤ start + count_within (reach_of k found) q entries
 
   later_entry : (o : ℕ × Ratio) (key : Ratio) (what : WaitingKind) → IsLater o key what → IsHeld key what → (e : EntryOf) → Contains (entries_in bs box_at what) e → (m : Ratio) → has e.1 m → nearer o (e.1, m) ≡ true
-  later_entry o key (Node n) l held e c m h = nearer_before o (e.1, m) (before_up_to o.1 key m l (held.1 e c m h))
+  later_entry o key (Node n) l held e c m h = nearer_before o (e.1, m) (before-up_to o.1 key m l (held.1 e c m h))
   later_entry o key (Entry row) l held e c m h = elim (which_in (box_at row, row) [] e c) [
-    | inl i ↦ nearer_before o (e.1, m) (before_up_to o.1 key m l (held.1 m (subst (λ (z : EntryOf). has z.1 m) (sym i) h)))
+    | inl i ↦ nearer_before o (e.1, m) (before-up_to o.1 key m l (held.1 m (subst (λ (z : EntryOf). has z.1 m) (sym i) h)))
     | inr i ↦ absurd (none_in e i)
   ]
   later_entry o key (Answer row) l held e c m h = absurd (none_in e c)
@@ -187,7 +183,7 @@ module _ (bs : List Branch) (root : Option ℕ) (entries : List EntryOf) (has : 
     waits_there e c = in_same _ entries e old.same (Contains-append_right (old.gone ++ old.tried) (entries_of s.heap) e c)
 
     first_entries : (e : EntryOf) → Contains (entries_in bs box_at first.what) e → Contains entries e
-    first_entries e c = waits_there e (flat_in (λ w. entries_in bs box_at w.what) s.heap first e first_there c)
+    first_entries e c = waits_there e (flat-Contains (λ w. entries_in bs box_at w.what) s.heap first e first_there c)
 
     -- sums over the waiting items
     entries_sum : (g : EntryOf → ℕ) → sum_by g (entries_of s.heap) ≡ sum_by g (entries_in bs box_at first.what) + sum_by g (entries_of rest)
@@ -204,16 +200,16 @@ module _ (bs : List Branch) (root : Option ℕ) (entries : List EntryOf) (has : 
 
     -- a waiting answer is the first item, or remains
     answer_left : (x : ℕ × Ratio) → Contains (answers_of s.heap) x → Contains (answers_at first first.what) x ⊎ Contains (answers_of rest) x
-    answer_left x c = let w = in_flat (λ w. answers_at w w.what) s.heap x c in elim (which w.0 w.1) [
+    answer_left x c = let w = Contains-flat (λ w. answers_at w w.what) s.heap x c in elim (which w.0 w.1) [
       | inl e ↦ inl (subst (λ (z : Waiting). Contains (answers_at z z.what) x) (sym e) w.2)
-      | inr i ↦ inr (flat_in (λ w. answers_at w w.what) rest w.0 x i w.2)
+      | inr i ↦ inr (flat-Contains (λ w. answers_at w w.what) rest w.0 x i w.2)
     ]
 
     -- a waiting entry is below the first item, or remains
     entry_left : (e : EntryOf) → Contains (entries_of s.heap) e → Contains (entries_in bs box_at first.what) e ⊎ Contains (entries_of rest) e
-    entry_left e c = let w = in_flat (λ w. entries_in bs box_at w.what) s.heap e c in elim (which w.0 w.1) [
+    entry_left e c = let w = Contains-flat (λ w. entries_in bs box_at w.what) s.heap e c in elim (which w.0 w.1) [
       | inl i ↦ inl (subst (λ (z : Waiting). Contains (entries_in bs box_at z.what) e) (sym i) w.2)
-      | inr i ↦ inr (flat_in (λ w. entries_in bs box_at w.what) rest w.0 e i w.2)
+      | inr i ↦ inr (flat-Contains (λ w. entries_in bs box_at w.what) rest w.0 e i w.2)
     ]
 
     -- the place of each entry
@@ -298,7 +294,7 @@ module _ (bs : List Branch) (root : Option ℕ) (entries : List EntryOf) (has : 
       under_is = ap (entries_in bs box_at) is ∙ spread.spread
 
       kid_entry : (kid : Kid) → Contains (children bs n) kid → (e : EntryOf) → Contains (entries_below bs kid) e → Contains (entries_under bs n) e
-      kid_entry kid c e i = subst (λ l. Contains l e) (sym spread.spread) (flat_in (entries_below bs) (children bs n) kid e c i)
+      kid_entry kid c e i = subst (λ l. Contains l e) (sym spread.spread) (flat-Contains (entries_below bs) (children bs n) kid e c i)
 
       kid_over : (kid : Kid) → Contains (children bs n) kid → (e : EntryOf) → Contains (entries_below bs kid) e → contains kid.0 e.0 ≡ true
       kid_over kid c e i = All-contains (λ (x : EntryOf). contains kid.0 x.0 ≡ true) (entries_below bs kid) e (All-contains (λ (k : Kid). All (λ (x : EntryOf). contains k.0 x.0 ≡ true) (entries_below bs k)) (children bs n) kid spread.over c) i
@@ -310,13 +306,13 @@ module _ (bs : List Branch) (root : Option ℕ) (entries : List EntryOf) (has : 
       kid_reaches kid c e i m h = known.bound kid.0 e (kid_there kid c e i) (kid_over kid c e i) m h
 
       kid_bound : (kid : Kid) → Contains (children bs n) kid → (g : Ratio) → gap_of kid.0 q ≡ AtLeast g → (e : EntryOf) → Contains (entries_below bs kid) e → (m : Ratio) → has e.1 m → up_to (greater first.key g) m ≡ true
-      kid_bound kid c g f e i m h = greater_up_to first.key g m (node_held.1 e (kid_entry kid c e i) m h) (subst (λ z. gap_reaches z m ≡ true) f (kid_reaches kid c e i m h))
+      kid_bound kid c g f e i m h = greater_least first.key g m (node_held.1 e (kid_entry kid c e i) m h) (subst (λ z. gap_reaches z m ≡ true) f (kid_reaches kid c e i m h))
 
       kid_held : (kid : Kid) → Contains (children bs n) kid → (g : Ratio) → gap_of kid.0 q ≡ AtLeast g → IsHeld (greater first.key g) (what_of kid.1)
       kid_held (b, NodeChild m) c g f = ((suc node_held.0.0, is_child node_held.0.1 c.1 (sym c.2)), kid_bound (b, NodeChild m) c g f)
       kid_held (b, EntryChild row) c g f =
           let known_box = at_box b row (kid_there (b, EntryChild row) c (b, row) (first_in (b, row) [])) in
-          (subst (λ z. gap_reaches z (greater first.key g) ≡ true) (sym (ap (λ z. gap_of z q) known_box ∙ f)) (up_to_greater_right first.key g), kid_bound (b, EntryChild row) c g f (b, row) (first_in (b, row) []))
+          (subst (λ z. gap_reaches z (greater first.key g) ≡ true) (sym (ap (λ z. gap_of z q) known_box ∙ f)) (greater_right first.key g), kid_bound (b, EntryChild row) c g f (b, row) (first_in (b, row) []))
 
       kid_later : (kid : Kid) (key : Ratio) (o : ℕ × Ratio) → before o.1 key ≡ true → IsLater o key (what_of kid.1)
       kid_later (b, NodeChild m) key o h = h
@@ -330,16 +326,16 @@ module _ (bs : List Branch) (root : Option ℕ) (entries : List EntryOf) (has : 
 
       opened_held : (w : Waiting) → Contains waits w → (up_to first.key w.key ≡ true) × IsHeld w.key w.what
       opened_held w c =
-          let i = in_flat (waits_at first.key q) (children bs n) w c in
+          let i = Contains-flat (waits_at first.key q) (children bs n) w c in
           let v = waits_in i.0 (gap_of i.0.0 q) w i.2 in
-          subst (λ (z : Waiting). (up_to first.key z.key ≡ true) × IsHeld z.key z.what) v.2 (up_to_greater_left first.key v.0, kid_held i.0 i.1 v.0 v.1)
+          subst (λ (z : Waiting). (up_to first.key z.key ≡ true) × IsHeld z.key z.what) v.2 (greater_left first.key v.0, kid_held i.0 i.1 v.0 v.1)
 
       opened_later : (o : ℕ × Ratio) → Contains s.found o → (w : Waiting) → Contains waits w → IsLater o w.key w.what
       opened_later o h w c =
-          let i = in_flat (waits_at first.key q) (children bs n) w c in
+          let i = Contains-flat (waits_at first.key q) (children bs n) w c in
           let v = waits_in i.0 (gap_of i.0.0 q) w i.2 in
           let l : before o.1 first.key ≡ true = subst (λ z. IsLater o first.key z) is (old.later o h first first_there) in
-          subst (λ (z : Waiting). IsLater o z.key z.what) v.2 (kid_later i.0 (greater first.key v.0) o (before_up_to o.1 first.key (greater first.key v.0) l (up_to_greater_left first.key v.0)))
+          subst (λ (z : Waiting). IsLater o z.key z.what) v.2 (kid_later i.0 (greater first.key v.0) o (before-up_to o.1 first.key (greater first.key v.0) l (greater_left first.key v.0)))
 
       opened_same : AreSame (((old.gone ++ apart_of (children bs n)) ++ old.tried) ++ entries_of new.heap) entries
       opened_same g =
@@ -360,7 +356,7 @@ module _ (bs : List Branch) (root : Option ℕ) (entries : List EntryOf) (has : 
       opened_none : (e : EntryOf) → Contains (apart_of (children bs n)) e → (m : Ratio) → has e.1 m → ⊥
       unfolding apart_of
       opened_none e c m h =
-          let i = in_flat (λ (kd : Kid). apart_at kd (gap_of kd.0 q)) (children bs n) e c in
+          let i = Contains-flat (λ (kd : Kid). apart_at kd (gap_of kd.0 q)) (children bs n) e c in
           let v = apart_in i.0 (gap_of i.0.0 q) e i.2 in
           true≢false (sym (subst (λ z. gap_reaches z m ≡ true) v.0 (kid_reaches i.0 i.1 e v.1 m h)))
 
@@ -376,7 +372,7 @@ module _ (bs : List Branch) (root : Option ℕ) (entries : List EntryOf) (has : 
       opened_answer : (x : ℕ × Ratio) → Contains (answers_of s.heap) x → Contains (answers_of new.heap) x
       opened_answer x c = elim (answer_left x c) [
         | inl i ↦ absurd (none_in x (subst (λ z. Contains (answers_at first z) x) is i))
-        | inr i ↦ let v = in_flat (λ w. answers_at w w.what) rest x i in flat_in (λ w. answers_at w w.what) new.heap v.0 x (opened_rest v.0 v.1) v.2
+        | inr i ↦ let v = Contains-flat (λ w. answers_at w w.what) rest x i in flat-Contains (λ w. answers_at w w.what) new.heap v.0 x (opened_rest v.0 v.1) v.2
       ]
 
       opened_all : (x : ℕ × Ratio) → Contains (s.found ++ answers_of s.heap) x → Contains (new.found ++ answers_of new.heap) x
@@ -437,7 +433,7 @@ module _ (bs : List Branch) (root : Option ℕ) (entries : List EntryOf) (has : 
       answer_later : (o : Option Ratio) → IsOnly (has row) o → (x : ℕ × Ratio) → before x.1 first.key ≡ true → (w : Waiting) → Contains (found_answer row o) w → IsLater x w.key w.what
       answer_later None h x l w c = absurd (none_in w c)
       answer_later (Some m) h x l w c = elim (which_in _ [] w c) [
-        | inl e ↦ subst (λ (z : Waiting). IsLater x z.key z.what) e (rw (before_up_to x.1 first.key m l (entry_held.1 m h)) refl)
+        | inl e ↦ subst (λ (z : Waiting). IsLater x z.key z.what) e (rw (before-up_to x.1 first.key m l (entry_held.1 m h)) refl)
         | inr i ↦ absurd (none_in w i)
       ]
 
@@ -562,7 +558,7 @@ module _ (bs : List Branch) (root : Option ℕ) (entries : List EntryOf) (has : 
           let g = answers_sum p in
           let h : ◌≡◌ {A = ℕ} (sum_by p (answers_at first first.what)) (t row) = ap (λ z. sum_by p (answers_at first z)) is ∙ one_sum p told_here in
           let there : Contains {X = ℕ × Ratio} (answers_at w w.what) (row, w.key) = subst (λ z. Contains (answers_at w z) (row, w.key)) (sym e) (subst (λ z. Contains {X = ℕ × Ratio} ((z, w.key) ∷ []) (row, w.key)) f (first_in (row, w.key) [])) in
-          let i : t row ≤ sum_by p (answers_of rest) = sum_in p (answers_of rest) (row, w.key) (flat_in (λ w. answers_at w w.what) rest w (row, w.key) c there) in
+          let i : t row ≤ sum_by p (answers_of rest) = sum_in p (answers_of rest) (row, w.key) (flat-Contains (λ w. answers_at w w.what) rest w (row, w.key) c there) in
           let j = old.same v in
           let l = sum_by-append v (old.gone ++ old.tried) (entries_of s.heap) in
           let m = sum_by-append v old.gone old.tried in
@@ -666,12 +662,12 @@ module _ (bs : List Branch) (root : Option ℕ) (entries : List EntryOf) (has : 
               | inl j ↦ absurd (old.none (b.0, r) j m h)
               | inr j ↦ (elim (told_all (r, m) (old.answered (b.0, r) j m h)) [
                 | inl c ↦ inl c
-                | inr c ↦ let w = in_flat (λ w. answers_at w w.what) rest (r, m) c in inr (full, all_by_each (λ o. nearer o (r, m) ≡ true) new.found (λ o d. later_answer o w.0 w.0.what (told_behind o d w.0 w.1) (r, m) w.2))
+                | inr c ↦ let w = Contains-flat (λ w. answers_at w w.what) rest (r, m) c in inr (full, all_by_each (λ o. nearer o (r, m) ≡ true) new.found (λ o d. later_answer o w.0 w.0.what (told_behind o d w.0 w.1) (r, m) w.2))
               ])
             ])
             | inr i ↦ (elim (entry_left (b.0, r) i) [
               | inl j ↦ absurd (none_in (b.0, r) (subst (λ z. Contains (entries_in bs box_at z) (b.0, r)) is j))
-              | inr j ↦ let w = in_flat (λ w. entries_in bs box_at w.what) rest (b.0, r) j in inr (full, all_by_each (λ o. nearer o (r, m) ≡ true) new.found (λ o d. later_entry o w.0.key w.0.what (told_behind o d w.0 w.1) (rest_held w.0 w.1).1 (b.0, r) w.2 m h))
+              | inr j ↦ let w = Contains-flat (λ w. entries_in bs box_at w.what) rest (b.0, r) j in inr (full, all_by_each (λ o. nearer o (r, m) ≡ true) new.found (λ o d. later_entry o w.0.key w.0.what (told_behind o d w.0 w.1) (rest_held w.0 w.1).1 (b.0, r) w.2 m h))
             ])
           ]
 
@@ -709,20 +705,20 @@ module _ (bs : List Branch) (root : Option ℕ) (entries : List EntryOf) (has : 
                 | inl c ↦ c
                 | inr c ↦ (elim (answer_left (r, m) c) [
                   | inl d ↦ absurd (none_in (r, m) (subst (λ z. Contains (answers_at first z) (r, m)) is d))
-                  | inr d ↦ let w = in_flat (λ w. answers_at w w.what) rest (r, m) d in absurd (not_before first.key m (subst (λ z. up_to first.key z ≡ true) (held_answer w.0 w.0.what (r, m) w.2) (rest_held w.0 w.1).0) l)
+                  | inr d ↦ let w = Contains-flat (λ w. answers_at w w.what) rest (r, m) d in absurd (up_to-not-after first.key m (subst (λ z. up_to first.key z ≡ true) (held_answer w.0 w.0.what (r, m) w.2) (rest_held w.0 w.1).0) l)
                 ])
               ])
             ])
             | inr i ↦ (elim (entry_left (v.0, r) i) [
-              | inl j ↦ absurd (not_before first.key m (held_entry first.key first.what first_held (v.0, r) j m h) l)
-              | inr j ↦ let w = in_flat (λ w. entries_in bs box_at w.what) rest (v.0, r) j in absurd (not_before first.key m (up_to-trans first.key w.0.key m (rest_held w.0 w.1).0 (held_entry w.0.key w.0.what (rest_held w.0 w.1).1 (v.0, r) w.2 m h)) l)
+              | inl j ↦ absurd (up_to-not-after first.key m (held_entry first.key first.what first_held (v.0, r) j m h) l)
+              | inr j ↦ let w = Contains-flat (λ w. entries_in bs box_at w.what) rest (v.0, r) j in absurd (up_to-not-after first.key m (up_to-trans first.key w.0.key m (rest_held w.0 w.1).0 (held_entry w.0.key w.0.what (rest_held w.0 w.1).1 (v.0, r) w.2 m h)) l)
             ])
           ]
 
       pub unfit_gap : (g : Ratio) × (gap_of (box_at row) q ≡ AtLeast g) × HasFewBelow has k g
       unfit_gap =
           let v = gap_some (gap_of (box_at row) q) first.key unfit_held.0 in
-          (v.0, v.1, (map (λ (o : ℕ × Ratio). o.0) s.found, (let a = old.few in let e = length-map s.found (λ (o : ℕ × Ratio). o.0) in omega (arith, a, e)), λ r m h l. in_firsts s.found (r, m) (unfit_near r m h (before_up_to m v.0 first.key l v.2))))
+          (v.0, v.1, (map (λ (o : ℕ × Ratio). o.0) s.found, (let a = old.few in let e = length-map s.found (λ (o : ℕ × Ratio). o.0) in omega (arith, a, e)), λ r m h l. in_firsts s.found (r, m) (unfit_near r m h (before-up_to m v.0 first.key l v.2))))
 
       pub unfit_entry : Contains entries (box_at row, row)
       unfit_entry = first_entries (box_at row, row) (subst (λ z. Contains (entries_in bs box_at z) (box_at row, row)) (sym is) (first_in (box_at row, row) []))

@@ -17,10 +17,7 @@ fn put_box(
     ensures put { OnOk result (IsBoxPut trip.now row entries.old.items entries.new.items) }
 {
     match trip {
-        Some(trip) => match entries.push((box_of(trip), row)) {
-            Ok(()) => Ok(()),
-            Err(_) => Err(AllocError),
-        },
+        Some(trip) => Ok(entries.push((box_of(trip), row))?),
         None => Ok(()),
     }
 }

@@ -106,17 +106,11 @@ fn search<L: Ledger>(
         return Ok(found);
     };
     let mut heap = BinaryHeap::new(alloc);
-    match wait(&mut heap, Frac::zero(), WaitingKind::Node(root)) {
-        Ok(()) => (),
-        Err(fault) => return Err(fault),
-    }
+    wait(&mut heap, Frac::zero(), WaitingKind::Node(root))?;
     'taking: while let Some(first) = heap.pop() {
-        match advance(
+        advance(
             alloc, tree, trips, asked, area, &first, &mut heap, &mut found, steps,
-        ) {
-            Ok(()) => (),
-            Err(fault) => return Err(fault),
-        }
+        )?;
         if found.len() == k as usize {
             return Ok(found);
         }

@@ -151,10 +151,7 @@ pub fn open(
     ensures err { IfErr result (λ e. e ≡ NoMemory) }
 {
     for kid in kids {
-        match open_kid(heap, &kid.0, &kid.1, floor, asked) {
-            Ok(()) => (),
-            Err(fault) => return Err(fault),
-        }
+        open_kid(heap, &kid.0, &kid.1, floor, asked)?;
     }
     Ok(())
 }

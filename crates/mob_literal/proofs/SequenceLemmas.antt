@@ -1,24 +1,12 @@
 -- The slices of a sequence have the values of the sequence.
 use Rattle.std.{specs.Prelude.{Contains, ◌&&◌, ◌||◌}, proofs.Common.{◌≡◌, List, [], ◌∷◌, Bool, true, false, cond, Option, Some, None, refl, sym, ap, subst, ◌∙◌, arith, inl, inr, ◌⊎◌}}
-use Rattle.std.proofs.lemmas.Bool.{and_parts as both, and_from as and, not-true as not_true}
-use Rattle.mob_ratio.{specs.Ratio.{Ratio}, specs.Order.{before, up_to}, proofs.Order.{before-self, before-back, before-trans, before-neither}}
+use Rattle.std.proofs.lemmas.Bool.{and_parts as both, and_from as and}
+use Rattle.mob_ratio.{specs.Ratio.{Ratio}, specs.Order.{before, up_to}, proofs.Order.{before-back, up_to-self, before-up_to, up_to-trans, up_to-both, up_to-not-after}}
 use Rattle.mob_list.proofs.Entries.{first_in, later_in, none_in, which_in}
 use Rattle.mob_span.specs.Span.{has}
 use Rattle.mob_slice.{specs.Slices.{value_at}, specs.CourseOf.{CourseOf}}
 use Rattle.mob_written.specs.declared.written.Written.{Written}
 use Rattle.mob_literal.{specs.Sequences.{SequenceAt, IsValueFrom, IsNextAfter, reaches_to, rises}, specs.Slices.{slices_of, stretch, instant_slice, drawn}, proofs.Drawn.{IsLawful}}
-
-upto_self : (a : Ratio) → up_to a a ≡ true
-upto_self a = grind (arith, before-self a)
-
-before_upto : (a b c : Ratio) → before a b ≡ true → up_to b c ≡ true → before a c ≡ true
-before_upto a b c h k = grind (arith, h, k, before-trans a b c, before-neither b c, before-trans a c b)
-
-upto_trans : (a b c : Ratio) → up_to a b ≡ true → up_to b c ≡ true → up_to a c ≡ true
-upto_trans a b c h k = grind (arith, h, k, before-trans c a b, before-neither b c, before-back b c, before-neither a b)
-
-never_both : (a b : Ratio) → before a b ≡ true → up_to b a ≡ true → ⊥
-never_both a b h k = absurd (grind (arith, h, k))
 
 reaches_upto : (included : Bool) (a b : Ratio) → reaches_to included a b ≡ true → up_to a b ≡ true
 reaches_upto true a b h = grind (arith, h, before-back a b)
@@ -34,25 +22,22 @@ upto_reaches a b h = grind (arith, h)
 -- the first of the instants is not later than any other
 rise_first : {B : Type 0} (j : Written B) (is : List (Written B)) (k : Written B) → rises (j ∷ is) ≡ true → Contains (j ∷ is) k → up_to j.instant k.instant ≡ true
 rise_first {B} j [] k up h = elim (which_in j [] k h) [
-  | inl e ↦ subst (λ (x : Written B). up_to j.instant x.instant ≡ true) e (upto_self j.instant)
+  | inl e ↦ subst (λ (x : Written B). up_to j.instant x.instant ≡ true) e (up_to-self j.instant)
   | inr n ↦ absurd (none_in k n)
 ]
 rise_first {B} j (i ∷ is) k up h = elim (which_in j (i ∷ is) k h) [
-  | inl e ↦ subst (λ (x : Written B). up_to j.instant x.instant ≡ true) e (upto_self j.instant)
+  | inl e ↦ subst (λ (x : Written B). up_to j.instant x.instant ≡ true) e (up_to-self j.instant)
   | inr n ↦
       let r = both (before j.instant i.instant) (rises (i ∷ is)) up in
-      upto_trans j.instant i.instant k.instant (reaches_upto false j.instant i.instant (before_reaches false j.instant i.instant r.0)) (rise_first i is k r.1 n)
+      up_to-trans j.instant i.instant k.instant (reaches_upto false j.instant i.instant (before_reaches false j.instant i.instant r.0)) (rise_first i is k r.1 n)
 ]
-
-same_instant : (a b : Ratio) → up_to a b ≡ true → up_to b a ≡ true → a ≡ b
-same_instant a b h k = before-neither a b (not_true (before a b) k) (not_true (before b a) h)
 
 -- the instants after the first are later than it
 rise_strictly : {B : Type 0} (j : Written B) (is : List (Written B)) (k : Written B) → rises (j ∷ is) ≡ true → Contains is k → before j.instant k.instant ≡ true
 rise_strictly j [] k up h = absurd (none_in k h)
 rise_strictly j (i ∷ is) k up h =
     let r = both (before j.instant i.instant) (rises (i ∷ is)) up in
-    before_upto j.instant i.instant k.instant r.0 (rise_first i is k r.1 h)
+    before-up_to j.instant i.instant k.instant r.0 (rise_first i is k r.1 h)
 
 -- the value of one slice before others
 looked : {A : Type 0} (test : Bool) (x : A) (o : Option A) (v : A) → cond test (Some x) o ≡ Some v → ((test ≡ true) × (x ≡ v)) ⊎ ((test ≡ false) × (o ≡ Some v))
@@ -81,7 +66,7 @@ module _ {C B : Type 0} (course : CourseOf C B) (laws : IsLawful course) where
         listed = later_in i is o.to o.next.listed;
         later = o.next.later;
         first = λ k c b. elim (which_in i is k c) [
-          | inl same ↦ absurd (never_both t i.instant (subst (λ (x : Written B). before t x.instant ≡ true) (sym same) b) a)
+          | inl same ↦ absurd (up_to-not-after i.instant t a (subst (λ (x : Written B). before t x.instant ≡ true) (sym same) b))
           | inr there ↦ o.next.first k there b
         ];
       };
@@ -95,7 +80,7 @@ module _ {C B : Type 0} (course : CourseOf C B) (laws : IsLawful course) where
   value_without false i is by t v a h = elim h [
     | inl w ↦ inl w
     | inr o ↦ elim (which_in i is o.to o.next.listed) [
-      | inl same ↦ absurd (never_both t i.instant (subst (λ (x : Written B). before t x.instant ≡ true) (sym same) o.next.later) a)
+      | inl same ↦ absurd (up_to-not-after i.instant t a (subst (λ (x : Written B). before t x.instant ≡ true) (sym same) o.next.later))
       | inr there ↦ inr (record { to = o.to; next = record { listed = there; later = o.next.later; first = λ k c b. o.next.first k (later_in i is k c) b }; value = o.value })
     ]
   ]
@@ -106,7 +91,7 @@ module _ {C B : Type 0} (course : CourseOf C B) (laws : IsLawful course) where
   value_of_last false i t v a h = elim h [
     | inl w ↦ w.value
     | inr o ↦ elim (which_in i [] o.to o.next.listed) [
-      | inl same ↦ absurd (never_both t i.instant (subst (λ (x : Written B). before t x.instant ≡ true) (sym same) o.next.later) a)
+      | inl same ↦ absurd (up_to-not-after i.instant t a (subst (λ (x : Written B). before t x.instant ≡ true) (sym same) o.next.later))
       | inr n ↦ absurd (none_in o.to n)
     ]
   ]
@@ -127,12 +112,12 @@ module _ {C B : Type 0} (course : CourseOf C B) (laws : IsLawful course) where
     where
       second : (k : Written B) → Contains (i ∷ j ∷ is) k → before t k.instant ≡ true → up_to k.instant j.instant ≡ true → j ≡ k
       second k c later first = elim (which_in i (j ∷ is) k c) [
-        | inl same ↦ absurd (never_both t i.instant (subst (λ (x : Written B). before t x.instant ≡ true) (sym same) later) a)
+        | inl same ↦ absurd (up_to-not-after i.instant t a (subst (λ (x : Written B). before t x.instant ≡ true) (sym same) later))
         | inr there ↦ elim (which_in j is k there) [
           | inl same ↦ same
           | inr behind ↦
               let r = both (before i.instant j.instant) (rises (j ∷ is)) up in
-              absurd (never_both j.instant k.instant (rise_strictly j is k r.1 behind) first)
+              absurd (up_to-not-after k.instant j.instant first (rise_strictly j is k r.1 behind))
         ]
       ]
 
@@ -150,11 +135,11 @@ module _ {C B : Type 0} (course : CourseOf C B) (laws : IsLawful course) where
       listed = first_in i [];
       not_later = reaches_upto lower i.instant t a;
       last = λ j h k. elim (which_in i [] j h) [
-        | inl same ↦ subst (λ (x : Written B). up_to x.instant i.instant ≡ true) same (upto_self i.instant)
+        | inl same ↦ subst (λ (x : Written B). up_to x.instant i.instant ≡ true) same (up_to-self i.instant)
         | inr n ↦ absurd (none_in j n)
       ];
     };
-    value = point_value step (i ∷ []) i t v (same_instant i.instant t (reaches_upto lower i.instant t a) b) e;
+    value = point_value step (i ∷ []) i t v (up_to-both i.instant t (reaches_upto lower i.instant t a) b) e;
   }
 
   -- from the first instant to the second
@@ -171,15 +156,15 @@ module _ {C B : Type 0} (course : CourseOf C B) (laws : IsLawful course) where
           listed = first_in i (j ∷ is);
           not_later = reaches_upto lower i.instant t a;
           last = λ k h n. elim (which_in i (j ∷ is) k h) [
-            | inl same ↦ subst (λ (x : Written B). up_to x.instant i.instant ≡ true) same (upto_self i.instant)
-            | inr later ↦ absurd (never_both t j.instant b (upto_trans j.instant k.instant t (rise_first j is k r.1 later) n))
+            | inl same ↦ subst (λ (x : Written B). up_to x.instant i.instant ≡ true) same (up_to-self i.instant)
+            | inr later ↦ absurd (up_to-not-after j.instant t (up_to-trans j.instant k.instant t (rise_first j is k r.1 later) n) b)
           ];
         };
         value = drawn_value step (i ∷ j ∷ is) i j t v (record {
           listed = later_in i (j ∷ is) j (first_in j is);
           later = b;
           first = λ k h n. elim (which_in i (j ∷ is) k h) [
-            | inl same ↦ absurd (never_both t i.instant (subst (λ (x : Written B). before t x.instant ≡ true) (sym same) n) (reaches_upto lower i.instant t a))
+            | inl same ↦ absurd (up_to-not-after i.instant t (reaches_upto lower i.instant t a) (subst (λ (x : Written B). before t x.instant ≡ true) (sym same) n))
             | inr later ↦ rise_first j is k r.1 later
           ];
         }) e;
@@ -191,8 +176,8 @@ module _ {C B : Type 0} (course : CourseOf C B) (laws : IsLawful course) where
       let r = both (before i.instant j.instant) (rises (j ∷ is)) up in
       let begun = s.within.begun in
       let end = s.within.not_ended in
-      let from : before i.instant begun.0.instant ≡ true = before_upto i.instant j.instant begun.0.instant r.0 (rise_first j is begun.0 r.1 begun.1) in
-      let after : before i.instant t ≡ true = before_upto i.instant begun.0.instant t from (reaches_upto true begun.0.instant t begun.2) in
+      let from : before i.instant begun.0.instant ≡ true = before-up_to i.instant j.instant begun.0.instant r.0 (rise_first j is begun.0 r.1 begun.1) in
+      let after : before i.instant t ≡ true = before-up_to i.instant begun.0.instant t from (reaches_upto true begun.0.instant t begun.2) in
       record {
         within = record {
           begun = (i, first_in i (j ∷ is), before_reaches lower i.instant t after);
@@ -204,7 +189,7 @@ module _ {C B : Type 0} (course : CourseOf C B) (laws : IsLawful course) where
           not_later = s.last.not_later;
           last = λ k h n. elim (which_in i (j ∷ is) k h) [
             | inl same ↦
-                let at_i : up_to i.instant s.by.instant ≡ true = reaches_upto false i.instant s.by.instant (before_reaches false i.instant s.by.instant (before_upto i.instant j.instant s.by.instant r.0 (rise_first j is s.by r.1 s.last.listed))) in
+                let at_i : up_to i.instant s.by.instant ≡ true = reaches_upto false i.instant s.by.instant (before_reaches false i.instant s.by.instant (before-up_to i.instant j.instant s.by.instant r.0 (rise_first j is s.by r.1 s.last.listed))) in
                 subst (λ (x : Written B). up_to x.instant s.by.instant ≡ true) same at_i
             | inr later ↦ s.last.last k later n
           ];
@@ -263,8 +248,8 @@ module _ {C B : Type 0} (course : CourseOf C B) (laws : IsLawful course) where
   later_sequence : (step lower upper : Bool) (i j : Written B) (is : List (Written B)) (t : Ratio) (v : B) → rises (i ∷ j ∷ is) ≡ true → (s : SequenceAt course step lower (i ∷ j ∷ is) upper t v) → Contains (j ∷ is) s.by → SequenceAt course step true (j ∷ is) upper t v
   later_sequence step lower upper i j is t v up s here =
       let r = both (before i.instant j.instant) (rises (j ∷ is)) up in
-      let from_j : up_to j.instant t ≡ true = upto_trans j.instant s.by.instant t (rise_first j is s.by r.1 here) s.last.not_later in
-      let from_i : up_to i.instant t ≡ true = reaches_upto false i.instant t (before_reaches false i.instant t (before_upto i.instant j.instant t r.0 from_j)) in
+      let from_j : up_to j.instant t ≡ true = up_to-trans j.instant s.by.instant t (rise_first j is s.by r.1 here) s.last.not_later in
+      let from_i : up_to i.instant t ≡ true = reaches_upto false i.instant t (before_reaches false i.instant t (before-up_to i.instant j.instant t r.0 from_j)) in
       let end = s.within.not_ended in
       record {
         within = record {
@@ -272,7 +257,7 @@ module _ {C B : Type 0} (course : CourseOf C B) (laws : IsLawful course) where
           not_ended = elim (which_in i (j ∷ is) end.0 end.1) [
             | inl same ↦
                 let back : up_to t i.instant ≡ true = reaches_upto upper t i.instant (subst (λ (x : Written B). reaches_to upper t x.instant ≡ true) (sym same) end.2) in
-                absurd (never_both i.instant j.instant r.0 (upto_trans j.instant t i.instant from_j back))
+                absurd (up_to-not-after j.instant i.instant (up_to-trans j.instant t i.instant from_j back) r.0)
             | inr later ↦ (end.0, later, end.2)
           ];
         };
@@ -292,7 +277,7 @@ module _ {C B : Type 0} (course : CourseOf C B) (laws : IsLawful course) where
       by_order first false e =
           let reached : up_to j.instant t ≡ true = rw e refl in
           let at_by : up_to j.instant s.by.instant ≡ true = s.last.last j (later_in i (j ∷ is) j (first_in j is)) reached in
-          absurd (never_both i.instant j.instant first (subst (λ (x : Written B). up_to j.instant x.instant ≡ true) (sym same) at_by))
+          absurd (up_to-not-after j.instant i.instant (subst (λ (x : Written B). up_to j.instant x.instant ≡ true) (sym same) at_by) first)
 
   -- the sequence has begun at its first instant
   first_begins : (step lower upper : Bool) (i j : Written B) (is : List (Written B)) (t : Ratio) (v : B) → rises (i ∷ j ∷ is) ≡ true → (s : SequenceAt course step lower (i ∷ j ∷ is) upper t v) → before t j.instant ≡ true → reaches_to lower i.instant t ≡ true
@@ -301,7 +286,7 @@ module _ {C B : Type 0} (course : CourseOf C B) (laws : IsLawful course) where
       let begun = s.within.begun in
       elim (which_in i (j ∷ is) begun.0 begun.1) [
         | inl same ↦ subst (λ (x : Written B). reaches_to lower x.instant t ≡ true) (sym same) begun.2
-        | inr later ↦ absurd (never_both t j.instant ends (upto_trans j.instant begun.0.instant t (rise_first j is begun.0 r.1 later) (reaches_upto lower begun.0.instant t begun.2)))
+        | inr later ↦ absurd (up_to-not-after j.instant t (up_to-trans j.instant begun.0.instant t (rise_first j is begun.0 r.1 later) (reaches_upto lower begun.0.instant t begun.2)) ends)
       ]
 
   pub sequence_slices : (step : Bool) → (step ≡ false → course.steady ≡ false) → (lower : Bool) (is : List (Written B)) (upper : Bool) (t : Ratio) (v : B) → rises is ≡ true → SequenceAt course step lower is upper t v → value_at course.value (slices_of course step lower is upper) t ≡ Some v
@@ -311,7 +296,7 @@ module _ {C B : Type 0} (course : CourseOf C B) (laws : IsLawful course) where
       rw (has_point lower i t o.0 (reaches_upto true t i.instant o.1)) (ap (λ (x : B). Some x) (laws.level i.value i.instant i.instant t ∙ o.3))
   sequence_slices step moves lower (i ∷ []) false t v up s =
       let o = only_one step lower false i t v s in
-      absurd (never_both t i.instant (only (before t i.instant) o.1) o.2)
+      absurd (up_to-not-after i.instant t o.2 (only (before t i.instant) o.1))
     where
       only : (a : Bool) → (a || false) ≡ true → a ≡ true
       only true e = refl
@@ -325,6 +310,6 @@ module _ {C B : Type 0} (course : CourseOf C B) (laws : IsLawful course) where
             rw (has_stretch step lower i j t begins ends) (ap (λ (x : B). Some x) (value_of_first step moves i j is t v up (reaches_upto lower i.instant t begins) ends from))
         | inr here ↦
             let r = both (before i.instant j.instant) (rises (j ∷ is)) up in
-            let from_j : up_to j.instant t ≡ true = upto_trans j.instant s.by.instant t (rise_first j is s.by r.1 here) s.last.not_later in
+            let from_j : up_to j.instant t ≡ true = up_to-trans j.instant s.by.instant t (rise_first j is s.by r.1 here) s.last.not_later in
             rw (not_stretch step lower i j t from_j) (sequence_slices step moves true (j ∷ is) upper t v r.1 (later_sequence step lower upper i j is t v up s here))
       ]

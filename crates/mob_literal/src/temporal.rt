@@ -241,10 +241,7 @@ pub fn read_moving<T: WrittenValue, C: Course<Base = T::Base> + Drop>(
 ) -> Result<Moving<C>, ReadText>
     ensures reading { Lit (literals epoch.now T.HAS_SRID T.shape T.has_value (course_of C.Course T.Base.is_same)) text.now result }
 {
-    let written = match read_written::<T>(alloc, text, epoch, C::STEADY) {
-        Ok(written) => written,
-        Err(fault) => return Err(fault),
-    };
+    let written = read_written::<T>(alloc, text, epoch, C::STEADY)?;
     if !are_in_order(written.sequences.as_slice()) {
         return Err(ReadText::Unsound);
     }

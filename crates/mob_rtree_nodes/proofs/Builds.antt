@@ -1,7 +1,6 @@
 -- How sums over a forest change when a level is packed.
-use Rattle.std.specs.Prelude.{All, sum_by, count_by, Result, Ok, Err, OnOk, IfOk}
 use Rattle.std.proofs.Common.{◌≡◌, refl, ℕ, zero, suc, ◌+◌, ◌<◌, ◌≤◌, Bool, true, false, cond, not, ◌==◌, ◌&&◌, List, [], ◌∷◌, ◌++◌, length, map, arith, ap, sym, ◌∙◌, subst}
-use Rattle.std.{proofs.lemmas.Bool.Decides.{nat_tests}, proofs.lemmas.List.Sums.{sum_by-cons, sum_by-append}}
+use Rattle.std.{specs.Prelude.{All, sum_by, count_by}, proofs.lemmas.Bool.Decides.{nat_tests}, proofs.lemmas.List.Sums.{sum_by-cons, sum_by-append}}
 use Rattle.std.proofs.lemmas.List.Elements.{All-head, All-tail, All-append, All-cons, All-nil, All-weaker}
 use Rattle.mob_stbox.specs.Boxes.{is_whole}
 use Rattle.mob_rtree_nodes.specs.Tree.{Kid, EntryOf, entry_of, target, Ref, IsSoundNode, AreLive, is_fit, nodes_sum, kids_sum, refs_sum, entries_sum, entries_list, AreSame}
@@ -128,11 +127,3 @@ fits_arranged kids new same none = same (λ k. cond (not (is_fit 0 k)) 1 0) ∙ 
 -- the entries of a built tree
 pub built_same : (es : List EntryOf) (kids : List Kid) (ps : List TreeNode) → ((f : Kid → ℕ) → sum_by f kids ≡ sum_by f (map kid_of es)) → ((g : EntryOf → ℕ) → entries_sum g ps ≡ entries_sum g [] + leaf_sum g kids 0) → AreSame (entries_list ps) es
 built_same es kids ps same sums g = omega (arith, entries_listed g ps, sums g, same (λ k. g (entry_of k)), mapped_sum (λ k. g (entry_of k)) kid_of es)
-
-pub on_ok : {A B : Type 0} (r : Result A B) (P Q : Type 0) → (P → Q) → OnOk r P → OnOk r Q
-on_ok (Ok a) P Q f h = f h
-on_ok (Err e) P Q f h = h
-
-pub if_ok : {A B : Type 0} (r : Result A B) (P Q : A → Type 0) → ((a : A) → P a → Q a) → IfOk r P → IfOk r Q
-if_ok (Ok a) P Q f h = f a h
-if_ok (Err e) P Q f h = h

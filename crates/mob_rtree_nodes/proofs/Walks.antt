@@ -1,7 +1,7 @@
 -- A walk down a tree meets each node and each entry once.
 use Rattle.std.specs.Prelude.{All, sum_by, nat_le}
-use Rattle.std.proofs.Common.{◌≡◌, refl, ℕ, zero, suc, ◌+◌, ◌<◌, ◌≤◌, Bool, true, false, cond, ◌&&◌, ◌==◌, List, [], ◌∷◌, length, get_or, arith, ap, sym, ◌∙◌, eq-eqb, ◌⊎◌, inl, inr}
-use Rattle.std.{proofs.lemmas.Bool.{cases_lt, true≢false, ne_eqb}, proofs.lemmas.Bool.Decides.{nat_tests, eqb_tells}, proofs.lemmas.List.Sums.{sum_by-cons, get_or-le-sum_by}}
+use Rattle.std.proofs.Common.{◌≡◌, refl, ℕ, zero, suc, ◌+◌, ◌<◌, ◌≤◌, Bool, true, false, cond, ◌&&◌, ◌==◌, List, [], ◌∷◌, length, get_or, arith, ap, sym, ◌∙◌, eq-eqb, inl, inr}
+use Rattle.std.{proofs.lemmas.Bool.{cases_lt, true≢false, ne_eqb, cases_eq}, proofs.lemmas.Bool.Decides.{nat_tests}, proofs.lemmas.List.Sums.{sum_by-cons, get_or-le-sum_by}}
 use Rattle.mob_stbox.specs.Boxes.{BoxOf, contains, is_whole}
 use Rattle.mob_rtree_nodes.specs.Tree.{Kid, EntryOf, entry_of, target, if_live, Ref, IsTree, IsSoundNode, nodes_sum, kids_sum, refs_sum, kids_at, height_at, walk_sum, step_sum, GoesUp}
 use Rattle.mob_rtree_nodes.specs.declared.node.TreeNode.{TreeNode}
@@ -113,12 +113,9 @@ level_zero test up own g p sound = by_kids p.kids.items (apart_sum test up (λ k
     by_kids [] apart = omega (arith, cond_nil (p.height == 0))
     by_kids (k ∷ kids) apart = zero_cases p.height (test p.area) own (sum_by (λ k. cond (test k.0) (g (entry_of k)) 0) (k ∷ kids)) apart
 
-nat_same : (a b : ℕ) → (a ≡ b) ⊎ (a ≡ b → ⊥)
-nat_same a b = elim (eqb_tells a b) [ inl x ↦ inl x.1 | inr x ↦ inr x.1 ]
-
 more_cases : (h ht : ℕ) (o : Bool) (own s r : ℕ) → (o ≡ false → s ≡ 0) → (ht ≡ suc h → r ≡ s) → ((ht ≡ suc h → ⊥) → r ≡ 0) → cond (ht == suc h && o) (own + s) 0 + cond (nat_le ht h && o) own 0 ≡ cond (nat_le ht (suc h) && o) own 0 + r
-more_cases h ht true own s r a b c = elim (nat_same ht (suc h)) [ inl e ↦ let k = b e in grind (arith, nat_tests) | inr n ↦ let k = c n in grind (arith, nat_tests) ]
-more_cases h ht false own s r a b c = let z = a refl in elim (nat_same ht (suc h)) [ inl e ↦ let k = b e in grind (arith, nat_tests) | inr n ↦ let k = c n in grind (arith, nat_tests) ]
+more_cases h ht true own s r a b c = elim (cases_eq ht (suc h)) [ inl e ↦ let k = b e in grind (arith, nat_tests) | inr n ↦ let k = c n in grind (arith, nat_tests) ]
+more_cases h ht false own s r a b c = let z = a refl in elim (cases_eq ht (suc h)) [ inl e ↦ let k = b e in grind (arith, nat_tests) | inr n ↦ let k = c n in grind (arith, nat_tests) ]
 
 kids_level : (test : BoxOf → Bool) (own : ℕ) (g : EntryOf → ℕ) (ps : List TreeNode) (h ht : ℕ) (kids : List Kid) → ht ≡ suc h
     → kids_sum (level_of test own g ps h) ht kids ≡ sum_by (λ k. cond (test k.0) (walk_sum test own g ps h (target k.1)) 0) kids

@@ -21,45 +21,8 @@ use mob_stbox::StBox;
 use std::alloc::{AllocError, Global};
 use std::sync::ledger::Ledger;
 
-/// Adds an entry below the root, and returns the new root.
-pub(crate) fn put(
-    nodes: &mut Vec<TreeNode>,
-    free: &mut Vec<u32>,
-    root: Root,
-    kid: (StBox, Child),
-) -> Root
-    requires tree { IsTree (ref root) nodes.old.items }
-    requires fit { is_fit 0 kid ≡ true }
-    requires free { IsFree free.old.items nodes.old.items }
-    requires small { length nodes.old.items + root.height + 2 ≤ 2 ^ 32 }
-    requires room { vec_len nodes.old + root.height + 2 ≤ vec_capacity nodes.old }
-    ensures tree { IsTree (ref result) nodes.new.items }
-    ensures entries { IsAdded (entries_list nodes.old.items) (entry_of kid) (entries_list nodes.new.items) }
-    ensures free { IsFree free.new.items nodes.new.items }
-    ensures reused { IsReused nodes.old.items nodes.new.items }
-    ensures few { length nodes.new.items ≤ length nodes.old.items + root.height + 2 }
-    ensures free_capacity { vec_capacity free.new ≡ vec_capacity free.old }
-{
-    let grown = insert_at(nodes, free, root.node as usize, kid);
-    let other = grown.more;
-    let Some(more) = other else {
-        return Root {
-            area: grown.area,
-            node: root.node,
-            height: root.height,
-        };
-    };
-    let area = grown.area.cover(&more.0);
-    let mut kids = ArrayVec::new();
-    kids.push((grown.area, Child::Node(root.node)));
-    kids.push(more);
-    let height = root.height + 1;
-    let node = put_node(nodes, free, TreeNode { area, height, kids });
-    Root { area, node, height }
-}
-
-/// Inserts the first entry.
-pub(crate) fn put_first(nodes: &mut Vec<TreeNode>, kid: (StBox, Child)) -> Root
+// Inserts the first entry.
+fn put_first(nodes: &mut Vec<TreeNode>, kid: (StBox, Child)) -> Root
     requires none { nodes.old.items ≡ [] }
     requires fit { is_fit 0 kid ≡ true }
     requires room { vec_len nodes.old < vec_capacity nodes.old }
@@ -83,7 +46,7 @@ pub(crate) fn put_first(nodes: &mut Vec<TreeNode>, kid: (StBox, Child)) -> Root
     }
 }
 
-/// Adds an entry to a tree, which may be empty.
+/// Adds an entry to a tree, which may be empty, and returns the new root.
 pub fn put_any(
     nodes: &mut Vec<TreeNode>,
     free: &mut Vec<u32>,
@@ -105,7 +68,22 @@ pub fn put_any(
     if nodes.is_empty() {
         return put_first(nodes, kid);
     }
-    put(nodes, free, root, kid)
+    let grown = insert_at(nodes, free, root.node as usize, kid);
+    let other = grown.more;
+    let Some(more) = other else {
+        return Root {
+            area: grown.area,
+            node: root.node,
+            height: root.height,
+        };
+    };
+    let area = grown.area.cover(&more.0);
+    let mut kids = ArrayVec::new();
+    kids.push((grown.area, Child::Node(root.node)));
+    kids.push(more);
+    let height = root.height + 1;
+    let node = put_node(nodes, free, TreeNode { area, height, kids });
+    Root { area, node, height }
 }
 
 /// Appends the ids of the entries that overlap a box, in ascending order.

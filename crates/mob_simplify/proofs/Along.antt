@@ -1,7 +1,7 @@
 -- The walk along the slices, step by step.
-use Rattle.std.{specs.Prelude.{◌≡◌, Bool, true, false, cond, ◌&&◌, not, List, [], ◌∷◌, ◌++◌, Option, Some, None, refl}, specs.List.{AllByRecursion}}
+use Rattle.std.{specs.Prelude.{◌≡◌, Bool, true, false, cond, ◌&&◌, List, [], ◌∷◌, ◌++◌, Option, Some, None, refl}, specs.List.{AllByRecursion}}
 use Rattle.std.proofs.Common.{arith, ap, sym, ◌∙◌, subst, append_assoc}
-use Rattle.mob_ratio.{specs.Ratio.{Ratio}, specs.Order.{before, up_to, same}, proofs.Order.{before-self, before-back, before-trans, before-neither, same_exact}}
+use Rattle.mob_ratio.{specs.Ratio.{Ratio}, specs.Order.{before, up_to, same}, proofs.Order.{same_exact, up_to-self, up_to-trans, before-weak, up_to-before}}
 use Rattle.mob_span.specs.Span.{has_instant}
 use Rattle.mob_list.{specs.Faults.{OnCause}, specs.declared.fault.Fault.{Fault}, specs.declared.fault.Fault.TheVariants.{Because, NoMemory}, proofs.Each.{each_on, each_both}}
 use Rattle.mob_slice.{specs.Entries.{Entry, IsFirst}, specs.declared.formula.Formula.{Formula}, specs.declared.line.PlaneLine.{PlaneLine}, specs.declared.slice.Slice.{Slice}}
@@ -33,20 +33,8 @@ pub record IsWalking (d : Ratio) (all : List (Slice PlaneLine)) (s : Slice Plane
   pub within : AllByRecursion (IsReached s.span.lower l.span.lower) between
   pub some : has_instant (leg_over s l).span ≡ true
 
-pub self_upto : (t : Ratio) → up_to t t ≡ true
-self_upto t = ap not (before-self t)
-
 pub walking_start : (d : Ratio) (s : Slice PlaneLine) (rest all : List (Slice PlaneLine)) → all ≡ s ∷ rest → has_instant s.span ≡ true → IsWalking d all s [] s rest []
-walking_start d s rest all e h = subst (λ a. IsWalking d a s [] s rest []) (sym e) (record { made = refl; firsts = λ f k. k; order = self_upto s.span.lower; within = tt; some = h })
-
-pub upto_trans : (a b c : Ratio) → up_to a b ≡ true → up_to b c ≡ true → up_to a c ≡ true
-upto_trans a b c h k = grind (arith, h, k, before-trans c a b, before-neither a b)
-
-pub long_upto : (l u : Ratio) → before l u ≡ true → up_to l u ≡ true
-long_upto l u h = ap not (before-back l u h)
-
-pub upto_before : (a b c : Ratio) → up_to a b ≡ true → before b c ≡ true → before a c ≡ true
-upto_before a b c h k = grind (arith, h, k, before-trans a b c, before-neither a b)
+walking_start d s rest all e h = subst (λ a. IsWalking d a s [] s rest []) (sym e) (record { made = refl; firsts = λ f k. k; order = up_to-self s.span.lower; within = tt; some = h })
 
 module _ (d : Ratio) (all : List (Slice PlaneLine)) (s : Slice PlaneLine) (between : List Break) (l : Slice PlaneLine) (rest legs : List (Slice PlaneLine)) (m : IsWalking d all s between l rest legs) where
   module _ (r : Slice PlaneLine) (later : List (Slice PlaneLine)) (e : rest ≡ r ∷ later) where
@@ -57,13 +45,13 @@ module _ (d : Ratio) (all : List (Slice PlaneLine)) (s : Slice PlaneLine) (betwe
     pub within_next : continues_run l r ≡ true → AllByRecursion (IsReached s.span.lower r.span.lower) wide
     within_next g =
         let k = going l r g in
-        let up : up_to l.span.lower r.span.lower ≡ true = subst (λ z. up_to l.span.lower z ≡ true) k.at_one (long_upto l.span.lower l.span.upper k.first_long) in
+        let up : up_to l.span.lower r.span.lower ≡ true = subst (λ z. up_to l.span.lower z ≡ true) k.at_one (before-weak l.span.lower l.span.upper k.first_long) in
         each_both (IsReached s.span.lower r.span.lower) between (start_of r ∷ [])
-        (each_on (IsReached s.span.lower l.span.lower) (IsReached s.span.lower r.span.lower) (λ b w. (w.0, upto_trans b.instant l.span.lower r.span.lower w.1 up)) between m.within)
-        ((upto_before s.span.lower l.span.lower r.span.lower m.order (subst (λ z. before l.span.lower z ≡ true) k.at_one k.first_long), self_upto r.span.lower), tt)
+        (each_on (IsReached s.span.lower l.span.lower) (IsReached s.span.lower r.span.lower) (λ b w. (w.0, up_to-trans b.instant l.span.lower r.span.lower w.1 up)) between m.within)
+        ((up_to-before s.span.lower l.span.lower r.span.lower m.order (subst (λ z. before l.span.lower z ≡ true) k.at_one k.first_long), up_to-self r.span.lower), tt)
 
     pub within_end : continues_run l r ≡ true → AllByRecursion (IsWithin s.span.lower r.span.upper) wide
-    within_end g = each_on (IsReached s.span.lower r.span.lower) (IsWithin s.span.lower r.span.upper) (λ b w. (w.0, upto_before b.instant r.span.lower r.span.upper w.1 (going l r g).next_long)) wide (within_next g)
+    within_end g = each_on (IsReached s.span.lower r.span.lower) (IsWithin s.span.lower r.span.upper) (λ b w. (w.0, up_to-before b.instant r.span.lower r.span.upper w.1 (going l r g).next_long)) wide (within_next g)
 
     abbrev front : List Entry
     front = cond (continues_run l r) (tests_within d (start_of s) wide (end_of r)) []
@@ -93,20 +81,20 @@ module _ (d : Ratio) (all : List (Slice PlaneLine)) (s : Slice PlaneLine) (betwe
     walking_stays h fit =
         let g = going_by _ _ h in
         let k = going l r g in
-        let up : up_to s.span.lower r.span.lower ≡ true = upto_trans s.span.lower l.span.lower r.span.lower m.order (subst (λ z. up_to l.span.lower z ≡ true) k.at_one (long_upto l.span.lower l.span.upper k.first_long)) in
+        let up : up_to s.span.lower r.span.lower ≡ true = up_to-trans s.span.lower l.span.lower r.span.lower m.order (subst (λ z. up_to l.span.lower z ≡ true) k.at_one (before-weak l.span.lower l.span.upper k.first_long)) in
         record {
           made = made_on true h;
           firsts = firsts_on true h fit;
           order = up;
           within = within_next g;
-          some = let w = upto_before s.span.lower r.span.lower r.span.upper up k.next_long in grind (arith, w);
+          some = let w = up_to-before s.span.lower r.span.lower r.span.upper up k.next_long in grind (arith, w);
         }
 
     pub walking_breaks : (out : List (Slice PlaneLine)) → out ≡ legs ++ leg_over s l ∷ [] → false ≡ stays d s wide l r → IsFirst front None → has_instant r.span ≡ true → IsWalking d all r [] r later out
     walking_breaks out o h fit i = record {
       made = ap (λ z. z ++ legs_along d r [] r later) o ∙ append_assoc legs (leg_over s l ∷ []) (legs_along d r [] r later) ∙ made_on false h;
       firsts = firsts_on false h fit;
-      order = self_upto r.span.lower;
+      order = up_to-self r.span.lower;
       within = tt;
       some = i;
     }

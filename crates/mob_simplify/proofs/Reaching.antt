@@ -1,20 +1,12 @@
 -- The place of a straight course at an instant between its ends, from the parts of the ends, the
 -- instant and each coordinate.
-use Rattle.std.{specs.Prelude.{◌≡◌, Bool, true, false, cond, ◌&&◌, ◌++◌, [], ◌∷◌, Result, Ok, Err, refl}, proofs.Common.{arith, ap, sym, ◌∙◌, subst}, proofs.lemmas.Bool.{and_parts}}
+use Rattle.std.{specs.Prelude.{◌≡◌, Bool, true, false, cond, ◌&&◌, ◌++◌, [], ◌∷◌, Result, Ok, Err, refl}, proofs.Common.{ap, sym, ◌∙◌, subst}, proofs.lemmas.Bool.{and_parts}}
 use Rattle.mob_ratio.{specs.Ratio.{Ratio, ◌+ℚ◌, ◌-ℚ◌, ◌*ℚ◌, ◌/ℚ◌}, specs.Line.{line_at}, specs.Order.{before, same}, proofs.LineAt.{line_at-level, line_at-quotient}}
-use Rattle.mob_ratio.proofs.Order.{before-trans, same_exact}
+use Rattle.mob_ratio.proofs.Order.{before-trans, same_exact, before-differ-back, before-differ}
 use Rattle.mob_frac.{specs.Fits.{Fits, IsExact}, specs.Formula.{AllFit, IsFormula, inner_parts, line_parts}, proofs.Fitting.{all_both, all_first, all_second}}
 use Rattle.mob_plane.{specs.Points.{same_point, point_by_coordinates}, specs.declared.point.Point.{Point}}
 use Rattle.mob_slice.specs.Lines.{plane_parts_of}
 use Rattle.mob_simplify.{specs.Breaks.{straight, straight_at}, specs.Reaches.{moved_at, moved_parts, part_gone, parts_gone}, specs.declared.breaks.Break.{Break}}
-
-after_start : (l t : Ratio) → before l t ≡ true → same t l ≡ false
-unfolding same
-after_start l t h = grind (arith, h)
-
-before_end : (t u : Ratio) → before t u ≡ true → same t u ≡ false
-unfolding same
-before_end t u h = grind (arith, h)
 
 -- ---- what the code computes, in order
 pub part_is : {E : Type 0} (r : Result Ratio E) (l u t a b : Ratio) → (a ≡ t -ℚ l) × Fits (t -ℚ l) → (b ≡ u -ℚ l) × Fits (u -ℚ l) → IsExact (a /ℚ b) r → IsFormula (parts_gone l u t) (part_gone l u t) r
@@ -51,7 +43,7 @@ module _ (l u t : Ratio) (after : before l t ≡ true) (until : before t u ≡ t
   moves b = AllFit (cond b [] ((x1 -ℚ x0) ∷ ((x1 -ℚ x0) *ℚ part_gone l u t) ∷ (x0 +ℚ (x1 -ℚ x0) *ℚ part_gone l u t) ∷ []))
 
   line_inside : line_parts x0 x1 l u t ≡ cond (same x0 x1) [] (inner_parts x0 x1 l u t)
-  line_inside = rw (after_start l t after, before_end t u until) refl
+  line_inside = rw (before-differ-back l t after, before-differ t u until) refl
 
   inner_by : (b : Bool) → AllFit (parts_gone l u t) → moves b → inner b
   inner_by true h k = tt

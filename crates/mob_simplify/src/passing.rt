@@ -195,10 +195,9 @@ pub fn passes(p: &Break, between: &[Break], n: &Break, limit: &Limit) -> Result<
 {
     let reach = reach_of(p, n);
     for b in between {
-        match is_near(p, n, &reach, b, limit) {
-            Ok(true) => {}
-            Ok(false) => return Ok(false),
-            Err(passed) => return Err(passed),
+        let near = is_near(p, n, &reach, b, limit)?;
+        if !near {
+            return Ok(false);
         }
     }
     Ok(true)

@@ -41,10 +41,7 @@ pub fn thin(
     ensures first { OnRuns d.now a.now (λ runs. IsJudged (flat_map (tests_of_run d.now) runs) result) }
 {
     let limit = with_square(d);
-    let legs = match walked(alloc, a.slices(), &limit) {
-        Ok(legs) => legs,
-        Err(fault) => return Err(fault),
-    };
+    let legs = walked(alloc, a.slices(), &limit)?;
     match normal(alloc, legs) {
         Ok(Some(thin)) => Ok(thin),
         Ok(None) => unreachable!(),

@@ -90,10 +90,7 @@ pub fn roots_of(alloc: Global, span: &Span, functions: &[Ends]) -> Result<Vec<Fr
     let _lower = span.lower();
     let mut out = Vec::new(alloc);
     for f in functions {
-        match push_root(&mut out, span, f) {
-            Ok(()) => {}
-            Err(fault) => return Err(fault),
-        }
+        push_root(&mut out, span, f)?;
     }
     Ok(out)
 }

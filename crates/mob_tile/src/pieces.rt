@@ -74,22 +74,10 @@ fn edges_of(
     let low = grid.tile_at(range, &least(from, to), slice.span.lower());
     let high = grid.tile_at(range, &greatest(from, to), slice.span.upper());
     let size = grid.size();
-    let mut functions = match differences(alloc, size, &from.x, &to.x, low.i, high.i) {
-        Ok(functions) => functions,
-        Err(fault) => return Err(fault),
-    };
-    let more = match differences(alloc, size, &from.y, &to.y, low.j, high.j) {
-        Ok(more) => more,
-        Err(fault) => return Err(fault),
-    };
-    let times = match times(alloc, grid.width(), low.k, high.k) {
-        Ok(times) => times,
-        Err(fault) => return Err(fault),
-    };
-    match append(&mut functions, more) {
-        Ok(()) => {}
-        Err(_) => return Err(Fault::NoMemory),
-    }
+    let mut functions = differences(alloc, size, &from.x, &to.x, low.i, high.i)?;
+    let more = differences(alloc, size, &from.y, &to.y, low.j, high.j)?;
+    let times = times(alloc, grid.width(), low.k, high.k)?;
+    append(&mut functions, more)?;
     Ok(Edges { functions, times })
 }
 
@@ -100,10 +88,8 @@ fn cuts_on(alloc: Global, span: &Span, edges: Edges) -> Result<Vec<Frac>, Fault<
 {
     let Edges { functions, times } = edges;
     let mut cuts = roots_of(alloc, span, functions.as_slice())?;
-    match append(&mut cuts, times) {
-        Ok(()) => Ok(cuts),
-        Err(_) => Err(Fault::NoMemory),
-    }
+    append(&mut cuts, times)?;
+    Ok(cuts)
 }
 
 // The cells of a slice, each of which is in one tile.
@@ -122,10 +108,7 @@ fn cells_of(
     let _width = grid.width();
     let mut cuts = cuts;
     sort_instants(&mut cuts)?;
-    match cells_at(alloc, &slice.span, cuts.as_slice()) {
-        Ok(cells) => Ok(cells),
-        Err(error) => Err(error),
-    }
+    cells_at(alloc, &slice.span, cuts.as_slice())
 }
 
 // The piece of a slice on a cell within one tile.
@@ -141,10 +124,7 @@ fn piece_on(
     requires one { HasOneTile grid.now slice.now cell.now }
     ensures piece { IsMadeBy F1 (at_ends (slice_parts plane_parts_of slice.now) cell.now) (λ q. HasValues plane_value_of (λ c. c.from) (λ c. c.to) (slice_value plane_value_of slice.now) cell.now q.slice × IsInItsTile grid.now q) result }
 {
-    let part = match cut(alloc, slice, cell) {
-        Ok(part) => part,
-        Err(fault) => return Err(fault),
-    };
+    let part = cut(alloc, slice, cell)?;
     let tile = grid.tile_at(
         range,
         &least(&part.course.from, &part.course.to),
@@ -187,10 +167,7 @@ fn pieces_at(
 {
     let mut out = Vec::new(alloc);
     for cell in cells {
-        match push_piece(alloc, &mut out, grid, range, slice, cell) {
-            Ok(()) => {}
-            Err(fault) => return Err(fault),
-        }
+        push_piece(alloc, &mut out, grid, range, slice, cell)?;
     }
     Ok(out)
 }
@@ -230,14 +207,8 @@ pub fn pieces_of(
 {
     let mut out = Vec::new(alloc);
     for slice in slices {
-        let more = match on_slice(alloc, grid, range, slice) {
-            Ok(more) => more,
-            Err(fault) => return Err(fault),
-        };
-        match append(&mut out, more) {
-            Ok(()) => {}
-            Err(_) => return Err(Fault::NoMemory),
-        }
+        let more = on_slice(alloc, grid, range, slice)?;
+        append(&mut out, more)?;
     }
     Ok(out)
 }

@@ -1,5 +1,5 @@
-use Rattle.std.{specs.Prelude.{count_by, sum_by}, proofs.Common.{ap, ◌∙◌, sym, subst, ◌+◌, not, []}}
-use Rattle.mob_rtree_nodes.{specs.Tree.{Kid, is_fit, entries_sum}, specs.Builds.{IsForest, leaf_sum}, proofs.Builds.{entry_fits, fits_arranged, forest_start, built_same, on_ok}}
+use Rattle.std.{specs.Prelude.{count_by, sum_by}, proofs.Common.{ap, ◌∙◌, sym, subst, ◌+◌, not, []}, proofs.lemmas.Result.{on_ok_weaker}}
+use Rattle.mob_rtree_nodes.{specs.Tree.{Kid, is_fit, entries_sum}, specs.Builds.{IsForest, leaf_sum}, proofs.Builds.{entry_fits, fits_arranged, forest_start, built_same}}
 use Rattle.mob_rtree_nodes.proofs.whole.raise_entries.Goals as goal
 
 pub raise-requires-clause-forest : goal.raise-requires-clause-forest
@@ -11,7 +11,7 @@ raise-requires-clause-forest c =
 
 pub returns-clause-entries : goal.returns-clause-entries
 returns-clause-entries c =
-    on_ok c.raise.result _ _
+    on_ok_weaker c.raise.result
     (λ sums. built_same c.args.entries.now c.as_slice-2.result.now c.raise.new.nodes.items
     (λ f. ap (sum_by f) c.as_slice-2.ensures.value ∙ c.in_ok-near.ensures.kids f ∙ ap (sum_by f) c.as_slice.ensures.value ∙ ap (sum_by f) c.in_ok-kids.ensures.kids)
     (λ g. sums g ∙ ap (λ ps. entries_sum g ps + leaf_sum g c.as_slice-2.result.now 0) c.requires.none))

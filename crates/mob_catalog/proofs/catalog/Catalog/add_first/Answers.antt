@@ -4,10 +4,10 @@ use Rattle.mob_catalog.{proofs.FirstRows.{all_at_once, kept_all}, proofs.Togethe
 use Rattle.mob_catalog.proofs.catalog.Catalog.add_first.Goals as goal
 
 before : goal.After-set_live → Catalogue
-before c = let i = c.self.inside in catalogue_of i.store.tables i.store.consts i.heads.items i.indexed.items (index_names_of i.indexes.items)
+before c = let i = c.self.inside in catalogue_of i.store.tables i.store.consts i.heads.items i.indexed (index_names_of i.indexes.items)
 
 after : goal.After-set_live → Catalogue
-after c = let i = c.self.inside in catalogue_of c.set_rows.new.tables i.store.consts c.set_live.new.heads.items i.indexed.items (index_names_of i.indexes.items)
+after c = let i = c.self.inside in catalogue_of c.set_rows.new.tables i.store.consts c.set_live.new.heads.items i.indexed (index_names_of i.indexes.items)
 
 unused : (c : goal.After-set_live) → IsUnused c.args.table (before c)
 unfolding before

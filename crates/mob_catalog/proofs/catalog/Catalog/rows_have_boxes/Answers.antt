@@ -5,5 +5,5 @@ use Rattle.mob_catalog.proofs.catalog.Catalog.rows_have_boxes.Goals as goal
 pub returns : goal.returns
 returns c =
     let held = c.self.inside in
-    let kept : Catalogue = record { store = held.store; heads = held.heads.items; indexed = held.indexed.items; index_names = index_names_of held.indexes.items } in
+    let kept : Catalogue = record { store = held.store; heads = held.heads.items; indexed = held.indexed; index_names = index_names_of held.indexes.items } in
     record { boxes = subst HasRowBoxes c.self.view_is (subst (AllByRecursion (HasBoxesOn kept)) c.self.invariant.on (row_boxes kept held.indexes.items c.self.invariant.held)) }
