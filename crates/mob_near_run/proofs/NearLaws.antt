@@ -1,14 +1,13 @@
 -- mobnear is a program over a table of trips, and its faults end a run.
-use Rattle.std.{specs.Prelude.{ℕ, List, refl}, proofs.Common.{sym, subst}}
+use Rattle.std.specs.Prelude.{ℕ, List, refl}
 use Rattle.mob_value.specs.declared.value.Value.{Value}
-use Rattle.mob_list.{specs.Faults.{OnCause}, specs.declared.fault.Fault.{Fault}, specs.declared.fault.Fault.TheVariants.{Because, NoMemory}}
+use Rattle.mob_list.{specs.Faults.{OnCause}, specs.declared.fault.Fault.{Fault}}
 use Rattle.mob_slice.specs.declared.formula.Formula.{Formula}
-use Rattle.mob_trips.{specs.Endings.{EndsOn}, specs.Program.{IsTripsProgram}, specs.declared.ending.TripsEnding.{TripsEnding}}
-use Rattle.mob_near_run.{specs.NearAnswers.{IsRowPassed}, specs.NearProgram.{EndsAt, near_program}, specs.declared.settings.NearSettings.{NearSettings}, proofs.Targets.{near_one}}
+use Rattle.mob_trips.{specs.Endings.{EndsAt, EndsOn}, specs.Program.{IsTripsProgram}, specs.declared.ending.TripsEnding.{TripsEnding}, proofs.Whole.{ends_at}}
+use Rattle.mob_near_run.{specs.NearAnswers.{IsRowPassed}, specs.NearProgram.{near_program}, specs.declared.settings.NearSettings.{NearSettings}, proofs.Targets.{near_one}}
 
 pub fault_ends : (settings : NearSettings) (rows : List (List Value)) (fault : Fault (ℕ × Formula)) (ending : TripsEnding) → EndsAt fault ending → OnCause (λ f. IsRowPassed settings rows f.0 f.1) fault → EndsOn near_program settings rows ending
-fault_ends settings rows (Because f) ending e h = subst (λ z. EndsOn near_program settings rows z) (sym e) (f.0, refl, h)
-fault_ends settings rows NoMemory ending e h = subst (λ z. EndsOn near_program settings rows z) (sym e) tt
+fault_ends settings rows = ends_at near_program settings rows (λ f. IsRowPassed settings rows f.0 f.1) (λ f h. (f.0, refl, h))
 
 pub is_program : IsTripsProgram near_program
 is_program = record {

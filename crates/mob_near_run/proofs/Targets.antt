@@ -9,9 +9,7 @@ use Rattle.mob_arguments.{specs.Arguments.{IsCount, IsRequired, option_value}, p
 use Rattle.mob_near_run.{specs.CommandLine.{NearSays, near_command, target_type, target_value}, specs.declared.settings.NearSettings.{NearSettings}, specs.declared.settings.Target.{Target}}
 use Rattle.mob_near_run.specs.declared.settings.Target.TheVariants.{Moving, Fixed}
 use Rattle.mob_ast.specs.declared.types.SqlType.TheVariants as sql
-
-known : (v : Value) → ◌≡◌ {A = Result Value ReadText} (Ok v) (Err NoMemory) → ⊥
-known v e = absurd cc
+use Rattle.mob_catalog.proofs.OneTable.{value_known}
 
 fault_known : (f : ReadText) → f ≢ NoMemory → ◌≡◌ {A = Result Value ReadText} (Err f) (Err NoMemory) → ⊥
 fault_known f ne e = ne cc
@@ -21,7 +19,7 @@ apart f v e = absurd cc
 
 pub refuses : {E : Type 0} (ty : SqlType) (day : ℤ) (text : Text) (fault : ReadText) (r : Result (Option Target) E) → SaysAs ty day text (Err fault) → IfOk r (λ o. (o ≡ None) × (fault ≢ NoMemory))
     → IfOk r (λ o. IsNone o → (t : Target) → SaysAs ty day text (Ok (target_value t)) → ⊥)
-refuses ty day text fault (Ok o) h k = λ none t says. apart fault (target_value t) (one_sql_reading ty day text (Err fault) (Ok (target_value t)) (fault_known fault k.1) (known (target_value t)) h says)
+refuses ty day text fault (Ok o) h k = λ none t says. apart fault (target_value t) (one_sql_reading ty day text (Err fault) (Ok (target_value t)) (fault_known fault k.1) (value_known (target_value t)) h says)
 refuses ty day text fault (Err e) h k = tt
 
 pub says_none : {E : Type 0} (P : Target → Type 0) (Q : Type 0) (r : Result (Option Target) E) → IfOk r (λ o. (o ≡ None) × Q) → IfOk r (λ o. IfSome o P)
@@ -63,5 +61,5 @@ near_one words a b h k =
     let t = one_text (option_value near_command (codes "to") words) h.text k.text h.to k.to in
     let s = subst (λ d. SaysAs (target_type h.text) d h.text (Ok (target_value a.to))) e h.says in
     let u = subst (λ x. SaysAs (target_type x) b.epoch x (Ok (target_value b.to))) (sym t) k.says in
-    let v = ok_same (target_value a.to) (target_value b.to) (one_sql_reading (target_type h.text) b.epoch h.text (Ok (target_value a.to)) (Ok (target_value b.to)) (known (target_value a.to)) (known (target_value b.to)) s u) in
+    let v = ok_same (target_value a.to) (target_value b.to) (one_sql_reading (target_type h.text) b.epoch h.text (Ok (target_value a.to)) (Ok (target_value b.to)) (value_known (target_value a.to)) (value_known (target_value b.to)) s u) in
     same_settings a b (one_row_count (option_value near_command (codes "k") words) a.k b.k h.count k.count) e (same_target a.to b.to v)

@@ -2,11 +2,8 @@
 use Rattle.std.specs.Prelude.{◌≡◌, ◌∷◌, ℕ, List, [], codes}
 use Rattle.mob_slice.specs.declared.formula.Formula.{Formula}
 use Rattle.mob_outside.specs.EndsSeen.{StreamSeen}
-use Rattle.mob_list.specs.declared.fault.Fault.{Fault}
 use Rattle.mob_trips.{specs.Endings.{IsTripsEnding}, specs.Program.{ProgramOf}, specs.Seen.{trips_seen}, specs.declared.ending.TripsEnding.{TripsEnding}}
 use Rattle.mob_near_run.{specs.CommandLine.{NearSays}, specs.NearAnswers.{NearWrites, IsRowPassed}, specs.declared.settings.NearSettings.{NearSettings}}
-use Rattle.mob_list.specs.declared.fault.Fault.TheVariants as fault
-use Rattle.mob_trips.specs.declared.ending.TripsEnding.TheVariants as end
 
 -- It writes the nearest rows. A row whose approach has a part that does not fit may stop it; if
 -- there is no such row, it has an answer. No row exceeds a limit.
@@ -19,11 +16,6 @@ near_program = record {
   limits = λ settings rows names. ⊥;
   fits = λ settings rows. (row : ℕ) (formula : Formula) → IsRowPassed settings rows row formula → ⊥;
 }
-
--- the ending for a fault: that row with its formula, or out of memory
-abbrev pub EndsAt : Fault (ℕ × Formula) → TripsEnding → Type 0
-EndsAt (fault.Because f) ending = ending ≡ end.Overflow (f.0 ∷ []) f.1
-EndsAt fault.NoMemory ending = ending ≡ end.NoMemory
 
 -- the ending of a run on these streams, if its arguments give these settings
 abbrev pub NearEnds : NearSettings → StreamSeen → StreamSeen → TripsEnding → Type 0

@@ -10,7 +10,6 @@ ghost use Rattle.mob_near_run.specs.NearAnswers.{IsRowPassed, NearWrites, target
 use crate::settings::{NearSettings, Target};
 use mob_frac::Frac;
 use mob_knn::{NearFault, index_of, nearest};
-use mob_list::fault::Fault;
 use mob_list::items::Items;
 use mob_list::steps::Steps;
 use mob_list::text::Text;
@@ -66,10 +65,8 @@ fn found(
     ensures nearest { IfOk result (λ rs. AreNearest trips.now (target_operand to.now) k rs) }
     ensures passed { IfErr result (OnCause (λ f. IsPassed trips.now (target_operand to.now) k f.0 f.1)) }
 {
-    match index_of(alloc, trips) {
-        Ok(tree) => nearest_alone::<Brand>(alloc, &tree, trips, to, k, Blank::new(1)),
-        Err(_) => Err(Fault::NoMemory),
-    }
+    let tree = index_of(alloc, trips)?;
+    nearest_alone::<Brand>(alloc, &tree, trips, to, k, Blank::new(1))
 }
 
 // An approach, as a field.
@@ -149,10 +146,7 @@ pub fn near_text(
     ensures writes { IfOk result (λ t. NearWrites settings.now rows t.items) }
     ensures passed { IfErr result (OnCause (λ f. IsRowPassed settings.now rows f.0 f.1)) }
 {
-    let (ids, trips) = match split_rows(alloc, rows) {
-        Ok(split) => split,
-        Err(_) => return Err(Fault::NoMemory),
-    };
+    let (ids, trips) = split_rows(alloc, rows)?;
     let found = found(alloc, trips.as_slice(), &settings.to, settings.k)?;
     Ok(text_of(alloc, ids.as_slice(), found.as_slice(), &settings.epoch)?)
 }

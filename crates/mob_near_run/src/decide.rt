@@ -3,30 +3,14 @@ ghost use Rattle.std.specs.Prelude.{map, string_bytes};
 ghost use Rattle.mob_outside.specs.EndsSeen.{stream_seen};
 ghost use Rattle.mob_trips.specs.Endings.{IsTripsEnding};
 ghost use Rattle.mob_trips.specs.Seen.{trips_seen};
-ghost use Rattle.mob_near_run.specs.NearProgram.{EndsAt, NearEnds, near_program};
+ghost use Rattle.mob_near_run.specs.NearProgram.{NearEnds, near_program};
 
 use crate::answer::near_text;
 use crate::reading::settings;
 use crate::settings::NearSettings;
-use mob_knn::NearFault;
-use mob_list::fault::Fault;
 use mob_outside::{Sink, Source};
-use mob_trips::{TripsEnding, put_text, read_trips};
-use mob_tuples::Tuple;
+use mob_trips::{TripsEnding, ending_of, put_text, read_trips};
 use std::alloc::Global;
-
-// The ending for a fault of the search.
-fn ending_of(fault: NearFault) -> TripsEnding
-    ensures ending { EndsAt fault result }
-{
-    match fault {
-        Fault::Because((row, formula)) => TripsEnding::Overflow {
-            rows: Tuple::new().with(row),
-            formula,
-        },
-        Fault::NoMemory => TripsEnding::NoMemory,
-    }
-}
 
 // Reads the table and writes the nearest rows.
 fn answer_table<S: Source, K: Sink>(

@@ -1,5 +1,5 @@
 -- A row fits or has a part that does not, and the program is exact.
-use Rattle.std.{specs.Prelude.{◌≡◌, ◌∷◌, [], ℕ, List, Some, None, refl}, specs.List.{AllByRecursion, flat_map}, proofs.Common.{subst, inl, inr}}
+use Rattle.std.{specs.Prelude.{◌∷◌, [], ℕ, List, Some, None, refl}, specs.List.{AllByRecursion, flat_map}, proofs.lemmas.Option.{none-some}, proofs.Common.{subst, inl, inr}}
 use Rattle.mob_list.proofs.Each.{one_of}
 use Rattle.mob_ratio.specs.Ratio.{Ratio}
 use Rattle.mob_slice.{specs.Entries.{Entry, IsFirst}, specs.declared.formula.Formula.{Formula}, proofs.Firsts.{one_first}}
@@ -9,11 +9,8 @@ use Rattle.mob_trips.specs.Program.{IsTripsProgram, IsExactWith}
 use Rattle.mob_thin_run.{specs.ThinProgram.{thin_program}, specs.declared.settings.ThinSettings.{ThinSettings}, specs.ThinRows.{OnTests, RowTestsFit, RowTestPasses, PassesFirst}}
 use Rattle.mob_thin_run.proofs.OneSetting.{one_setting}
 
-some_none : (f : Formula) → None ≡ Some f → ⊥
-some_none f e = absurd cc
-
 first_apart : (tests : List Entry) (f : Formula) → IsFirst tests None → IsFirst tests (Some f) → ⊥
-first_apart tests f h k = some_none f (one_first tests None (Some f) h k)
+first_apart tests f h k = none-some f (one_first tests None (Some f) h k)
 
 tests_apart : (d : Ratio) (v : Value) (f : Formula) → OnTests d v (λ tests. IsFirst tests None) → OnTests d v (λ tests. IsFirst tests (Some f)) → ⊥
 tests_apart d (MovingPoint slices) f h k =

@@ -4,7 +4,7 @@ use Rattle.std.{proofs.Common.{arith, ap, sym, ◌∙◌, subst, inl, inr, take,
 use Rattle.std.proofs.lemmas.Option.{none-some, same_Some}
 use Rattle.csv.specs.Records.{AllText}
 use Rattle.mob_list.{specs.Faults.{OnCause, fault_at}, specs.declared.fault.Fault.{Fault}, specs.declared.fault.Fault.TheVariants.{Because, NoMemory}, proofs.Each.{each_both}}
-use Rattle.mob_list.proofs.Entries.{drop_read}
+use Rattle.mob_list.proofs.Entries.{drop_read, zip_more}
 use Rattle.mob_ratio.specs.Ratio.{Ratio}
 use Rattle.mob_slice.{specs.Entries.{IsFirst}, specs.declared.formula.Formula.{Formula}}
 use Rattle.mob_value.specs.declared.value.Value.{Value}
@@ -12,19 +12,13 @@ use Rattle.mob_literal.specs.Fields.{field_text}
 use Rattle.mob_records.specs.AnswerText.{record_line}
 use Rattle.mob_thin_run.specs.ThinRows.{HasText, IsThinRecord, IsThinText, AreThinRows, OnTests, RowTestsFit, RowTestPasses, PassesFirst}
 
-zip_push : {A B : Type 0} (R : A → B → Type 0) (xs : List A) (ys : List B) (x : A) (y : B) → AllZip R xs ys → R x y → AllZip R (xs ++ x ∷ []) (ys ++ y ∷ [])
-zip_push R [] [] x y h k = (k, tt)
-zip_push R [] (z ∷ ys) x y h k = absurd h
-zip_push R (w ∷ xs) [] x y h k = absurd h
-zip_push R (w ∷ xs) (z ∷ ys) x y h k = (h.0, zip_push R xs ys x y h.1 k)
-
 -- at the place i of a list
 module _ {A : Type 0} (xs : List A) (i : ℕ) (x : A) (lt : i < length xs) (is : x ≡ get_or xs i x) where
   more : take (i + 1) xs ≡ take i xs ++ x ∷ []
   more = take_more xs i x lt ∙ ap (λ z. take i xs ++ z ∷ []) (sym is)
 
-  pub zip_more : {B : Type 0} (R : A → B → Type 0) (ys next : List B) (y : B) → next ≡ ys ++ y ∷ [] → AllZip R (take i xs) ys → R x y → AllZip R (take (i + 1) xs) next
-  zip_more R ys next y e h k = subst (λ z. AllZip R z next) (sym more) (subst (λ z. AllZip R (take i xs ++ x ∷ []) z) (sym e) (zip_push R (take i xs) ys x y h k))
+  pub zip_next : {B : Type 0} (R : A → B → Type 0) (ys next : List B) (y : B) → next ≡ ys ++ y ∷ [] → AllZip R (take i xs) ys → R x y → AllZip R (take (i + 1) xs) next
+  zip_next R ys next y e h k = subst (λ z. AllZip R (take (i + 1) xs) z) (sym e) (subst (λ z. AllZip R z (ys ++ y ∷ [])) (sym more) (zip_more R (take i xs) ys x y h k))
 
   pub all_more : (P : A → Type 0) → AllByRecursion P (take i xs) → P x → AllByRecursion P (take (i + 1) xs)
   all_more P h k = subst (AllByRecursion P) (sym more) (each_both P (take i xs) (x ∷ []) h (k, tt))

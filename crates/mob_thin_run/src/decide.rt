@@ -4,28 +4,12 @@ ghost use Rattle.mob_outside.specs.EndsSeen.{stream_seen};
 ghost use Rattle.mob_trips.specs.Endings.{IsTripsEnding};
 ghost use Rattle.mob_trips.specs.Seen.{trips_seen};
 ghost use Rattle.mob_thin_run.specs.ThinProgram.{thin_program};
-ghost use Rattle.mob_thin_run.specs.RowFaults.{EndsWith};
 
 use crate::command::settings;
-use crate::rows::{RowFault, thin_text};
-use mob_list::fault::Fault;
+use crate::rows::thin_text;
 use mob_outside::{Sink, Source};
-use mob_trips::{TripsEnding, put_text, read_trips};
-use mob_tuples::Tuple;
+use mob_trips::{TripsEnding, ending_of, put_text, read_trips};
 use std::alloc::Global;
-
-// The ending for a fault of a row.
-fn ending_of(fault: RowFault) -> TripsEnding
-    ensures ending { EndsWith fault result }
-{
-    match fault {
-        Fault::Because((row, formula)) => TripsEnding::Overflow {
-            rows: Tuple::new().with(row),
-            formula,
-        },
-        Fault::NoMemory => TripsEnding::NoMemory,
-    }
-}
 
 /// Judges the arguments, reads the table, simplifies its trips and writes the text. Returns the
 /// ending.

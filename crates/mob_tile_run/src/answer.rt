@@ -12,7 +12,6 @@ use crate::fields::{PairPrinter, pair_names};
 use crate::parts::parts_text;
 use crate::settings::TileSettings;
 use mob_frac::Frac;
-use mob_list::fault::Fault;
 use mob_outside::Gate;
 use mob_pairs::{PairFault, pairs};
 use mob_records::counted_text_by;
@@ -107,9 +106,6 @@ pub fn tile_text<R: Threads + Sync, G: Gate>(
     ensures writes { IfOk result (λ t. TileWrites settings.now (map id_of rows) (map trip_of rows) t.items) }
     ensures fault { IfErr result (TileFails settings.now (map trip_of rows)) }
 {
-    let (ids, trips) = match split_rows(alloc, rows) {
-        Ok(split) => split,
-        Err(_) => return Err(Fault::NoMemory),
-    };
+    let (ids, trips) = split_rows(alloc, rows)?;
     answer(rt, alloc, settings, ids.as_slice(), trips.as_slice(), gate)
 }

@@ -82,14 +82,8 @@ fn part_records(
     let mut records = Items::new(alloc);
     let mut row = 0u32;
     for trip in trips {
-        let parts = match split_row(alloc, grid, trip, row) {
-            Ok(parts) => parts,
-            Err(fault) => return Err(fault),
-        };
-        match push_parts(alloc, &mut records, ids, row, parts, epoch) {
-            Ok(()) => {}
-            Err(_) => return Err(Fault::NoMemory),
-        }
+        let parts = split_row(alloc, grid, trip, row)?;
+        push_parts(alloc, &mut records, ids, row, parts, epoch)?;
         row = row + 1;
     }
     Ok(records)

@@ -1,11 +1,14 @@
 -- What was read is the table, and the cause of the ending.
-use Rattle.std.{specs.Prelude.{◌≡◌, ◌≤◌, ℕ, List, Option, Some}, specs.Io.KnownBytes.{IsAtEnd, Keeps}, proofs.Common.{arith, sym, subst, inl, inr}, proofs.Math.Nat.{eq-or-lt_of_le}}
+use Rattle.std.{specs.Prelude.{◌≡◌, ◌≤◌, ℕ, List, [], ◌∷◌, Option, Some}, specs.Io.KnownBytes.{IsAtEnd, Keeps}, proofs.Common.{arith, refl, sym, subst, inl, inr}, proofs.KnownBytes.{Keeps-refl}, proofs.Math.Nat.{eq-or-lt_of_le}}
 use Rattle.mob_value.specs.declared.value.Value.{Value}
 use Rattle.mob_ast.specs.declared.refusal.Kind.{Kind}
 use Rattle.mob_catalog.{specs.Faults.{file_fault}, specs.declared.fault.FileFault.{FileFault}, specs.TableFile.{file_limit}}
-use Rattle.mob_outside.{specs.Streams.{ReadsTo, ReadsPart}, proofs.Known.{read_whole, read_within}}
-use Rattle.mob_trips.{specs.Endings.{IsTripsCause, IsTripsEnding, IsTableRefused, EndsOn}, specs.Program.{ProgramOf, OnTable, OnRows}}
-use Rattle.mob_trips.{specs.Reading.{IsTripTableRefused, IsTripTable, ReadsTable, ReadsRefused, EndsUnread, PutsText}, specs.Seen.{TripsSeen}, specs.declared.ending.TripsEnding.{TripsEnding}}
+use Rattle.mob_outside.{specs.Streams.{ReadsTo, ReadsPart}, specs.EndsSeen.{stream_seen}, proofs.Known.{read_whole, read_within, reads_none}}
+use Rattle.mob_trips.{specs.Endings.{IsTripsCause, IsTripsEnding, IsTableRefused, EndsAt, EndsOn}, specs.Program.{ProgramOf, IsUntaken, OnTable, OnRows}}
+use Rattle.mob_trips.{specs.Reading.{IsTripTableRefused, IsTripTable, ReadsTable, ReadsRefused, EndsUnread, PutsText}, specs.Seen.{TripsSeen, trips_seen}, specs.declared.ending.TripsEnding.{TripsEnding}}
+use Rattle.mob_list.{specs.Faults.{OnCause}, specs.declared.fault.Fault.{Fault}}
+use Rattle.mob_slice.specs.declared.formula.Formula.{Formula}
+use Rattle.mob_list.specs.declared.fault.Fault.TheVariants as fault
 use Rattle.mob_trips.specs.declared.ending.TripsEnding.TheVariants.{Done, Usage, ReadFault, WriteFault, NoMemory, TableRefused, RowsRefused, Overflow}
 
 module _ {Settings : Type 0} (p : ProgramOf Settings) (s : TripsSeen) (settings : Settings) (says : p.says s.words settings)
@@ -75,3 +78,20 @@ module _ {Settings : Type 0} (p : ProgramOf Settings) (s : TripsSeen) (settings 
     ends_put text (TableRefused kind rec field) w h = absurd h
     ends_put text (RowsRefused names) w h = absurd h
     ends_put text (Overflow names formula) w h = absurd h
+
+-- a row of which this holds stops the run, with its formula
+pub ends_at : {Settings : Type 0} (p : ProgramOf Settings) (settings : Settings) (rows : List (List Value)) (Passes : ℕ × Formula → Type 0) → ((f : ℕ × Formula) → Passes f → p.stops settings rows (f.0 ∷ []) f.1)
+    → (fault : Fault (ℕ × Formula)) (ending : TripsEnding) → EndsAt fault ending → OnCause Passes fault → EndsOn p settings rows ending
+ends_at p settings rows Passes stops (fault.Because f) ending e h = subst (λ z. EndsOn p settings rows z) (sym e) (stops f h)
+ends_at p settings rows Passes stops fault.NoMemory ending e h = subst (λ z. EndsOn p settings rows z) (sym e) tt
+
+-- the arguments are not accepted, and both streams are as before
+pub ends_untaken : {Settings S K : Type 0} (p : ProgramOf Settings) (words : List (List ℕ)) (left : S → Option (List ℕ)) (faults : S → ℕ) (table : S) (held : K → Option (List ℕ)) (failures : K → ℕ) (out : K) → IsUntaken p words
+    → IsTripsEnding p Usage (trips_seen words (stream_seen left faults table table) (stream_seen held failures out out))
+ends_untaken p words left faults table held failures out untaken = record {
+  cause = (untaken, Keeps-refl (left table), Keeps-refl (held out));
+  usage = λ u. inl refl;
+  read = reads_none file_limit (left table);
+  read_later = omega arith;
+  put_later = omega arith;
+}

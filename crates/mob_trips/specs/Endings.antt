@@ -1,11 +1,13 @@
 -- The cause of each ending.
-use Rattle.std.{specs.Prelude.{◌≡◌, ◌⊎◌, ◌≤◌, ◌+◌, ℕ, List, length}, specs.Io.KnownBytes.{Appends, Consumes, IsAtEnd, Keeps}}
+use Rattle.std.{specs.Prelude.{◌≡◌, ◌⊎◌, ◌≤◌, ◌+◌, ℕ, List, [], ◌∷◌, length}, specs.Io.KnownBytes.{Appends, Consumes, IsAtEnd, Keeps}}
 use Rattle.mob_ast.specs.declared.refusal.Kind.{Kind}
 use Rattle.mob_slice.specs.declared.formula.Formula.{Formula}
 use Rattle.mob_value.specs.declared.value.Value.{Value}
 use Rattle.mob_catalog.{specs.Faults.{file_fault}, specs.TableFile.{file_limit}}
 use Rattle.mob_outside.{specs.Faults.{Rose}, specs.Streams.{PutsPart, ReadsPart}}
 use Rattle.mob_trips.{specs.Program.{ProgramOf, IsUntaken, OnTable, OnRows}, specs.Reading.{IsTripTableRefused}, specs.Seen.{TripsSeen}, specs.declared.ending.TripsEnding.{TripsEnding}}
+use Rattle.mob_list.specs.declared.fault.Fault.{Fault}
+use Rattle.mob_list.specs.declared.fault.Fault.TheVariants as fault
 use Rattle.mob_trips.specs.declared.ending.TripsEnding.TheVariants.{Done, Usage, ReadFault, WriteFault, NoMemory, TableRefused, RowsRefused, Overflow}
 
 module _ {Settings : Type 0} (p : ProgramOf Settings) where
@@ -70,3 +72,8 @@ module _ {Settings : Type 0} (p : ProgramOf Settings) where
   EndsOn settings rows (Overflow names formula) = p.stops settings rows names formula
   EndsOn settings rows NoMemory = Unit {0}
   EndsOn settings rows ending = ⊥
+
+-- the ending for a fault of a row: that row with its formula, or out of memory
+abbrev pub EndsAt : Fault (ℕ × Formula) → TripsEnding → Type 0
+EndsAt (fault.Because f) ending = ending ≡ Overflow (f.0 ∷ []) f.1
+EndsAt fault.NoMemory ending = ending ≡ NoMemory

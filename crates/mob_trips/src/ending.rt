@@ -1,7 +1,9 @@
 //! The endings of a run.
 ghost use Rattle.std.specs.Prelude.{◌≡◌};
+ghost use Rattle.mob_trips.specs.Endings.{EndsAt};
 
 use mob_ast::Kind;
+use mob_list::fault::Fault;
 use mob_slice::Formula;
 use mob_tuples::Tuple;
 
@@ -59,5 +61,18 @@ impl TripsEnding {
             TripsEnding::RowsRefused { .. } => 6,
             TripsEnding::Overflow { .. } => 8,
         }
+    }
+}
+
+/// The ending for a fault of a row: `Overflow` of the row with its formula, or `NoMemory`.
+pub fn ending_of(fault: Fault<(u32, Formula)>) -> TripsEnding
+    ensures ending { EndsAt fault result }
+{
+    match fault {
+        Fault::Because((row, formula)) => TripsEnding::Overflow {
+            rows: Tuple::new().with(row),
+            formula,
+        },
+        Fault::NoMemory => TripsEnding::NoMemory,
     }
 }

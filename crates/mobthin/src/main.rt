@@ -3,9 +3,7 @@
 
 use mob_outside::{StdSink, StdSource};
 use mob_thin_run::{run_thin, tell_thin};
-use mob_trips::TripsEnding;
-use std::env;
-use std::io::ErrorKind;
+use mob_trips::arguments;
 use std::process::ExitCode;
 
 fn main(rt: HostRuntime) -> ExitCode {
@@ -13,12 +11,7 @@ fn main(rt: HostRuntime) -> ExitCode {
     let mut table = StdSource::new(rt.stdin());
     let mut out = StdSink::new(rt.stdout());
     let mut notes = StdSink::new(rt.stderr());
-    let words: Result<Vec<String>, TripsEnding> = match env::args(&rt) {
-        Ok(args) => args.collect(alloc).map_err(|_| TripsEnding::NoMemory),
-        Err(error) if error.kind() == ErrorKind::OutOfMemory => Err(TripsEnding::NoMemory),
-        Err(_) => Err(TripsEnding::Usage),
-    };
-    let status = match words {
+    let status = match arguments(&rt) {
         Ok(words) => run_thin(alloc, &words, &mut table, &mut out, &mut notes),
         Err(ending) => {
             tell_thin(&mut notes, &ending);

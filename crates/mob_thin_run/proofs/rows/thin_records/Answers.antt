@@ -1,6 +1,6 @@
 use Rattle.std.proofs.Common.{rules, arith, refl}
-use Rattle.mob_thin_run.{specs.ThinRows.{IsThinRecord, RowTestsFit}, proofs.Zips.{zip_more, all_more, row_fault_at, row_found}}
 use Rattle.mob_thin_run.proofs.rows.thin_records.Goals as goal
+use Rattle.mob_thin_run.{specs.ThinRows.{IsThinRecord, RowTestsFit}, proofs.Zips.{zip_next, all_more, row_fault_at, row_found}}
 
 pub returns-in-Err-clause-first : goal.returns-in-Err-clause-first
 returns-in-Err-clause-first c =
@@ -16,6 +16,6 @@ loop-row-preserved c =
     let here = row_found c.args.rows.now at.number row c.in-Some.ensures.row in
     record {
       within = let lt = here.0 in omega (arith, lt);
-      made = zip_more c.args.rows.now at.number row here.0 here.1 (IsThinRecord c.args.d.now c.args.epoch.now) at.records c.push.new.self c.in-Ok.fields (search rules) at.invariant.made c.in-Ok.ensures.fields;
+      made = zip_next c.args.rows.now at.number row here.0 here.1 (IsThinRecord c.args.d.now c.args.epoch.now) at.records c.push.new.self c.in-Ok.fields (search rules) at.invariant.made c.in-Ok.ensures.fields;
       fit = all_more c.args.rows.now at.number row here.0 here.1 (RowTestsFit c.args.d.now) at.invariant.fit c.in-Ok.ensures.fit;
     }
