@@ -17,7 +17,7 @@ ghost use Rattle.mob_clip.specs.Pieces.{some_span, IsKeptInPlane};
 
 use crate::areas::in_area_on;
 use crate::pieces::piece_on;
-use mob_cells::{Restriction, append, listed, restricted};
+use mob_cells::{Restriction, append, listed_if, restricted};
 use mob_lift::normal::normal;
 use mob_list::fault::Fault;
 use mob_slice::{Formula, Moving, PlaneLine, Slice, cut};
@@ -40,7 +40,7 @@ fn in_space_on(
 {
     match space {
         Some(area) => in_area_on(alloc, slice, &part, area, want),
-        None => listed(alloc, part, want),
+        None => listed_if(alloc, part, want),
     }
 }
 

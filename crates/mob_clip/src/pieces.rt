@@ -12,7 +12,7 @@ ghost use Rattle.mob_clip.specs.Timelines.{timeline_at, ChangesFit};
 ghost use Rattle.mob_clip.specs.Pieces.{is_known_in, some_span, left_span, right_span, IsOnSlice, AreAllOrNothing, IsPushedBefore, AreKeptInPlane};
 
 use crate::timeline::Timeline;
-use mob_cells::{append, listed};
+use mob_cells::{append, listed_if};
 use mob_frac::Frac;
 use mob_list::fault::Fault;
 use mob_plane::{Tally, is_in};
@@ -36,7 +36,7 @@ pub fn piece_on(
         None => return Ok(Vec::new(alloc)),
     };
     match cut(alloc, slice, &span) {
-        Ok(part) => listed(alloc, part, keeps),
+        Ok(part) => listed_if(alloc, part, keeps),
         Err(fault) => Err(fault),
     }
 }
