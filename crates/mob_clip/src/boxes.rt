@@ -106,14 +106,8 @@ fn in_time_on(
         Some(shared) => shared,
         None => return piece_on(alloc, slice, Some(slice.span), same_bool(want, false)),
     };
-    let part = match cut(alloc, slice, &shared) {
-        Ok(part) => part,
-        Err(fault) => return Err(fault),
-    };
-    let middle = match in_space_on(alloc, slice, part, space, want) {
-        Ok(middle) => middle,
-        Err(fault) => return Err(fault),
-    };
+    let part = cut(alloc, slice, &shared)?;
+    let middle = in_space_on(alloc, slice, part, space, want)?;
     around(alloc, slice, &shared, middle, want)
 }
 
