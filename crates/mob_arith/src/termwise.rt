@@ -155,14 +155,8 @@ where
     requires holds { HoldsPiece A.start_of A.end_of B.start_of B.end_of (piece_of piece.now) }
     ensures given { IsGiven D.value_of D.start_of D.end_of (λ v. v.items) (on_sides A.value_of B.value_of O.op (piece_of piece.now)) piece.now.span (entries_at_ends A.value_of A.parts_of B.value_of B.parts_of O.parts (piece_of piece.now)) result }
 {
-    let left = match piece.left.on(alloc, &piece.span) {
-        Ok(left) => left,
-        Err(fault) => return Err(fault),
-    };
-    let right = match piece.right.on(alloc, &piece.span) {
-        Ok(right) => right,
-        Err(fault) => return Err(fault),
-    };
+    let left = piece.left.on(alloc, &piece.span)?;
+    let right = piece.right.on(alloc, &piece.span)?;
     let course = match course_on::<A, B, D, O>(&left, &right) {
         Ok(course) => course,
         Err(formula) => return Err(Fault::Because(formula)),

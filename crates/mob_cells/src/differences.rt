@@ -55,21 +55,9 @@ where
     ensures gaps { IfOk result (λ g. g ≡ end_gaps C.value_of C.gaps_of (piece_of piece.now)) }
     ensures first { IsDecided (entries_of_ends C.value_of C.parts_of C.gaps_of (piece_of piece.now)) result }
 {
-    let left = match on_piece_of::<C>(alloc, &piece.left, &piece.span) {
-        Ok(left) => left,
-        Err(passed) => return Err(passed),
-    };
-    let right = match on_piece_of::<C>(alloc, &piece.right, &piece.span) {
-        Ok(right) => right,
-        Err(passed) => return Err(passed),
-    };
-    let at_lower = match C::gaps(left.course.start(), right.course.start()) {
-        Ok(at_lower) => at_lower,
-        Err(passed) => return Err(passed),
-    };
-    let at_upper = match C::gaps(left.course.end(), right.course.end()) {
-        Ok(at_upper) => at_upper,
-        Err(passed) => return Err(passed),
-    };
+    let left = on_piece_of::<C>(alloc, &piece.left, &piece.span)?;
+    let right = on_piece_of::<C>(alloc, &piece.right, &piece.span)?;
+    let at_lower = C::gaps(left.course.start(), right.course.start())?;
+    let at_upper = C::gaps(left.course.end(), right.course.end())?;
     Ok(EndGaps { at_lower, at_upper })
 }

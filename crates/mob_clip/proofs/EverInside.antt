@@ -1,10 +1,9 @@
 -- When part of a moving point is inside a polygon.
-use Rattle.std.{specs.Prelude.{◌≡◌, Bool, true, false, List, [], ◌∷◌, Option, Some, None, refl}, proofs.Common.{ap, sym, ◌∙◌}}
+use Rattle.std.{specs.Prelude.{◌≡◌, Bool, true, false, List, Option, Some, None, refl}, proofs.Common.{ap, sym, ◌∙◌}}
 use Rattle.mob_ratio.specs.Ratio.{Ratio}
-use Rattle.mob_span.proofs.SpanLemmas.{some_instant}
 use Rattle.mob_plane.{specs.declared.point.Point.{Point}, specs.Rings.{all_edges}, specs.Membership.{inside}, proofs.BySigns.{inside_signs}}
 use Rattle.mob_slice.{specs.Slices.{value_at, IsNormal}, specs.Lines.{plane_value_of, plane_continued}, specs.declared.slice.Slice.{Slice}, specs.declared.line.PlaneLine.{PlaneLine}}
-use Rattle.mob_slice.proofs.Options.{none_some}
+use Rattle.mob_slice.{proofs.LookUps.{some_value}, proofs.Options.{none_some}}
 use Rattle.mob_cells.specs.Restricted.{kept_value, where_wanted, IsRestricted}
 use Rattle.mob_clip.specs.Polygons.{is_inside_edges, IsEverInside}
 
@@ -16,14 +15,9 @@ wanted_meets m (Some x) y e = (x, refl, by (m x) e)
     by true e = refl
     by false e = none_some y e
 
--- the first slice of that part has an instant
-some_value : (w : List (Slice PlaneLine)) → IsNormal (λ c. c.from) (λ c. c.to) plane_continued w → (t : Ratio) × (y : Point) × (value_at plane_value_of w t ≡ Some y)
-some_value [] h = absurd (h.some refl)
-some_value (s ∷ w) h = let i = some_instant s.span h.chained.0.some in (i.0, plane_value_of s.course s.span.lower s.span.upper i.0, rw i.1 refl)
-
 pub ever_some : (rings : List (List Point)) (v w : List (Slice PlaneLine)) → IsNormal (λ c. c.from) (λ c. c.to) plane_continued w → ((t : Ratio) → value_at plane_value_of w t ≡ where_wanted true (λ x. inside rings x) (value_at plane_value_of v t)) → IsEverInside rings v
 ever_some rings v w h k =
-    let i = some_value w h in
+    let i = some_value plane_value_of w h in
     let m = wanted_meets (λ x. inside rings x) (value_at plane_value_of v i.0) i.1 (sym (k i.0) ∙ i.2) in
     (i.0, m.0, m.1, m.2)
 

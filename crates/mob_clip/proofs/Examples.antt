@@ -8,7 +8,7 @@ use Rattle.mob_clip.{specs.declared.timeline.Change.{Change}, specs.Timelines.{s
 
 -- a value that is true only at 2
 abbrev touch : List (Change Bool)
-touch = record { at = whole (pos 2); there = true; behind = false } ∷ []
+touch = record { at = whole (pos 2); there = true; after = false } ∷ []
 
 in_front : step_at false touch (whole (pos 1)) ≡ false
 unfolding over gcd gcd_steps in_lowest_terms whole before same
@@ -18,9 +18,9 @@ there : step_at false touch (whole (pos 2)) ≡ true
 unfolding over gcd gcd_steps in_lowest_terms whole before same
 there = refl
 
-behind : step_at false touch (whole (pos 3)) ≡ false
+after : step_at false touch (whole (pos 3)) ≡ false
 unfolding over gcd gcd_steps in_lowest_terms whole before same
-behind = refl
+after = refl
 
 -- [POINT(0 0)@0, POINT(4 0)@4]
 abbrev trip : Slice PlaneLine

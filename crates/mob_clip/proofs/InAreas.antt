@@ -1,6 +1,6 @@
 -- A moving point and a rectangle.
 use Rattle.std.{specs.Prelude.{◌≡◌, Bool, false, not, ◌&&◌, List, ◌++◌, Some, Result, refl}, specs.List.{AllByRecursion}, specs.Ordering.{is_lt, is_gt}, proofs.Common.{ap, sym, ◌∙◌, subst, inl, inr}}
-use Rattle.mob_ratio.{specs.Ratio.{Ratio, ◌-ℚ◌}, specs.Order.{before, up_to}, specs.Line.{line_at}, specs.Sign.{sign_of}, proofs.Order.{before-back}, proofs.Signs.{sign-diff, lt_cond, gt_cond}}
+use Rattle.mob_ratio.{specs.Ratio.{Ratio, ◌-ℚ◌}, specs.Order.{before, up_to}, specs.Line.{line_at}, specs.Sign.{sign_of}, proofs.Signs.{lt_diff, gt_diff}}
 use Rattle.mob_plane.{specs.declared.point.Point.{Point}, proofs.TurnsAlong.{line_at-from}}
 use Rattle.mob_frac.specs.Formula.{AllFit}
 use Rattle.mob_span.specs.Span.{SpanOf}
@@ -12,17 +12,11 @@ use Rattle.mob_cells.{specs.declared.linear.Ends.{Ends}, specs.Roots.{IsLevel}, 
 use Rattle.mob_stbox.{specs.declared.area.Area.{Area}, specs.Areas.{in_area}}
 use Rattle.mob_clip.specs.Areas.{in_area_by, area_parts, area_ends, entries_of_area}
 
-lt_sign : (x y : Ratio) → is_lt (sign_of (x -ℚ y)) ≡ before x y
-lt_sign x y = ap is_lt (sym (sign-diff x y)) ∙ lt_cond (before x y) (before y x)
-
-gt_sign : (x y : Ratio) → is_gt (sign_of (x -ℚ y)) ≡ before y x
-gt_sign x y = ap is_gt (sym (sign-diff x y)) ∙ gt_cond (before x y) (before y x) (before-back x y)
-
 not_below : (x0 x1 a l u t : Ratio) → not (is_lt (sign_of (line_at (x0 -ℚ a) (x1 -ℚ a) l u t))) ≡ up_to a (line_at x0 x1 l u t)
-not_below x0 x1 a l u t = ap (λ z. not (is_lt (sign_of z))) (sym (line_at-from x0 x1 a l u t)) ∙ ap not (lt_sign (line_at x0 x1 l u t) a)
+not_below x0 x1 a l u t = ap (λ z. not (is_lt (sign_of z))) (sym (line_at-from x0 x1 a l u t)) ∙ ap not (lt_diff (line_at x0 x1 l u t) a)
 
 not_above : (x0 x1 a l u t : Ratio) → not (is_gt (sign_of (line_at (x0 -ℚ a) (x1 -ℚ a) l u t))) ≡ up_to (line_at x0 x1 l u t) a
-not_above x0 x1 a l u t = ap (λ z. not (is_gt (sign_of z))) (sym (line_at-from x0 x1 a l u t)) ∙ ap not (gt_sign (line_at x0 x1 l u t) a)
+not_above x0 x1 a l u t = ap (λ z. not (is_gt (sign_of z))) (sym (line_at-from x0 x1 a l u t)) ∙ ap not (gt_diff (line_at x0 x1 l u t) a)
 
 four : (a b c d a' b' c' d' : Bool) → a ≡ a' → b ≡ b' → c ≡ c' → d ≡ d' → (a && b && (c && d)) ≡ (a' && b' && (c' && d'))
 four a b c d a' b' c' d' p q r s = rw (p, q, r, s) refl

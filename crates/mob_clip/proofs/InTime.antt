@@ -149,7 +149,7 @@ module _ (s : Slice PlaneLine) (m : SpanOf) (inside : is_inside s.span m ≡ tru
       let a = has_instant (front_span s.span m) in
       let b = has_instant (back_span s.span m) in
       all_kept plane_value_of (λ c. c.from) (λ c. c.to) f s.span (cond a (front_span s.span m ∷ []) [] ++ m ∷ cond b (back_span s.span m ∷ []) []) v
-      (all_lifts a b h.front middle h.back v h.in_front (middle_gives middle g) (back_lifts b h.back h.behind) h.all) (three_cells s.span m inside some a b refl refl)
+      (all_lifts a b h.front middle h.back v h.in_front (middle_gives middle g) (back_lifts b h.back h.after) h.all) (three_cells s.span m inside some a b refl refl)
 
 -- ---- one slice
 module _ (s : Slice PlaneLine) (sound : IsSound (λ c. c.from) (λ c. c.to) s) where
@@ -171,17 +171,17 @@ module _ (s : Slice PlaneLine) (sound : IsSound (λ c. c.from) (λ c. c.to) s) w
     cut_fails copies m (Because f) e k h = rw (subst (λ z. has_instant z ≡ true) e k) (inr (subst (λ z. ¬ AllFit (at_ends (slice_parts plane_parts_of s) z)) e h.1, ap Some h.0))
     cut_fails copies m NoMemory e k h = tt
 
-    behind : (m : SpanOf) (r : Option Formula) → m ≡ meet_of s.span T → has_instant m ≡ true → AllFit (at_ends (slice_parts plane_parts_of s) m) → IsFirst (entries_of_space space s m) r → IsFirst (entries_in_time (Some T) space s) r
-    behind m r e k fits h = rw (subst (λ z. has_instant z ≡ true) e k) (inl (subst (λ z. AllFit (at_ends (slice_parts plane_parts_of s) z)) e fits, subst (λ z. IsFirst (entries_of_space space s z) r) e h))
+    after : (m : SpanOf) (r : Option Formula) → m ≡ meet_of s.span T → has_instant m ≡ true → AllFit (at_ends (slice_parts plane_parts_of s) m) → IsFirst (entries_of_space space s m) r → IsFirst (entries_in_time (Some T) space s) r
+    after m r e k fits h = rw (subst (λ z. has_instant z ≡ true) e k) (inl (subst (λ z. AllFit (at_ends (slice_parts plane_parts_of s) z)) e fits, subst (λ z. IsFirst (entries_of_space space s z) r) e h))
 
     pub space_fails : (m : SpanOf) (f : Fault Formula) → m ≡ meet_of s.span T → has_instant m ≡ true → AllFit (at_ends (slice_parts plane_parts_of s) m) → OnCause (λ g. IsFirst (entries_of_space space s m) (Some g)) f → OnCause (λ g. IsFirst (entries_in_time (Some T) space s) (Some g)) f
-    space_fails m (Because f) e k fits h = behind m (Some f) e k fits h
+    space_fails m (Because f) e k fits h = after m (Some f) e k fits h
     space_fails m NoMemory e k fits h = tt
 
     pub time_kept : {V : Type 0} (items : V → List (Slice PlaneLine)) (q : Result V (Fault Formula)) (m : SpanOf) (middle : List (Slice PlaneLine)) → m ≡ meet_of s.span T → has_instant m ≡ true → AllFit (at_ends (slice_parts plane_parts_of s) m)
         → AreKeptOn plane_value_of (λ c. c.from) (λ c. c.to) (λ t. kept_value want (in_space space (slice_value plane_value_of s t)) (slice_value plane_value_of s t)) m middle → IsFirst (entries_of_space space s m) None
         → MatchResult q (λ v. AreAround s want m middle (items v)) (λ e. e ≡ NoMemory) → IsKeptBy plane_value_of (λ c. c.from) (λ c. c.to) items wanted s.span (entries_in_time (Some T) space s) q
-    time_kept items (Ok v) m middle e k fits g first h = (around_kept s m (subst (λ z. is_inside s.span z ≡ true) (sym e) (meet_left s.span T)) k want T space (λ t. ap (λ z. has z t) e ∙ meet_has s.span T t) middle (items v) g h, behind m None e k fits first)
+    time_kept items (Ok v) m middle e k fits g first h = (around_kept s m (subst (λ z. is_inside s.span z ≡ true) (sym e) (meet_left s.span T)) k want T space (λ t. ap (λ z. has z t) e ∙ meet_has s.span T t) middle (items v) g h, after m None e k fits first)
     time_kept items (Err f) m middle e k fits g first h = rw h tt
 
 -- a box without time

@@ -1,6 +1,6 @@
 -- The tally of a point by edges.
 use Rattle.std.{specs.Prelude.{◌≡◌, Bool, true, false, cond, ◌||◌, List, [], ◌∷◌, ◌++◌, map, length, get_or, Result, Ok, Err, IfOk, refl}, specs.List.{AllByRecursion}}
-use Rattle.std.{specs.declared.cmp.Ordering.{Ordering}, specs.declared.cmp.Ordering.TheVariants.{Less, Equal, Greater}, proofs.Common.{arith, ap, sym, ◌∙◌, subst, append_assoc}}
+use Rattle.std.{specs.declared.cmp.Ordering.{Ordering}, specs.declared.cmp.Ordering.TheVariants.{Less, Equal, Greater}, proofs.Common.{arith, ap, sym, ◌∙◌, subst, append_assoc}, proofs.Math.Bool.{or_assoc}}
 use Rattle.mob_ratio.{specs.Ratio.{Ratio}, specs.Order.{before}, specs.Sign.{sign_of}}
 use Rattle.mob_frac.specs.Formula.{AllFit}
 use Rattle.mob_span.specs.Span.{SpanOf, has}
@@ -30,9 +30,9 @@ ends_joined s t g x y h k = rw (h, k) (λ i. record {
 -- ---- the tally along a walk
 tallied_at : (x : EdgeSigns) (cs : List (Change EdgeSigns)) (t : Ratio) → step_at (edge_tally x) (map tally_change cs) t ≡ edge_tally (step_at x cs t)
 tallied_at x [] t = refl
-tallied_at x (c ∷ cs) t = by (tallied_at c.behind cs t) (before t c.at) (before c.at t)
+tallied_at x (c ∷ cs) t = by (tallied_at c.after cs t) (before t c.at) (before c.at t)
   where
-    by : step_at (edge_tally c.behind) (map tally_change cs) t ≡ edge_tally (step_at c.behind cs t) → (a b : Bool) → cond a (edge_tally x) (cond b (step_at (edge_tally c.behind) (map tally_change cs) t) (edge_tally c.there)) ≡ edge_tally (cond a x (cond b (step_at c.behind cs t) c.there))
+    by : step_at (edge_tally c.after) (map tally_change cs) t ≡ edge_tally (step_at c.after cs t) → (a b : Bool) → cond a (edge_tally x) (cond b (step_at (edge_tally c.after) (map tally_change cs) t) (edge_tally c.there)) ≡ edge_tally (cond a x (cond b (step_at c.after cs t) c.there))
     by h true b = refl
     by h false true = h
     by h false false = refl
@@ -48,10 +48,6 @@ pub tally_fit : (s : Timeline EdgeSigns) (r : Timeline Tally) (parts : Ratio →
 tally_fit s r parts k h = rw k (tallied_fit parts s.changes.items h)
 
 -- ---- all edges
-or_assoc : (a b c : Bool) → ((a || b) || c) ≡ (a || (b || c))
-or_assoc true b c = refl
-or_assoc false b c = refl
-
 tally_assoc : (a b c : Tally) → tally_both (tally_both a b) c ≡ tally_both a (tally_both b c)
 tally_assoc a b c = λ i. record { on = or_assoc a.on b.on c.on i; odd = alone_assoc a.odd b.odd c.odd i }
 

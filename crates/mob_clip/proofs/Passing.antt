@@ -262,7 +262,7 @@ module _ (s : Slice PlaneLine) (want : Bool) (steps : Timeline Tally) where
   pub passing_step : (rest rest' rest'' : Option SpanOf) (now : Tally) (later later' : List (Change Tally)) (c : Change Tally) (front there : Bool) (out out' out'' v w : List (Slice PlaneLine)) → later ≡ c ∷ later'
       → front ≡ same_bool want (is_known_in now) → rest' ≡ right_piece rest c.at false → out' ≡ out ++ v → AreAllOrNothing s front (left_piece rest c.at false) v
       → there ≡ same_bool want (is_known_in c.there) → rest'' ≡ right_piece rest' c.at true → out'' ≡ out' ++ w → AreAllOrNothing s there (left_piece rest' c.at true) w
-      → IsPassing rest now later out → IsPassing rest'' c.behind later' out''
+      → IsPassing rest now later out → IsPassing rest'' c.after later' out''
   passing_step rest rest' rest'' now later later' c front there out out' out'' v w e kf rf nf hf kt rt nt ht m =
       let fits = subst (ChangesFit (slice_parts plane_parts_of s)) e m.fits in
       let same : (t : Ratio) → has_piece rest t ≡ true → timeline_at steps t ≡ step_at now (c ∷ later') t = λ t i. m.same t i ∙ ap (λ z. step_at now z t) e in

@@ -1,13 +1,9 @@
 -- The merge of two walks.
-use Rattle.std.{specs.Prelude.{◌≡◌, Bool, true, false, cond, ℕ, List, [], ◌∷◌, ◌++◌, drop, refl}, proofs.Common.{arith, ap, sym, ◌∙◌, subst, append_assoc, append-nil}}
-use Rattle.mob_ratio.{specs.Ratio.{Ratio}, specs.Order.{before}, proofs.Order.{before-back, before-trans, before-neither}}
+use Rattle.std.{specs.Prelude.{◌≡◌, Bool, true, false, cond, ℕ, List, [], ◌∷◌, ◌++◌, drop, refl}, proofs.Common.{ap, sym, ◌∙◌, subst, append_assoc, append-nil}}
+use Rattle.mob_ratio.{specs.Ratio.{Ratio}, specs.Order.{before}, proofs.Order.{before-back, before-neither, before-from}}
 use Rattle.mob_frac.specs.Formula.{AllFit}
 use Rattle.mob_clip.{specs.declared.timeline.Change.{Change}, specs.declared.timeline.MetChange.{MetChange}, specs.declared.timeline.Timeline.{Timeline}}
 use Rattle.mob_clip.specs.Timelines.{step_at, timeline_at, ChangesFit, IsNextChange}
-
--- t is not after x, which is before y
-in_front : (t x y : Ratio) → before x t ≡ false → before x y ≡ true → before t y ≡ true
-in_front t x y h k = grind (arith, h, k, before-trans x y t, before-neither x t, before-neither t y)
 
 module _ {T : Type 0} (mix : T → T → T) where
   -- the first change of a walk is after x
@@ -17,64 +13,64 @@ module _ {T : Type 0} (mix : T → T → T) where
 
   ahead_at : (g : T) (ys : List (Change T)) (x t : Ratio) → IsAhead x ys → before x t ≡ false → step_at g ys t ≡ g
   ahead_at g [] x t h k = refl
-  ahead_at g (y ∷ ys) x t h k = rw (in_front t x y.at k h) refl
+  ahead_at g (y ∷ ys) x t h k = rw (before-from t x y.at k h) refl
 
   -- a change of the first walk only
-  pub met_left : (f g : T) (x : Change T) (xs ys : List (Change T)) → IsAhead x.at ys → IsNextChange mix f g (x ∷ xs) ys (record { at = x.at; there = mix x.there g; behind = mix x.behind g }) x.behind g xs ys
+  pub met_left : (f g : T) (x : Change T) (xs ys : List (Change T)) → IsAhead x.at ys → IsNextChange mix f g (x ∷ xs) ys (record { at = x.at; there = mix x.there g; after = mix x.after g }) x.after g xs ys
   met_left f g x xs ys h = record {
     whole = λ rest t k. by rest t k (before t x.at) refl (before x.at t) refl;
-    behind = refl;
+    after = refl;
     fit = λ parts k l. (k.0, k.1, l);
   }
     where
-      by : (rest : List (Change T)) (t : Ratio) → step_at (mix x.behind g) rest t ≡ mix (step_at x.behind xs t) (step_at g ys t) → (a : Bool) → before t x.at ≡ a → (b : Bool) → before x.at t ≡ b
-          → cond a (mix f g) (cond b (step_at (mix x.behind g) rest t) (mix x.there g)) ≡ mix (cond a f (cond b (step_at x.behind xs t) x.there)) (step_at g ys t)
+      by : (rest : List (Change T)) (t : Ratio) → step_at (mix x.after g) rest t ≡ mix (step_at x.after xs t) (step_at g ys t) → (a : Bool) → before t x.at ≡ a → (b : Bool) → before x.at t ≡ b
+          → cond a (mix f g) (cond b (step_at (mix x.after g) rest t) (mix x.there g)) ≡ mix (cond a f (cond b (step_at x.after xs t) x.there)) (step_at g ys t)
       by rest t k true p b q = ap (mix f) (sym (ahead_at g ys x.at t h (before-back t x.at p)))
       by rest t k false p true q = k
       by rest t k false p false q = ap (mix x.there) (sym (ahead_at g ys x.at t h q))
 
   -- a change of the second walk only
-  pub met_right : (f g : T) (xs : List (Change T)) (y : Change T) (ys : List (Change T)) → IsAhead y.at xs → IsNextChange mix f g xs (y ∷ ys) (record { at = y.at; there = mix f y.there; behind = mix f y.behind }) f y.behind xs ys
+  pub met_right : (f g : T) (xs : List (Change T)) (y : Change T) (ys : List (Change T)) → IsAhead y.at xs → IsNextChange mix f g xs (y ∷ ys) (record { at = y.at; there = mix f y.there; after = mix f y.after }) f y.after xs ys
   met_right f g xs y ys h = record {
     whole = λ rest t k. by rest t k (before t y.at) refl (before y.at t) refl;
-    behind = refl;
+    after = refl;
     fit = λ parts k l. (l.0, k, l.1);
   }
     where
-      by : (rest : List (Change T)) (t : Ratio) → step_at (mix f y.behind) rest t ≡ mix (step_at f xs t) (step_at y.behind ys t) → (a : Bool) → before t y.at ≡ a → (b : Bool) → before y.at t ≡ b
-          → cond a (mix f g) (cond b (step_at (mix f y.behind) rest t) (mix f y.there)) ≡ mix (step_at f xs t) (cond a g (cond b (step_at y.behind ys t) y.there))
+      by : (rest : List (Change T)) (t : Ratio) → step_at (mix f y.after) rest t ≡ mix (step_at f xs t) (step_at y.after ys t) → (a : Bool) → before t y.at ≡ a → (b : Bool) → before y.at t ≡ b
+          → cond a (mix f g) (cond b (step_at (mix f y.after) rest t) (mix f y.there)) ≡ mix (step_at f xs t) (cond a g (cond b (step_at y.after ys t) y.there))
       by rest t k true p b q = ap (λ z. mix z g) (sym (ahead_at f xs y.at t h (before-back t y.at p)))
       by rest t k false p true q = k
       by rest t k false p false q = ap (λ z. mix z y.there) (sym (ahead_at f xs y.at t h q))
 
   -- a change of both at the same instant
-  pub met_both : (f g : T) (x : Change T) (xs : List (Change T)) (y : Change T) (ys : List (Change T)) → x.at ≡ y.at → IsNextChange mix f g (x ∷ xs) (y ∷ ys) (record { at = x.at; there = mix x.there y.there; behind = mix x.behind y.behind }) x.behind y.behind xs ys
+  pub met_both : (f g : T) (x : Change T) (xs : List (Change T)) (y : Change T) (ys : List (Change T)) → x.at ≡ y.at → IsNextChange mix f g (x ∷ xs) (y ∷ ys) (record { at = x.at; there = mix x.there y.there; after = mix x.after y.after }) x.after y.after xs ys
   met_both f g x xs y ys e = record {
-    whole = λ rest t k. subst (λ z. cond (before t x.at) (mix f g) (cond (before x.at t) (step_at (mix x.behind y.behind) rest t) (mix x.there y.there)) ≡ mix (cond (before t x.at) f (cond (before x.at t) (step_at x.behind xs t) x.there)) (cond (before t z) g (cond (before z t) (step_at y.behind ys t) y.there))) e (by rest t k (before t x.at) (before x.at t));
-    behind = refl;
+    whole = λ rest t k. subst (λ z. cond (before t x.at) (mix f g) (cond (before x.at t) (step_at (mix x.after y.after) rest t) (mix x.there y.there)) ≡ mix (cond (before t x.at) f (cond (before x.at t) (step_at x.after xs t) x.there)) (cond (before t z) g (cond (before z t) (step_at y.after ys t) y.there))) e (by rest t k (before t x.at) (before x.at t));
+    after = refl;
     fit = λ parts k l. (k.0, k.1, l.1);
   }
     where
-      by : (rest : List (Change T)) (t : Ratio) → step_at (mix x.behind y.behind) rest t ≡ mix (step_at x.behind xs t) (step_at y.behind ys t) → (a b : Bool)
-          → cond a (mix f g) (cond b (step_at (mix x.behind y.behind) rest t) (mix x.there y.there)) ≡ mix (cond a f (cond b (step_at x.behind xs t) x.there)) (cond a g (cond b (step_at y.behind ys t) y.there))
+      by : (rest : List (Change T)) (t : Ratio) → step_at (mix x.after y.after) rest t ≡ mix (step_at x.after xs t) (step_at y.after ys t) → (a b : Bool)
+          → cond a (mix f g) (cond b (step_at (mix x.after y.after) rest t) (mix x.there y.there)) ≡ mix (cond a f (cond b (step_at x.after xs t) x.there)) (cond a g (cond b (step_at y.after ys t) y.there))
       by rest t k true b = refl
       by rest t k false true = k
       by rest t k false false = refl
 
-  pub left_met : (f g : T) (xs ys : List (Change T)) (i j k n : ℕ) (x y : Change T) (m : MetChange T) → drop i xs ≡ x ∷ drop k xs → drop j ys ≡ y ∷ drop n ys → before x.at y.at ≡ true → m ≡ record { change = record { at = x.at; there = mix x.there g; behind = mix x.behind g }; left = x.behind; right = g; i = k; j = j } → IsNextChange mix f g (drop i xs) (drop j ys) m.change m.left m.right (drop m.i xs) (drop m.j ys)
+  pub left_met : (f g : T) (xs ys : List (Change T)) (i j k n : ℕ) (x y : Change T) (m : MetChange T) → drop i xs ≡ x ∷ drop k xs → drop j ys ≡ y ∷ drop n ys → before x.at y.at ≡ true → m ≡ record { change = record { at = x.at; there = mix x.there g; after = mix x.after g }; left = x.after; right = g; i = k; j = j } → IsNextChange mix f g (drop i xs) (drop j ys) m.change m.left m.right (drop m.i xs) (drop m.j ys)
   left_met f g xs ys i j k n x y m e d h q = rw (q, e, d) (met_left f g x (drop k xs) (y ∷ drop n ys) h)
 
-  pub right_met : (f g : T) (xs ys : List (Change T)) (i j k n : ℕ) (x y : Change T) (m : MetChange T) → drop i xs ≡ x ∷ drop k xs → drop j ys ≡ y ∷ drop n ys → before y.at x.at ≡ true → m ≡ record { change = record { at = y.at; there = mix f y.there; behind = mix f y.behind }; left = f; right = y.behind; i = i; j = n } → IsNextChange mix f g (drop i xs) (drop j ys) m.change m.left m.right (drop m.i xs) (drop m.j ys)
+  pub right_met : (f g : T) (xs ys : List (Change T)) (i j k n : ℕ) (x y : Change T) (m : MetChange T) → drop i xs ≡ x ∷ drop k xs → drop j ys ≡ y ∷ drop n ys → before y.at x.at ≡ true → m ≡ record { change = record { at = y.at; there = mix f y.there; after = mix f y.after }; left = f; right = y.after; i = i; j = n } → IsNextChange mix f g (drop i xs) (drop j ys) m.change m.left m.right (drop m.i xs) (drop m.j ys)
   right_met f g xs ys i j k n x y m e d h q = rw (q, e, d) (met_right f g (x ∷ drop k xs) y (drop n ys) h)
 
-  pub both_met : (f g : T) (xs ys : List (Change T)) (i j k n : ℕ) (x y : Change T) (m : MetChange T) → drop i xs ≡ x ∷ drop k xs → drop j ys ≡ y ∷ drop n ys → before x.at y.at ≡ false → before y.at x.at ≡ false → m ≡ record { change = record { at = x.at; there = mix x.there y.there; behind = mix x.behind y.behind }; left = x.behind; right = y.behind; i = k; j = n } → IsNextChange mix f g (drop i xs) (drop j ys) m.change m.left m.right (drop m.i xs) (drop m.j ys)
+  pub both_met : (f g : T) (xs ys : List (Change T)) (i j k n : ℕ) (x y : Change T) (m : MetChange T) → drop i xs ≡ x ∷ drop k xs → drop j ys ≡ y ∷ drop n ys → before x.at y.at ≡ false → before y.at x.at ≡ false → m ≡ record { change = record { at = x.at; there = mix x.there y.there; after = mix x.after y.after }; left = x.after; right = y.after; i = k; j = n } → IsNextChange mix f g (drop i xs) (drop j ys) m.change m.left m.right (drop m.i xs) (drop m.j ys)
   both_met f g xs ys i j k n x y m e d a b q = rw (q, e, d) (met_both f g x (drop k xs) y (drop n ys) (before-neither x.at y.at a b))
 
   -- the other walk has ended
-  pub left_alone : (f g : T) (xs ys : List (Change T)) (i j k : ℕ) (x : Change T) (m : MetChange T) → drop i xs ≡ x ∷ drop k xs → drop j ys ≡ [] → m ≡ record { change = record { at = x.at; there = mix x.there g; behind = mix x.behind g }; left = x.behind; right = g; i = k; j = j } → IsNextChange mix f g (drop i xs) (drop j ys) m.change m.left m.right (drop m.i xs) (drop m.j ys)
+  pub left_alone : (f g : T) (xs ys : List (Change T)) (i j k : ℕ) (x : Change T) (m : MetChange T) → drop i xs ≡ x ∷ drop k xs → drop j ys ≡ [] → m ≡ record { change = record { at = x.at; there = mix x.there g; after = mix x.after g }; left = x.after; right = g; i = k; j = j } → IsNextChange mix f g (drop i xs) (drop j ys) m.change m.left m.right (drop m.i xs) (drop m.j ys)
   left_alone f g xs ys i j k x m e d q = rw (q, e, d) (met_left f g x (drop k xs) [] tt)
 
-  pub right_alone : (f g : T) (xs ys : List (Change T)) (i j n : ℕ) (y : Change T) (m : MetChange T) → drop i xs ≡ [] → drop j ys ≡ y ∷ drop n ys → m ≡ record { change = record { at = y.at; there = mix f y.there; behind = mix f y.behind }; left = f; right = y.behind; i = i; j = n } → IsNextChange mix f g (drop i xs) (drop j ys) m.change m.left m.right (drop m.i xs) (drop m.j ys)
+  pub right_alone : (f g : T) (xs ys : List (Change T)) (i j n : ℕ) (y : Change T) (m : MetChange T) → drop i xs ≡ [] → drop j ys ≡ y ∷ drop n ys → m ≡ record { change = record { at = y.at; there = mix f y.there; after = mix f y.after }; left = f; right = y.after; i = i; j = n } → IsNextChange mix f g (drop i xs) (drop j ys) m.change m.left m.right (drop m.i xs) (drop m.j ys)
   right_alone f g xs ys i j n y m e d q = rw (q, e, d) (met_right f g [] y (drop n ys) tt)
 
   -- the merge so far, and the rest of both walks

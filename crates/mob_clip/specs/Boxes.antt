@@ -32,5 +32,5 @@ pub record AreAround (s : Slice PlaneLine) (want : Bool) (m : SpanOf) (middle v 
   pub front : List (Slice PlaneLine)
   pub back : List (Slice PlaneLine)
   pub in_front : AreAllOrNothing s (same_bool want false) (some_span (front_span s.span m)) front
-  pub behind : AreAllOrNothing s (same_bool want false) (some_span (back_span s.span m)) back
+  pub after : AreAllOrNothing s (same_bool want false) (some_span (back_span s.span m)) back
   pub all : v ≡ (front ++ middle) ++ back

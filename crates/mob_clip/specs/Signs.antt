@@ -11,11 +11,11 @@ use Rattle.mob_clip.{specs.declared.timeline.Change.{Change}, specs.declared.roo
 
 -- the sign at the instant t; it is Equal at the instant of the change
 abbrev pub changing_at : Ordering → Option Ratio → Ordering → Ratio → Ordering
-changing_at first None behind t = first
-changing_at first (Some r) behind t = cond (before t r) first (cond (before r t) behind Equal)
+changing_at first None after t = first
+changing_at first (Some r) after t = cond (before t r) first (cond (before r t) after Equal)
 
 abbrev pub changing_sign : SignChange → Ratio → Ordering
-changing_sign c t = changing_at c.first c.at c.behind t
+changing_sign c t = changing_at c.first c.at c.after t
 
 -- the parts of a formula fit at the instant of the change
 abbrev pub FitsChange : (Ratio → List Ratio) → SignChange → Type 0
@@ -45,10 +45,10 @@ known_at s which f t = one_known which (sign_of (function_at s f t))
 
 -- the sign between two ends with these signs, if no root lies between them
 abbrev pub ends_change : SpanOf → Ordering → Ordering → SignChange
-ends_change s Equal Equal = record { first = Equal; at = None; behind = Equal }
-ends_change s Equal u = record { first = u; at = Some s.lower; behind = u }
-ends_change s l Equal = record { first = l; at = Some s.upper; behind = l }
-ends_change s l u = record { first = l; at = None; behind = l }
+ends_change s Equal Equal = record { first = Equal; at = None; after = Equal }
+ends_change s Equal u = record { first = u; at = Some s.lower; after = u }
+ends_change s l Equal = record { first = l; at = Some s.upper; after = l }
+ends_change s l u = record { first = l; at = None; after = l }
 
 -- the position of a point relative to an edge at the instant t
 abbrev pub signs_on : SpanOf → Ratio → EdgePlaced → EdgeSigns
@@ -75,7 +75,7 @@ abbrev pub edge_tally : EdgeSigns → Tally
 edge_tally s = with_edge none_yet s
 
 abbrev pub tally_change : Change EdgeSigns → Change Tally
-tally_change c = record { at = c.at; there = edge_tally c.there; behind = edge_tally c.behind }
+tally_change c = record { at = c.at; there = edge_tally c.there; after = edge_tally c.after }
 
 -- the joint tally of a point by two sets of edges
 abbrev pub tally_both : Tally → Tally → Tally

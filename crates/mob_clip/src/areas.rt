@@ -124,9 +124,6 @@ pub fn in_area_on(
     requires part { HasValues plane_value_of (λ c. c.from) (λ c. c.to) (slice_value plane_value_of slice.now) part.now.span part.now }
     ensures kept { IsKeptInPlane want (λ t p. in_area area.now p) slice.now part.now.span (entries_of_area area.now slice.now part.now.span) result }
 {
-    let functions = match functions(alloc, area, &part.course.from, &part.course.to) {
-        Ok(functions) => functions,
-        Err(fault) => return Err(fault),
-    };
+    let functions = functions(alloc, area, &part.course.from, &part.course.to)?;
     kept(alloc, slice, &part.span, functions, &InArea {}, want)
 }

@@ -17,7 +17,7 @@ ghost use Rattle.mob_clip.specs.Pieces.{some_span, IsKeptInPlane};
 
 use crate::areas::in_area_on;
 use crate::pieces::piece_on;
-use mob_cells::{Restriction, append, listed, restricted};
+use mob_cells::{Restriction, append, listed_if, restricted};
 use mob_lift::normal::normal;
 use mob_list::fault::Fault;
 use mob_slice::{Formula, Moving, PlaneLine, Slice, cut};
@@ -40,7 +40,7 @@ fn in_space_on(
 {
     match space {
         Some(area) => in_area_on(alloc, slice, &part, area, want),
-        None => listed(alloc, part, want),
+        None => listed_if(alloc, part, want),
     }
 }
 
@@ -106,14 +106,8 @@ fn in_time_on(
         Some(shared) => shared,
         None => return piece_on(alloc, slice, Some(slice.span), same_bool(want, false)),
     };
-    let part = match cut(alloc, slice, &shared) {
-        Ok(part) => part,
-        Err(fault) => return Err(fault),
-    };
-    let middle = match in_space_on(alloc, slice, part, space, want) {
-        Ok(middle) => middle,
-        Err(fault) => return Err(fault),
-    };
+    let part = cut(alloc, slice, &shared)?;
+    let middle = in_space_on(alloc, slice, part, space, want)?;
     around(alloc, slice, &shared, middle, want)
 }
 

@@ -30,7 +30,7 @@ pub struct SignChange {
     /// The instant.
     pub at: Option<Frac>,
     /// The sign after it.
-    pub behind: Ordering,
+    pub after: Ordering,
 }
 
 /// One of the signs of an edge.
@@ -93,26 +93,26 @@ fn without_root(span: &Span, lower: Ordering, upper: Ordering) -> SignChange
             return SignChange {
                 first: lower,
                 at: None,
-                behind: lower,
+                after: lower,
             };
         }
         return SignChange {
             first: lower,
             at: Some(*span.upper()),
-            behind: lower,
+            after: lower,
         };
     }
     if upper.is_ne() {
         return SignChange {
             first: upper,
             at: Some(*span.lower()),
-            behind: upper,
+            after: upper,
         };
     }
     SignChange {
         first: Ordering::Equal,
         at: None,
-        behind: Ordering::Equal,
+        after: Ordering::Equal,
     }
 }
 
@@ -128,7 +128,7 @@ fn change_of(span: &Span, placed: &Placed) -> SignChange
         Some(r) => SignChange {
             first: lower,
             at: Some(r),
-            behind: upper,
+            after: upper,
         },
         None => without_root(span, lower, upper),
     }
@@ -168,7 +168,7 @@ fn one_sign(
         changes.push(Change {
             at,
             there: one_known(which, Ordering::Equal),
-            behind: one_known(which, change.behind),
+            after: one_known(which, change.after),
         })?;
     }
     Ok(Timeline {
@@ -263,7 +263,7 @@ fn tallied(alloc: Global, signs: &Timeline<EdgeSigns>) -> Result<Timeline<Tally>
         changes.push(Change {
             at: change.at,
             there: edge_tally(&change.there),
-            behind: edge_tally(&change.behind),
+            after: edge_tally(&change.after),
         })?;
     }
     Ok(Timeline {

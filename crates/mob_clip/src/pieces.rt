@@ -12,7 +12,7 @@ ghost use Rattle.mob_clip.specs.Timelines.{timeline_at, ChangesFit};
 ghost use Rattle.mob_clip.specs.Pieces.{is_known_in, some_span, left_span, right_span, IsOnSlice, AreAllOrNothing, IsPushedBefore, AreKeptInPlane};
 
 use crate::timeline::Timeline;
-use mob_cells::{append, listed};
+use mob_cells::{append, listed_if};
 use mob_frac::Frac;
 use mob_list::fault::Fault;
 use mob_plane::{Tally, is_in};
@@ -35,10 +35,8 @@ pub fn piece_on(
         Some(span) => span,
         None => return Ok(Vec::new(alloc)),
     };
-    match cut(alloc, slice, &span) {
-        Ok(part) => listed(alloc, part, keeps),
-        Err(fault) => Err(fault),
-    }
+    let part = cut(alloc, slice, &span)?;
+    listed_if(alloc, part, keeps)
 }
 
 // The part of a span before an instant, including it if `included` is true.
@@ -102,10 +100,8 @@ fn finish(
 {
     let mut all = out;
     let more = piece_on(alloc, slice, piece, keeps)?;
-    match append(&mut all, more) {
-        Ok(()) => Ok(all),
-        Err(_) => Err(Fault::NoMemory),
-    }
+    append(&mut all, more)?;
+    Ok(all)
 }
 
 // Whether a point with this tally is kept.
@@ -133,16 +129,10 @@ pub fn kept_on(
     let changes = steps.changes.as_slice();
     for change in changes {
         let front = is_kept(want, &now);
-        rest = match push_before(alloc, slice, &mut out, rest, &change.at, false, front) {
-            Ok(rest) => rest,
-            Err(fault) => return Err(fault),
-        };
+        let after = push_before(alloc, slice, &mut out, rest, &change.at, false, front)?;
         let there = is_kept(want, &change.there);
-        rest = match push_before(alloc, slice, &mut out, rest, &change.at, true, there) {
-            Ok(rest) => rest,
-            Err(fault) => return Err(fault),
-        };
-        now = change.behind;
+        rest = push_before(alloc, slice, &mut out, after, &change.at, true, there)?;
+        now = change.after;
     }
     finish(alloc, slice, out, rest, is_kept(want, &now))
 }

@@ -14,7 +14,7 @@ ghost use Rattle.mob_cells.specs.Roots.{IsLevel, root_parts, roots_parts, as_lis
 ghost use Rattle.mob_clip.specs.Roots.{place, place_edge, listed_ends, edge_roots, IsBetweenEnds, IsPlacedEdge, parts_at_roots, ArePlacedOn};
 ghost use Rattle.mob_clip.specs.Polygons.{entries_of_edges};
 
-use crate::sides::{EdgeEnds, add, besides, turned};
+use crate::sides::{EdgeEnds, besides, turned};
 use mob_cells::{Ends, Placed, root};
 use mob_frac::Frac;
 use mob_list::fault::Fault;
@@ -83,7 +83,7 @@ fn push_placed(
             return Err(Fault::Because(passed));
         }
     };
-    add(out, next)?;
+    out.push(next)?;
     Ok(())
 }
 
@@ -96,10 +96,7 @@ fn placed(alloc: Global, span: &Span, edges: &[EdgeEnds]) -> Result<Vec<EdgePlac
     let _lower = span.lower();
     let mut out = Vec::new(alloc);
     for edge in edges {
-        match push_placed(&mut out, span, edge) {
-            Ok(()) => {}
-            Err(fault) => return Err(fault),
-        }
+        push_placed(&mut out, span, edge)?;
     }
     Ok(out)
 }
@@ -154,10 +151,7 @@ fn all_fit(alloc: Global, slice: &Slice<PlaneLine>, roots: &[Frac]) -> Result<()
     ensures fits { MatchResult result (λ _. AllFit (flat_map (slice_parts plane_parts_of slice.now) roots.now)) (IsPartFault F1 (flat_map (slice_parts plane_parts_of slice.now) roots.now)) }
 {
     for r in roots {
-        match fits_at(alloc, slice, r) {
-            Ok(()) => {}
-            Err(fault) => return Err(fault),
-        }
+        fits_at(alloc, slice, r)?;
     }
     Ok(())
 }
@@ -187,20 +181,9 @@ pub fn placed_on(
 {
     let p = &slice.course.from;
     let q = &slice.course.to;
-    let besides = match besides(alloc, edges, p, q) {
-        Ok(besides) => besides,
-        Err(fault) => return Err(fault),
-    };
-    let turned = match turned(alloc, besides.as_slice(), p, q) {
-        Ok(turned) => turned,
-        Err(fault) => return Err(fault),
-    };
-    let placed = match placed(alloc, &slice.span, turned.as_slice()) {
-        Ok(placed) => placed,
-        Err(fault) => return Err(fault),
-    };
-    match roots_fit(alloc, slice, placed.as_slice()) {
-        Ok(()) => Ok(placed),
-        Err(fault) => Err(fault),
-    }
+    let besides = besides(alloc, edges, p, q)?;
+    let turned = turned(alloc, besides.as_slice(), p, q)?;
+    let placed = placed(alloc, &slice.span, turned.as_slice())?;
+    roots_fit(alloc, slice, placed.as_slice())?;
+    Ok(placed)
 }

@@ -1,7 +1,7 @@
 //! The linear functions whose signs give the position of a point on a segment relative to edges.
 
 ghost use Rattle.mob_slice.specs.Entries.{IsMadeBy};
-ghost use Rattle.std.specs.Prelude.{◌≡◌, [], ◌∷◌, ◌++◌, map, OnOk};
+ghost use Rattle.std.specs.Prelude.{◌≡◌, map};
 ghost use Rattle.std.specs.List.{AllByRecursion, flat_map};
 ghost use Rattle.mob_frac.specs.Formula.{IsFormula};
 ghost use Rattle.mob_clip.specs.Sides.{point_parts, to_point, beside_parts, beside, turning_parts, turning, turned_by, turned_parts, with_turn, IsBeside};
@@ -13,7 +13,7 @@ use mob_frac::{Frac, Overflow};
 use mob_list::fault::Fault;
 use mob_plane::Point;
 use mob_slice::Formula;
-use std::alloc::{AllocError, Global};
+use std::alloc::Global;
 
 /// The differences of a point moving along a segment to another point, by coordinate.
 #[derive(Clone, Copy, Drop)]
@@ -48,14 +48,6 @@ pub struct EdgeEnds {
     pub y_a: Ends,
     /// The difference in y to the second end.
     pub y_b: Ends,
-}
-
-/// Appends an item. The only error is a failed allocation.
-pub fn add<T: Drop>(out: &mut Vec<T>, next: T) -> Result<(), AllocError>
-    ensures added { OnOk result (out.new.items ≡ out.old.items ++ next ∷ []) }
-{
-    out.push(next)?;
-    Ok(())
 }
 
 // The differences to the point `v` along the segment from `p` to `q`.
@@ -166,10 +158,7 @@ pub fn besides(
             point: edge.1,
             to: next.to_b,
         });
-        match add(&mut out, next) {
-            Ok(()) => {}
-            Err(_) => return Err(Fault::NoMemory),
-        }
+        out.push(next)?;
     }
     Ok(out)
 }
@@ -200,10 +189,7 @@ pub fn turned(
             y_a: beside.to_a.y,
             y_b: beside.to_b.y,
         };
-        match add(&mut out, next) {
-            Ok(()) => {}
-            Err(_) => return Err(Fault::NoMemory),
-        }
+        out.push(next)?;
     }
     Ok(out)
 }

@@ -15,10 +15,10 @@ pub struct Change<T> {
     /// The value at the instant.
     pub there: T,
     /// The value after it.
-    pub behind: T,
+    pub after: T,
 }
 
-/// A value at each instant: the first one, and after each change its `behind` value.
+/// A value at each instant: the first one, and after each change its `after` value.
 #[derive(Drop)]
 pub struct Timeline<T> {
     /// The value before the first change.
@@ -49,15 +49,15 @@ struct MetChange<T> {
 
 // A change of the first walk only.
 fn take_left<T: Mix>(x: &Change<T>, right: &T, i: usize, j: usize) -> MetChange<T>
-    ensures met { result ≡ record { change = mixed_left T.mix x.now right.now; left = x.now.behind; right = right.now; i = i; j = j } }
+    ensures met { result ≡ record { change = mixed_left T.mix x.now right.now; left = x.now.after; right = right.now; i = i; j = j } }
 {
     MetChange {
         change: Change {
             at: x.at,
             there: x.there.mix(right),
-            behind: x.behind.mix(right),
+            after: x.after.mix(right),
         },
-        left: x.behind,
+        left: x.after,
         right: *right,
         i,
         j,
@@ -66,16 +66,16 @@ fn take_left<T: Mix>(x: &Change<T>, right: &T, i: usize, j: usize) -> MetChange<
 
 // A change of the second walk only.
 fn take_right<T: Mix>(left: &T, y: &Change<T>, i: usize, j: usize) -> MetChange<T>
-    ensures met { result ≡ record { change = mixed_right T.mix left.now y.now; left = left.now; right = y.now.behind; i = i; j = j } }
+    ensures met { result ≡ record { change = mixed_right T.mix left.now y.now; left = left.now; right = y.now.after; i = i; j = j } }
 {
     MetChange {
         change: Change {
             at: y.at,
             there: left.mix(&y.there),
-            behind: left.mix(&y.behind),
+            after: left.mix(&y.after),
         },
         left: *left,
-        right: y.behind,
+        right: y.after,
         i,
         j,
     }
@@ -83,16 +83,16 @@ fn take_right<T: Mix>(left: &T, y: &Change<T>, i: usize, j: usize) -> MetChange<
 
 // A change of both at the same instant.
 fn take_both<T: Mix>(x: &Change<T>, y: &Change<T>, i: usize, j: usize) -> MetChange<T>
-    ensures met { result ≡ record { change = mixed_both T.mix x.now y.now; left = x.now.behind; right = y.now.behind; i = i; j = j } }
+    ensures met { result ≡ record { change = mixed_both T.mix x.now y.now; left = x.now.after; right = y.now.after; i = i; j = j } }
 {
     MetChange {
         change: Change {
             at: x.at,
             there: x.there.mix(&y.there),
-            behind: x.behind.mix(&y.behind),
+            after: x.after.mix(&y.after),
         },
-        left: x.behind,
-        right: y.behind,
+        left: x.after,
+        right: y.after,
         i,
         j,
     }

@@ -1,12 +1,12 @@
 -- When two linear functions are 0 at the same instant.
 use Rattle.std.{specs.Prelude.{◌≡◌, ◌↔◌, Bool, true, false, cond, ◌&&◌, ◌||◌, refl}, specs.declared.cmp.Ordering.TheVariants.{Equal}, proofs.Common.{arith, ap, sym, ◌∙◌, subst, true≢false}}
-use Rattle.mob_span.{specs.Span.{SpanOf, has, has_instant}, proofs.Insides.{inner_has}}
+use Rattle.mob_span.{specs.Span.{SpanOf, has, has_instant}, proofs.Insides.{inner_has}, proofs.SpanLemmas.{short_has}}
 use Rattle.mob_ratio.{specs.Ratio.{Ratio, ◌-ℚ◌, ◌*ℚ◌, ◌/ℚ◌}, specs.Order.{before, same}, specs.Line.{line_at}, specs.Sign.{nil, opposite, sign_of}, proofs.Order.{before-self, same_exact}}
 use Rattle.mob_ratio.{proofs.Field.{mul_comm, sub_self}, proofs.Divide.{mul_cancel, quotients_same}, proofs.LineAt.{line_at-lower, line_at-upper, line_at-short, line_at-level, line_at-scale}}
 use Rattle.mob_ratio.{proofs.Clear.{clear1, cleared}, proofs.IntRing.{linear}, proofs.Signs.{line_at-diff, sign_nil, sub_zero}}
 use Rattle.mob_cells.{specs.declared.linear.Ends.{Ends}, specs.Roots.{function_at}}
 use Rattle.mob_compare.{specs.Taken.{takes_inside, is_nil_line, nil_inside, both_nil}, proofs.Taking.{inside_from, inside_to, level_sign, no_opposite, is_sign_of}}
-use Rattle.mob_compare.proofs.OnSpans.{IsPlace, at_lower, within, at_upper, place_of, lower_has, upper_has, short_has}
+use Rattle.mob_compare.proofs.OnSpans.{IsPlace, at_lower, within, at_upper, place_of, lower_has, upper_has}
 
 nil_mul : (a : Ratio) → nil *ℚ a ≡ nil
 nil_mul = clear1 _ (λ D a p. simp cleared (omega (arith, linear)))
@@ -128,7 +128,7 @@ both_by s f e i true h = (
 both_by s f e i false h = (
   λ k.
       let w : (same f.at_lower nil && same e.at_lower nil) ≡ true = subst (λ z. cond z (nil_inside f e || (s.lower_inc && same f.at_lower nil && same e.at_lower nil) || (s.upper_inc && same f.at_upper nil && same e.at_upper nil)) (same f.at_lower nil && same e.at_lower nil) ≡ true) h k in
-      (s.lower, short_has s h i, at_low s f (grind (arith, w)), at_low s e (grind (arith, w))),
+      (s.lower, short_has s i h, at_low s f (grind (arith, w)), at_low s e (grind (arith, w))),
   λ m.
       let a : same f.at_lower nil ≡ true = (same_exact f.at_lower nil).1 (sym (line_at-short f.at_lower f.at_upper s.lower s.upper m.0 h) ∙ m.2) in
       let b : same e.at_lower nil ≡ true = (same_exact e.at_lower nil).1 (sym (line_at-short e.at_lower e.at_upper s.lower s.upper m.0 h) ∙ m.3) in

@@ -1,6 +1,6 @@
 -- The signs that linear functions take on a span.
 use Rattle.std.{specs.Prelude.{◌≡◌, ◌↔◌, Bool, true, false, cond, ◌&&◌, ◌||◌, refl}, specs.declared.cmp.Ordering.{Ordering}, proofs.Common.{arith, ap, sym, ◌∙◌, subst}}
-use Rattle.mob_span.{specs.Span.{SpanOf, has, has_instant}, proofs.Insides.{inner_has}}
+use Rattle.mob_span.{specs.Span.{SpanOf, has, has_instant}, proofs.Insides.{inner_has}, proofs.SpanLemmas.{short_has}}
 use Rattle.mob_ratio.{specs.Ratio.{Ratio}, specs.Order.{before}, specs.Sign.{sign_of}, proofs.Order.{before-self, before-neither}, proofs.LineAt.{line_at-lower, line_at-upper, line_at-short}}
 use Rattle.mob_cells.{specs.declared.linear.Ends.{Ends}, specs.Roots.{function_at}}
 use Rattle.mob_compare.{specs.Taken.{sign_is, takes_inside, takes_sign}, proofs.Taking.{inside_from, inside_to, sign_of_is, is_sign_of}}
@@ -26,10 +26,6 @@ place_by s t h true false ea eb = at_upper (before-neither t s.upper eb (grind (
 pub place_of : (s : SpanOf) (t : Ratio) → has s t ≡ true → IsPlace s t
 place_of s t h = place_by s t h (before s.lower t) (before t s.upper) refl refl
 
--- a span of one instant has only that instant
-pub short_has : (s : SpanOf) → before s.lower s.upper ≡ false → has_instant s ≡ true → has s s.lower ≡ true
-short_has s h i = grind (arith, h, i)
-
 -- ---- one function
 abbrev pub IsTaken : SpanOf → Ends → Ordering → Type 0
 IsTaken s f o = (t : Ratio) × (has s t ≡ true) × (sign_of (function_at s f t) ≡ o)
@@ -50,7 +46,7 @@ takes_by s f o i true h = (
   λ k. rw h (long_from s f o k.0 h k.2 (place_of s k.0 k.1)),
 )
 takes_by s f o i false h = (
-  λ k. (s.lower, short_has s h i, ap sign_of (line_at-lower f.at_lower f.at_upper s.lower s.upper) ∙ sign_of_is f.at_lower o (subst (λ z. cond z (takes_inside f.at_lower f.at_upper o || (s.lower_inc && sign_is o f.at_lower) || (s.upper_inc && sign_is o f.at_upper)) (sign_is o f.at_lower) ≡ true) h k)),
+  λ k. (s.lower, short_has s i h, ap sign_of (line_at-lower f.at_lower f.at_upper s.lower s.upper) ∙ sign_of_is f.at_lower o (subst (λ z. cond z (takes_inside f.at_lower f.at_upper o || (s.lower_inc && sign_is o f.at_lower) || (s.upper_inc && sign_is o f.at_upper)) (sign_is o f.at_lower) ≡ true) h k)),
   λ k. rw h (is_sign_of f.at_lower o (sym (ap sign_of (line_at-short f.at_lower f.at_upper s.lower s.upper k.0 h)) ∙ k.2)),
 )
 

@@ -1,8 +1,8 @@
 -- The signs of a linear function follow from its ends.
 use Rattle.std.{specs.Prelude.{◌≡◌, Bool, true, false, cond, not, ◌&&◌, ◌||◌, refl}, specs.declared.cmp.Ordering.{Ordering}, specs.declared.cmp.Ordering.TheVariants.{Less, Equal, Greater}}
-use Rattle.std.{proofs.Common.{arith, ap, sym, ◌∙◌, subst, true≢false}, proofs.lemmas.Bool.{false_from_ne_true}}
-use Rattle.mob_ratio.{specs.Ratio.{Ratio}, specs.Order.{before, up_to, same}, specs.Line.{line_at}, specs.Sign.{nil, opposite, root_at, sign_of, sign_on, IsRoot}}
-use Rattle.mob_ratio.{proofs.Order.{before-self, before-back, before-trans, before-neither, between, same_exact}, proofs.Signs.{root_holds, sign_open, sign_below, sign_above, sign_nil}}
+use Rattle.std.{proofs.Common.{arith, ap, sym, ◌∙◌, subst, true≢false}, proofs.lemmas.Bool.{or_left, or_right}}
+use Rattle.mob_ratio.{specs.Ratio.{Ratio}, specs.Order.{before, same}, specs.Line.{line_at}, specs.Sign.{nil, opposite, root_at, sign_of, sign_on, IsRoot}}
+use Rattle.mob_ratio.{proofs.Order.{before-back, before-trans, before-neither, before-differ, before-differ-back, between, same_exact, up_to-self}, proofs.Signs.{root_holds, sign_open, sign_below, sign_above, sign_nil}}
 use Rattle.mob_compare.specs.Taken.{sign_is, takes_inside}
 
 -- ---- signs
@@ -42,29 +42,13 @@ is_sign_of q Equal e = equal_is (before q nil) (before nil q) e
 is_sign_of q Greater e = greater_is (before q nil) (before nil q) e
 
 -- ---- strictly between the ends
-not_same : (l u : Ratio) → before l u ≡ true → same u l ≡ false
-not_same l u h = false_from_ne_true (same u l) (λ e. true≢false (sym h ∙ ap (λ z. before l z) ((same_exact u l).0 e) ∙ before-self l))
-
-not_same' : (l u : Ratio) → before l u ≡ true → same l u ≡ false
-not_same' l u h = false_from_ne_true (same l u) (λ e. true≢false (sym h ∙ ap (λ z. before z u) ((same_exact l u).0 e) ∙ before-self u))
-
-up_to_self : (t : Ratio) → up_to t t ≡ true
-up_to_self t = rw (before-self t) refl
-
 -- without a root, the sign is that of the end that is not 0
 pub level_sign : (f g l u t : Ratio) → before l t ≡ true → before t u ≡ true → opposite f g ≡ false → sign_of (line_at f g l u t) ≡ cond (same f nil) (sign_of g) (sign_of f)
 unfolding sign_on
 level_sign f g l u t h k o =
     let w = before-trans l t u h k in
-    sign_open f g l u l u t w (record { after = up_to_self l; until = up_to_self u; no_root = λ e. absurd (true≢false (sym e ∙ o)) }) h k false o
-    ∙ rw (o, not_same l u w, not_same' l u w) refl
-
-first_or : (a b : Bool) → a ≡ true → (a || b) ≡ true
-first_or a b h = rw h refl
-
-second_or : (a b : Bool) → b ≡ true → (a || b) ≡ true
-second_or true b h = refl
-second_or false b h = h
+    sign_open f g l u l u t w (record { after = up_to-self l; until = up_to-self u; no_root = λ e. absurd (true≢false (sym e ∙ o)) }) h k false o
+    ∙ rw (o, before-differ-back l u w, before-differ l u w) refl
 
 pub no_opposite : (f g : Ratio) → opposite f g ≡ true → (same f nil ≡ false) × (same g nil ≡ false)
 unfolding opposite same
@@ -72,27 +56,27 @@ no_opposite f g h = (grind (arith, h, before-back f nil, before-back g nil), gri
 
 -- the sign of an end that is not 0 is taken
 from_first : (f g : Ratio) (o : Ordering) → same f nil ≡ false → sign_is o f ≡ true → takes_inside f g o ≡ true
-from_first f g Less n h = first_or _ _ h
+from_first f g Less n h = or_left _ _ h
 from_first f g Equal n h = absurd (true≢false (sym h ∙ n))
-from_first f g Greater n h = first_or _ _ h
+from_first f g Greater n h = or_left _ _ h
 
 from_second : (f g : Ratio) (o : Ordering) → same g nil ≡ false → sign_is o g ≡ true → takes_inside f g o ≡ true
-from_second f g Less n h = second_or _ _ h
+from_second f g Less n h = or_right _ _ h
 from_second f g Equal n h = absurd (true≢false (sym h ∙ n))
-from_second f g Greater n h = second_or _ _ h
+from_second f g Greater n h = or_right _ _ h
 
 -- if one end is 0, the sign of the other
 from_other : (f g : Ratio) (o : Ordering) → same f nil ≡ true → sign_is o g ≡ true → takes_inside f g o ≡ true
-from_other f g Less n h = second_or _ _ h
-from_other f g Equal n h = second_or (opposite f g) (same f nil && same g nil) (rw (n, h) refl)
-from_other f g Greater n h = second_or _ _ h
+from_other f g Less n h = or_right _ _ h
+from_other f g Equal n h = or_right (opposite f g) (same f nil && same g nil) (rw (n, h) refl)
+from_other f g Greater n h = or_right _ _ h
 
 crossing_from : (f g l u t r : Ratio) (o : Ordering) → IsRoot f g l u r → opposite f g ≡ true → sign_of (line_at f g l u t) ≡ o → (a b : Bool) → before t r ≡ a → before r t ≡ b → takes_inside f g o ≡ true
 crossing_from f g l u t r o i h e true b ea eb = from_first f g o (no_opposite f g h).0 (is_sign_of f o (sym (i.left t ea) ∙ e))
 crossing_from f g l u t r o i h e false true ea eb = from_second f g o (no_opposite f g h).1 (is_sign_of g o (sym (i.right t eb) ∙ e))
 crossing_from f g l u t r o i h e false false ea eb =
     let z : Equal ≡ o = sym sign_nil ∙ ap sign_of (sym i.zero) ∙ ap (λ q. sign_of (line_at f g l u q)) (sym (before-neither t r ea eb)) ∙ e in
-    subst (λ o. takes_inside f g o ≡ true) z (first_or (opposite f g) (same f nil && same g nil) h)
+    subst (λ o. takes_inside f g o ≡ true) z (or_left (opposite f g) (same f nil && same g nil) h)
 
 level_from : (f g : Ratio) (o : Ordering) (b : Bool) → same f nil ≡ b → cond b (sign_of g) (sign_of f) ≡ o → takes_inside f g o ≡ true
 level_from f g o true n e = from_other f g o n (is_sign_of g o e)

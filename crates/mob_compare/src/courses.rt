@@ -29,24 +29,15 @@ where
     requires holds { HoldsPiece C.start_of C.end_of C.start_of C.end_of (piece_of piece.now) }
     ensures given { IsGiven steady_value steady_limit steady_limit (λ v. v.items) (on_sides C.value_of C.value_of (C.relation rel) (piece_of piece.now)) piece.now.span (entries_of_gaps C.value_of C.parts_of C.gaps_of (piece_of piece.now)) result }
 {
-    let left = match piece.left.on(alloc, &piece.span) {
-        Ok(left) => left,
-        Err(fault) => return Err(fault),
-    };
-    let right = match piece.right.on(alloc, &piece.span) {
-        Ok(right) => right,
-        Err(fault) => return Err(fault),
-    };
-    let functions = match gap_functions::<C>(
+    let left = piece.left.on(alloc, &piece.span)?;
+    let right = piece.right.on(alloc, &piece.span)?;
+    let functions = gap_functions::<C>(
         alloc,
         left.course.start(),
         right.course.start(),
         left.course.end(),
         right.course.end(),
-    ) {
-        Ok(functions) => functions,
-        Err(fault) => return Err(fault),
-    };
+    )?;
     flagged(alloc, &piece.span, functions, &ByGaps { rel })
 }
 

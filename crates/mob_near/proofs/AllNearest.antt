@@ -1,16 +1,13 @@
 -- The nearest of all pieces is the nearest of all common instants.
 use Rattle.std.{specs.Prelude.{◌≡◌, ◌⊎◌, ◌||◌, Bool, true, false, cond, not, List, [], ◌∷◌, Option, Some, None, refl}, specs.List.{AllByRecursion}}
 use Rattle.std.proofs.Common.{arith, ap, sym, ◌∙◌, subst, inl, inr}
-use Rattle.mob_ratio.{specs.Ratio.{Ratio}, specs.Order.{before, up_to, smaller}, proofs.Order.{before-self, before-trans, not-up_to-le, le-up_to}, proofs.Field.{le_trans}}
+use Rattle.mob_ratio.{specs.Ratio.{Ratio}, specs.Order.{before, up_to, smaller}, proofs.Order.{before-self, before-trans, up_to-trans}}
 use Rattle.mob_plane.specs.declared.point.Point.{Point}
 use Rattle.mob_span.{specs.Pieces.{PiecesAreClear, piece_at}, proofs.SpanLemmas.{some_instant}}
 use Rattle.mob_slice.{specs.Sides.{OperandOf, side_at, pieces, given_at, has_slices}, specs.Lines.{plane_value_of}, specs.declared.line.PlaneLine.{PlaneLine}, proofs.Options.{none_some}}
 use Rattle.mob_lift.{specs.Sometime.{IsSometime}, proofs.Walking.{walked}, proofs.PieceAt.{first_at, later_at, which_at, there, found, no_common, common_by}}
 use Rattle.mob_near.{specs.Approaches.{IsNearest, IsApproach}, specs.Distances.{distance_squared}, specs.Entries.{PointPiece}, specs.Legs.{nearest_of, piece_approach}}
 use Rattle.mob_near.proofs.OnPieces.{square_on, IsNearestOn}
-
-up_to-trans : (a b c : Ratio) → up_to a b ≡ true → up_to b c ≡ true → up_to a c ≡ true
-up_to-trans a b c h k = rw (le-up_to a c (le_trans a b c (not-up_to-le a b h) (not-up_to-le b c k))) refl
 
 -- ---- the smaller of two
 either_below : (a b n : Ratio) (c : Bool) → before a b ≡ c → before (cond c a b) n ≡ true → (before a n ≡ true) ⊎ (before b n ≡ true)

@@ -1,7 +1,7 @@
 -- The nearness of two points on a piece of time.
-use Rattle.std.{specs.Prelude.{◌≡◌, ◌↔◌, Bool, true, false, cond, not, List, [], ◌∷◌, refl}, specs.List.{AllByRecursion}, proofs.Common.{arith, ap, sym, ◌∙◌, subst}}
+use Rattle.std.{specs.Prelude.{◌≡◌, ◌↔◌, Bool, true, false, cond, not, List, [], ◌∷◌, refl}, specs.List.{AllByRecursion}, proofs.Common.{ap, sym, ◌∙◌, subst}}
 use Rattle.mob_ratio.{specs.Ratio.{Ratio, ◌≤ℚ◌}, specs.Order.{before, up_to}, specs.Sign.{nil}, proofs.LineAt.{line_at-short}, proofs.Order.{before-self}}
-use Rattle.mob_span.{specs.Span.{SpanOf, has, has_instant}, specs.Pieces.{PiecesAreClear}}
+use Rattle.mob_span.{specs.Span.{SpanOf, has, has_instant}, specs.Pieces.{PiecesAreClear}, proofs.SpanLemmas.{short_has}}
 use Rattle.mob_slice.{specs.Sides.{HoldsPiece, side_at}, specs.Lines.{plane_value_of}, specs.LineComparison.{plane_comparison}, specs.PlaneLaws.{plane_laws}, specs.declared.comparison.Gaps.{Gaps}}
 use Rattle.mob_slice.specs.declared.comparison.Gaps.TheVariants.{Constant, One, Two}
 use Rattle.mob_cells.proofs.AtEnds.{gaps_on}
@@ -26,10 +26,6 @@ along_leg p held some t i = ap length_of (gaps_on plane_laws plane_comparison p 
 short_square : (g : Leg) (r : SpanOf) (t : Ratio) → before r.lower r.upper ≡ false → square_at g r t ≡ (squares_of g).first
 short_square g r t h = rw (line_at-short g.x0 g.x1 r.lower r.upper t h, line_at-short g.y0 g.y1 r.lower r.upper t h) refl
 
--- a span of one instant includes it
-lower_has : (r : SpanOf) → has_instant r ≡ true → before r.lower r.upper ≡ false → has r r.lower ≡ true
-lower_has r h k = grind (arith, h, k, before-self r.lower)
-
 -- ---- at most D
 abbrev pub IsReachedOn : Ratio → PointPiece → Type 0
 IsReachedOn D p = (piece_reaches D p ≡ true) ↔ ((t : Ratio) × (has p.span t ≡ true) × (up_to (square_on p t) D ≡ true))
@@ -42,7 +38,7 @@ reached_by D p hd held some true e =
     )
 reached_by D p hd held some false e =
     let at : (t : Ratio) → has p.span t ≡ true → square_on p t ≡ (squares_of (leg_of p)).first = λ t i. along_leg p held some t i ∙ short_square (leg_of p) p.span t e in
-    let i = lower_has p.span some e in (
+    let i = short_has p.span some e in (
       (λ h. (p.span.lower, i, ap (λ z. up_to z D) (at p.span.lower i) ∙ subst (λ b. cond b (leg_reaches D p.span.lower_inc p.span.upper_inc (leg_of p)) (up_to (squares_of (leg_of p)).first D) ≡ true) e h)),
       (λ m. rw e (ap (λ z. up_to z D) (sym (at m.0 m.1)) ∙ m.2)),
     )
@@ -65,7 +61,7 @@ nearest_by p held some true e =
     }
 nearest_by p held some false e =
     let at : (t : Ratio) → has p.span t ≡ true → square_on p t ≡ (squares_of (leg_of p)).first = λ t i. along_leg p held some t i ∙ short_square (leg_of p) p.span t e in
-    let i = lower_has p.span some e in
+    let i = short_has p.span some e in
     record {
       lower = λ t h. ap (λ z. up_to (squares_of (leg_of p)).first z) (at t h) ∙ ap not (before-self (squares_of (leg_of p)).first);
       greatest = λ n h. (p.span.lower, i, ap (λ z. before z n) (at p.span.lower i) ∙ h);

@@ -41,7 +41,7 @@ as_across g =
     let A = E ⊗ E ⊕ F ⊗ F in let B = X ⊗ E ⊕ Y ⊗ F in let C = X ⊗ X ⊕ Y ⊗ Y in let K = X ⊗ F ⊖ Y ⊗ E in
     ring_ℚ (g.x0 ∷ g.y0 ∷ g.x1 ∷ g.y1 ∷ []) (A ⊗ C ⊖ B ⊗ B) (K ⊗ K) refl
 
-squared_le : (x y : Ratio) → nil ≤ℚ length_squared x y
+pub squared_le : (x y : Ratio) → nil ≤ℚ length_squared x y
 squared_le x y = add_le _ _ (square_le x) (square_le y)
 
 -- ---- s is the elapsed fraction of the time from l to u at t

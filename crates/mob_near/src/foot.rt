@@ -111,10 +111,8 @@ pub fn reaches_between(leg: &Leg, square: &Frac) -> Result<bool, Overflow>
 {
     let ex = leg.x1.sub(&leg.x0)?;
     let ey = leg.y1.sub(&leg.y0)?;
-    match foot_by(&leg.x0, &leg.y0, &ex, &ey) {
-        Ok(foot) => foot_reaches(&foot, square),
-        Err(fault) => Err(fault),
-    }
+    let foot = foot_by(&leg.x0, &leg.y0, &ex, &ey)?;
+    foot_reaches(&foot, square)
 }
 
 /// The squared length of the nearest point of a leg, if it lies strictly between its ends. It is
@@ -124,8 +122,6 @@ pub fn square_between(leg: &Leg) -> Result<Option<Frac>, Overflow>
 {
     let ex = leg.x1.sub(&leg.x0)?;
     let ey = leg.y1.sub(&leg.y0)?;
-    match foot_by(&leg.x0, &leg.y0, &ex, &ey) {
-        Ok(foot) => foot_square(&foot),
-        Err(fault) => Err(fault),
-    }
+    let foot = foot_by(&leg.x0, &leg.y0, &ex, &ey)?;
+    foot_square(&foot)
 }

@@ -54,10 +54,8 @@ fn ends_on(
     ensures ends { IsComputed F1 (at_ends (slice_parts plane_parts_of slice.now) span.now) (record { from = slice_value plane_value_of slice.now span.now.lower; to = slice_value plane_value_of slice.now span.now.upper }) result }
 {
     let from = point_at(alloc, slice, span.lower(), found)?;
-    match point_at(alloc, slice, span.upper(), found) {
-        Ok(to) => Ok(PlaneLine { from, to }),
-        Err(passed) => Err(passed),
-    }
+    let to = point_at(alloc, slice, span.upper(), found)?;
+    Ok(PlaneLine { from, to })
 }
 
 // The points of a side at the two ends of a piece.
@@ -115,14 +113,8 @@ pub fn leg_on(
     ensures leg { IfOk result (λ g. g ≡ leg_of (piece_of piece.now)) }
     ensures first { IsDecided (entries_of_ends plane_value_of plane_parts_of point_gaps (piece_of piece.now)) result }
 {
-    let left = match ends_of(alloc, &piece.left, &piece.span, &mut last.left) {
-        Ok(left) => left,
-        Err(passed) => return Err(passed),
-    };
-    let right = match ends_of(alloc, &piece.right, &piece.span, &mut last.right) {
-        Ok(right) => right,
-        Err(passed) => return Err(passed),
-    };
+    let left = ends_of(alloc, &piece.left, &piece.span, &mut last.left)?;
+    let right = ends_of(alloc, &piece.right, &piece.span, &mut last.right)?;
     leg_between(&left, &right, &mut last.apart)
 }
 

@@ -68,10 +68,7 @@ fn ever_reaches(
     let mut found = None;
     let mut last = nothing();
     for piece in Pieces::new(a, b) {
-        let here = match piece_reaches(alloc, &piece, square, &mut last) {
-            Ok(here) => here,
-            Err(passed) => return Err(passed),
-        };
+        let here = piece_reaches(alloc, &piece, square, &mut last)?;
         found = Some(either(found, here));
     }
     Ok(found)
@@ -133,10 +130,7 @@ pub fn approach_squared(
     let mut nearest = None;
     let mut last = nothing();
     for piece in Pieces::new(a, b) {
-        let here = match piece_approach(alloc, &piece, &mut last) {
-            Ok(here) => here,
-            Err(passed) => return Err(passed),
-        };
+        let here = piece_approach(alloc, &piece, &mut last)?;
         nearest = Some(nearest_of(nearest, here));
     }
     Ok(nearest)

@@ -44,14 +44,8 @@ pub fn piece_reaches(
     ensures value { IfOk result (λ b. b ≡ piece_reaches square.now (piece_of piece.now)) }
     ensures first { IsDecided (entries_of_reach square.now (piece_of piece.now)) result }
 {
-    let leg = match leg_on(alloc, piece, last) {
-        Ok(leg) => leg,
-        Err(passed) => return Err(passed),
-    };
-    let squares = match squares_at_ends(&leg, &mut last.squared) {
-        Ok(squares) => squares,
-        Err(passed) => return Err(passed),
-    };
+    let leg = leg_on(alloc, piece, last)?;
+    let squares = squares_at_ends(&leg, &mut last.squared)?;
     if !piece.span.is_long() {
         return Ok(!square.is_before(&squares.first));
     }
@@ -84,14 +78,8 @@ pub fn piece_approach(
     ensures value { IfOk result (λ m. m ≡ piece_approach (piece_of piece.now)) }
     ensures first { IsDecided (entries_of_approach (piece_of piece.now)) result }
 {
-    let leg = match leg_on(alloc, piece, last) {
-        Ok(leg) => leg,
-        Err(passed) => return Err(passed),
-    };
-    let squares = match squares_at_ends(&leg, &mut last.squared) {
-        Ok(squares) => squares,
-        Err(passed) => return Err(passed),
-    };
+    let leg = leg_on(alloc, piece, last)?;
+    let squares = squares_at_ends(&leg, &mut last.squared)?;
     if !piece.span.is_long() {
         return Ok(squares.first);
     }

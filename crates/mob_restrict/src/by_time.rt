@@ -29,10 +29,8 @@ where
     requires holds { HoldsMet C.start_of C.end_of (met_of met.now) }
     ensures given { IsGiven C.value_of C.start_of C.end_of (λ v. v.items) (slice_value C.value_of met.now.left.now) met.now.span (entry_of_cut C.parts_of (met_of met.now)) result }
 {
-    match cut(alloc, met.left, &met.span) {
-        Ok(slice) => listed(alloc, slice),
-        Err(fault) => Err(fault),
-    }
+    let slice = cut(alloc, met.left, &met.span)?;
+    listed(alloc, slice)
 }
 
 // The slices of a temporal value at the instants of spans that are in order.
@@ -89,10 +87,8 @@ where
     };
     // A method call gives the proof the invariant of a span.
     let _ = time.lower();
-    match remainders(alloc, &time, spans) {
-        Ok(left) => within(alloc, a, left.as_slice()),
-        Err(_) => Err(Fault::NoMemory),
-    }
+    let left = remainders(alloc, &time, spans)?;
+    within(alloc, a, left.as_slice())
 }
 
 /// The temporal value at the instants of the set (MobilityDB's `atTime`). `None` exactly if no

@@ -29,16 +29,13 @@ where
     requires sound { IsSound C.start_of C.end_of slice.now }
     ensures kept { IsKeptWhere C.Course (λ v. v.items) want (λ t x. C.relation Eq x value.now) slice.now slice.now.span (entries_of_value C.value_of C.parts_of C.gaps_of value.now slice.now) result }
 {
-    let functions = match gap_functions::<C>(
+    let functions = gap_functions::<C>(
         alloc,
         slice.course.start(),
         value,
         slice.course.end(),
         value,
-    ) {
-        Ok(functions) => functions,
-        Err(fault) => return Err(fault),
-    };
+    )?;
     kept(
         alloc,
         slice,
@@ -66,10 +63,8 @@ where
     if !same_bool(want, keeps) {
         return Ok(Vec::new(alloc));
     }
-    match cut(alloc, slice, &slice.span) {
-        Ok(part) => listed(alloc, part),
-        Err(fault) => Err(fault),
-    }
+    let part = cut(alloc, slice, &slice.span)?;
+    listed(alloc, part)
 }
 
 // The condition that a value equals a given one.

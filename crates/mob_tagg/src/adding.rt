@@ -36,28 +36,16 @@ where
     ensures given { IsSumGiven C.value_of C.start_of C.end_of C.parts_of C.number C.added pair.now result }
 {
     let last = memo.replace(None);
-    let left = match cut(alloc, pair.left, &pair.span) {
-        Ok(left) => left,
-        Err(fault) => return Err(fault),
-    };
+    let left = cut(alloc, pair.left, &pair.span)?;
     // The call of `lower` gives the proof the invariant of a span.
-    let right = match cut_by(
+    let right = cut_by(
         alloc,
         pair.right,
         &pair.span,
         limit_again(alloc, pair.right, pair.span.lower(), &last),
-    ) {
-        Ok(right) => right,
-        Err(fault) => return Err(fault),
-    };
-    let from = match summed_again(alloc, left.course.start(), right.course.start(), &last) {
-        Ok(from) => from,
-        Err(fault) => return Err(fault),
-    };
-    let to = match summed::<C>(left.course.end(), right.course.end()) {
-        Ok(to) => to,
-        Err(fault) => return Err(fault),
-    };
+    )?;
+    let from = summed_again(alloc, left.course.start(), right.course.start(), &last)?;
+    let to = summed::<C>(left.course.end(), right.course.end())?;
     keep(alloc, memo, pair.right, left, right, &to);
     Ok(Slice {
         span: pair.span,
@@ -80,7 +68,7 @@ where
     ensures first { IsJudged (flat_map (entries_at_ends C.value_of C.parts_of C.value_of C.parts_of (λ x y. sum_parts (C.number x) (C.number y))) (pieces (Slices total.now) (Slices v.now))) result }
 {
     let memo = Cell::new(None);
-    let slices = match merged(
+    let slices = merged(
         alloc,
         total,
         v,
@@ -88,10 +76,7 @@ where
             requires fit { IsPairFit C.start_of C.end_of C.start_of C.end_of pair.now }
             ensures given { IsSumGiven C.value_of C.start_of C.end_of C.parts_of C.number C.added pair.now result }
         { sum_on::<C>(alloc, pair, &memo) },
-    ) {
-        Ok(slices) => slices,
-        Err(fault) => return Err(fault),
-    };
+    )?;
     normal_of(alloc, slices)
 }
 

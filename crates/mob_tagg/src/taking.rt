@@ -31,10 +31,7 @@ where
     requires fit { IsOneFit C.start_of C.end_of one.now }
     ensures given { IsGiven C.value_of C.start_of C.end_of (λ s. s ∷ []) (slice_value C.value_of one.now.slice.now) one.now.span (entry_alone C.parts_of one.now) result }
 {
-    match cut(alloc, one.slice, &one.span) {
-        Ok(slice) => Ok(slice),
-        Err(fault) => Err(fault),
-    }
+    cut(alloc, one.slice, &one.span)
 }
 
 // A slice on a piece on which it is alone, as a list.
@@ -47,10 +44,8 @@ where
     requires fit { IsOneFit C.start_of C.end_of one.now }
     ensures given { IsGiven C.value_of C.start_of C.end_of (λ v. v.items) (slice_value C.value_of one.now.slice.now) one.now.span (entry_alone C.parts_of one.now) result }
 {
-    match cut(alloc, one.slice, &one.span) {
-        Ok(slice) => listed(alloc, slice),
-        Err(fault) => Err(fault),
-    }
+    let slice = cut(alloc, one.slice, &one.span)?;
+    listed(alloc, slice)
 }
 
 // Whether all parts of F1 of both slices fit at the ends of a piece. Courses that change in steps
@@ -64,14 +59,8 @@ where
     if C::STEADY {
         return Ok(());
     }
-    match cut(alloc, pair.left, &pair.span) {
-        Ok(_) => {}
-        Err(fault) => return Err(fault),
-    }
-    match cut(alloc, pair.right, &pair.span) {
-        Ok(_) => {}
-        Err(fault) => return Err(fault),
-    }
+    cut(alloc, pair.left, &pair.span)?;
+    cut(alloc, pair.right, &pair.span)?;
     Ok(())
 }
 
@@ -223,10 +212,8 @@ where
     requires fit { IsPairFit C.start_of C.end_of C.start_of C.end_of pair.now }
     ensures checked { IsChecked C.parts_of (FnReturnsAt F.Fn both.now) pair.now result }
 {
-    match cuts_fit(alloc, pair) {
-        Ok(()) => both(pair),
-        Err(fault) => Err(fault),
-    }
+    cuts_fit(alloc, pair)?;
+    both(pair)
 }
 
 /// Two values merged: at each instant at which both are defined, the result of `both`; if one is,
@@ -247,7 +234,7 @@ where
     ensures taken { IfOk result (λ r. AreTaken C.value_of C.start_of C.end_of C.parts_of (λ v. v.items) (FnReturnsAt F.Fn both) a.now b.now r) }
     ensures passed { (formula : Formula) → result ≡ Err (Fault.Because formula) → IsFirstRefused C.start_of C.end_of C.parts_of (FnReturnsAt F.Fn both) a.now b.now formula }
 {
-    let slices = match together(
+    let slices = together(
         alloc,
         a,
         b,
@@ -256,10 +243,7 @@ where
             requires fit { IsPairFit C.start_of C.end_of C.start_of C.end_of pair.now }
             ensures checked { IsChecked C.parts_of (FnReturnsAt F.Fn both) pair.now result }
         { on_pair(alloc, pair, &both) },
-    ) {
-        Ok(slices) => slices,
-        Err(fault) => return Err(fault),
-    };
+    )?;
     normal_of(alloc, slices)
 }
 

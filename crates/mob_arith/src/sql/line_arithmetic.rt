@@ -130,10 +130,8 @@ fn frac_quotient(alloc: Global, left: &Value, right: &Value) -> Result<Value, Fa
     if is_nil(k) {
         return Ok(Value::Null);
     }
-    match over_const(alloc, a, k) {
-        Ok(value) => Ok(frac_or_null(Some(value))),
-        Err(fault) => Err(fault),
-    }
+    let value = over_const(alloc, a, k)?;
+    Ok(frac_or_null(Some(value)))
 }
 
 /// `/` with a tfrac as the result; NULL if the divisor is 0.

@@ -43,10 +43,7 @@ where
 {
     let mut found = None;
     for piece in Pieces::new(a, b) {
-        let here = match piece_meets(alloc, &piece, rel, want) {
-            Ok(here) => here,
-            Err(passed) => return Err(passed),
-        };
+        let here = piece_meets(alloc, &piece, rel, want)?;
         found = Some(either(found, here));
     }
     Ok(found)

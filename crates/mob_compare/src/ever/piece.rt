@@ -26,10 +26,9 @@ where
     ensures met { IfOk result (λ b. b ≡ piece_meets C.STEADY C.value_of C.start_of C.relation C.gaps_of rel want (piece_of piece.now)) }
     ensures first { IsDecided (entries_of_ends C.value_of C.parts_of C.gaps_of (piece_of piece.now)) result }
 {
-    match gaps_at_ends(alloc, piece) {
-        Ok(gaps) => Ok(gaps_meet(&piece.span, rel, want, &gaps.at_lower, &gaps.at_upper)),
-        Err(passed) => Err(passed),
-    }
+    let gaps = gaps_at_ends(alloc, piece)?;
+    let met = gaps_meet(&piece.span, rel, want, &gaps.at_lower, &gaps.at_upper);
+    Ok(met)
 }
 
 /// Whether the comparison has the wanted result at some instant of the piece.

@@ -63,10 +63,8 @@ fn restricted_to_span(
 ) -> Result<Value, Fault<Formula>>
     ensures outcome { IsOutcome (IsRestriction want (span.now ∷ []) value.now) (IsFirst (cuts_of (span.now ∷ []) value.now)) result }
 {
-    match one_span(alloc, span) {
-        Ok(when) => restricted(alloc, want, value, &when),
-        Err(_) => Err(Fault::NoMemory),
-    }
+    let when = one_span(alloc, span)?;
+    restricted(alloc, want, value, &when)
 }
 
 /// atTime if `want` is true, minusTime if it is false: the value at the instants of the second

@@ -1,39 +1,46 @@
+use Rattle.std.proofs.lemmas.Result.{err_from_is_err_and}
 use Rattle.mob_slice.specs.Sides.{piece_of}
 use Rattle.mob_cells.proofs.AtEnds.{left_fails, right_fails, lower_fails, upper_fails, all_fit, both_ends}
 use Rattle.mob_cells.proofs.differences.gaps_at_ends.Goals as goal
 
-pub returns-in-Err-clause-first : goal.returns-in-Err-clause-first
-returns-in-Err-clause-first g c = left_fails g.C.Course.value_of g.C.Course.parts_of g.C.Compared.gaps_of (piece_of c.args.piece.now) c.in-Err.passed c.in-Err.ensures.slice
+pub returns-in_err-left-clause-first : goal.returns-in_err-left-clause-first
+returns-in_err-left-clause-first g c =
+    let p = err_from_is_err_and c.from_residual.result c.from_residual.ensures.1 in
+    rw (p.1, p.2) (left_fails g.C.Course.value_of g.C.Course.parts_of g.C.Compared.gaps_of (piece_of c.args.piece.now) c.in_err-left.field-0.0 c.in_err-left.ensures.slice)
 
-pub returns-in-Err-on_piece_of-clause-first : goal.returns-in-Err-on_piece_of-clause-first
-returns-in-Err-on_piece_of-clause-first g c = right_fails g.C.Course.value_of g.C.Course.parts_of g.C.Compared.gaps_of (piece_of c.args.piece.now) c.in-Err-on_piece_of.passed c.in-Err-on_piece_of.ensures.slice
+pub returns-in_err-right-clause-first : goal.returns-in_err-right-clause-first
+returns-in_err-right-clause-first g c =
+    let p = err_from_is_err_and c.from_residual-in_err-right.result c.from_residual-in_err-right.ensures.1 in
+    rw (p.1, p.2) (right_fails g.C.Course.value_of g.C.Course.parts_of g.C.Compared.gaps_of (piece_of c.args.piece.now) c.in_err-right.field-0.0 c.in_err-right.ensures.slice)
 
-pub returns-in-Err-gaps-clause-first : goal.returns-in-Err-gaps-clause-first
-returns-in-Err-gaps-clause-first g c =
-    let h = c.in-Ok.ensures.slice in
-    let k = c.in-Ok-on_piece_of.ensures.slice in
-    lower_fails g.C.Course.value_of g.C.Course.parts_of g.C.Compared.gaps_of (piece_of c.args.piece.now) c.in-Ok.left c.in-Ok-on_piece_of.right h.0 k.0 h.1 k.1 c.in-Err-gaps.passed
-    (rw (c.start.ensures.limit, c.start-2.ensures.limit) at c.in-Err-gaps.ensures.gaps)
+pub returns-in_err-at_lower-clause-first : goal.returns-in_err-at_lower-clause-first
+returns-in_err-at_lower-clause-first g c =
+    let p = err_from_is_err_and c.from_residual-in_err-at_lower.result c.from_residual-in_err-at_lower.ensures.1 in
+    let h = c.in_ok-left.ensures.slice in
+    let k = c.in_ok-right.ensures.slice in
+    rw (p.1, p.2) (lower_fails g.C.Course.value_of g.C.Course.parts_of g.C.Compared.gaps_of (piece_of c.args.piece.now) c.in_ok-left.left c.in_ok-right.right h.0 k.0 h.1 k.1 c.in_err-at_lower.field-0.0
+    (rw (c.start.ensures.limit, c.start-2.ensures.limit) at c.in_err-at_lower.ensures.gaps))
 
-pub returns-in-Err-gaps-2-clause-first : goal.returns-in-Err-gaps-2-clause-first
-returns-in-Err-gaps-2-clause-first g c =
-    let h = c.in-Ok.ensures.slice in
-    let k = c.in-Ok-on_piece_of.ensures.slice in
-    upper_fails g.C.Course.value_of g.C.Course.parts_of g.C.Compared.gaps_of (piece_of c.args.piece.now) c.in-Ok.left c.in-Ok-on_piece_of.right h.0 k.0 h.1 k.1 c.in-Err-gaps-2.passed
-    (rw (c.end.ensures.limit, c.end-2.ensures.limit) at c.in-Err-gaps-2.ensures.gaps)
+pub returns-in_err-at_upper-clause-first : goal.returns-in_err-at_upper-clause-first
+returns-in_err-at_upper-clause-first g c =
+    let p = err_from_is_err_and c.from_residual-in_err-at_upper.result c.from_residual-in_err-at_upper.ensures.1 in
+    let h = c.in_ok-left.ensures.slice in
+    let k = c.in_ok-right.ensures.slice in
+    rw (p.1, p.2) (upper_fails g.C.Course.value_of g.C.Course.parts_of g.C.Compared.gaps_of (piece_of c.args.piece.now) c.in_ok-left.left c.in_ok-right.right h.0 k.0 h.1 k.1 c.in_err-at_upper.field-0.0
+    (rw (c.end.ensures.limit, c.end-2.ensures.limit) at c.in_err-at_upper.ensures.gaps))
 
 pub returns-clause-first : goal.returns-clause-first
 returns-clause-first g c =
-    let h = c.in-Ok.ensures.slice in
-    let k = c.in-Ok-on_piece_of.ensures.slice in
-    let a = rw (c.start.ensures.limit, c.start-2.ensures.limit) at c.in-Ok-gaps.ensures.gaps in
-    let b = rw (c.end.ensures.limit, c.end-2.ensures.limit) at c.in-Ok-gaps-2.ensures.gaps in
-    all_fit g.C.Course.value_of g.C.Course.parts_of g.C.Compared.gaps_of (piece_of c.args.piece.now) c.in-Ok.left c.in-Ok-on_piece_of.right h.0 k.0 h.1 k.1 a.1 b.1
+    let h = c.in_ok-left.ensures.slice in
+    let k = c.in_ok-right.ensures.slice in
+    let a = rw (c.start.ensures.limit, c.start-2.ensures.limit) at c.in_ok-at_lower.ensures.gaps in
+    let b = rw (c.end.ensures.limit, c.end-2.ensures.limit) at c.in_ok-at_upper.ensures.gaps in
+    all_fit g.C.Course.value_of g.C.Course.parts_of g.C.Compared.gaps_of (piece_of c.args.piece.now) c.in_ok-left.left c.in_ok-right.right h.0 k.0 h.1 k.1 a.1 b.1
 
 pub returns-clause-gaps : goal.returns-clause-gaps
 returns-clause-gaps g c =
-    let h = c.in-Ok.ensures.slice in
-    let k = c.in-Ok-on_piece_of.ensures.slice in
-    let a = rw (c.start.ensures.limit, c.start-2.ensures.limit) at c.in-Ok-gaps.ensures.gaps in
-    let b = rw (c.end.ensures.limit, c.end-2.ensures.limit) at c.in-Ok-gaps-2.ensures.gaps in
-    both_ends g.C.Course.value_of g.C.Course.parts_of g.C.Compared.gaps_of (piece_of c.args.piece.now) c.in-Ok.left c.in-Ok-on_piece_of.right h.0 k.0 h.1 k.1 c.in-Ok-gaps.at_lower c.in-Ok-gaps-2.at_upper a.0 b.0
+    let h = c.in_ok-left.ensures.slice in
+    let k = c.in_ok-right.ensures.slice in
+    let a = rw (c.start.ensures.limit, c.start-2.ensures.limit) at c.in_ok-at_lower.ensures.gaps in
+    let b = rw (c.end.ensures.limit, c.end-2.ensures.limit) at c.in_ok-at_upper.ensures.gaps in
+    both_ends g.C.Course.value_of g.C.Course.parts_of g.C.Compared.gaps_of (piece_of c.args.piece.now) c.in_ok-left.left c.in_ok-right.right h.0 k.0 h.1 k.1 c.in_ok-at_lower.at_lower c.in_ok-at_upper.at_upper a.0 b.0

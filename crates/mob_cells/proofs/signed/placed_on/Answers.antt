@@ -17,7 +17,7 @@ loop-ends-preserved c =
     let at = c.loop-ends in
     let fs = c.args.functions.now in
     placing_step c.args.span.now fs (drop at.ends-index fs) (drop (at.ends-index + 1) fs) c.ends-item.result c.in-Ok.root at.placed.items c.push.new.self.items
-    (drop_read fs at.ends-index c.ends-item.result (omega arith) c.ends-item.is) c.in-Ok.ensures.value.0 c.in-Ok.ensures.value.1 c.in-Ok-push.ensures.items at.invariant
+    (drop_read fs at.ends-index c.ends-item.result (omega arith) c.ends-item.is) c.in-Ok.ensures.value.0 c.in-Ok.ensures.value.1 c.in_ok-push.ensures.items at.invariant
 
 pub returns-in-Err-clause-fits : goal.returns-in-Err-clause-fits
 returns-in-Err-clause-fits c =

@@ -17,16 +17,16 @@ push_before-requires-in-loop-change-clause-holds c =
     let x = c.change-item.result in
     let e = drop_read xs at.change-index x (omega arith) c.change-item.is in
     let f = subst (ChangesFit (slice_parts plane_parts_of c.args.slice.now)) e at.invariant.fits in
-    rw c.in-Ok.ensures.pushed.0 (rest_holds c.args.slice.now at.rest x.at false at.invariant.left.holds f.0)
+    rw c.in_ok-after.ensures.pushed.0 (rest_holds c.args.slice.now at.rest x.at false at.invariant.left.holds f.0)
 
 pub loop-change-preserved : goal.loop-change-preserved
 loop-change-preserved c =
     let at = c.loop-change in
     let xs = c.as_slice-changes.result.now in
     let x = c.change-item.result in
-    let p = c.in-Ok.ensures.pushed in
-    let q = c.in-Ok-push_before.ensures.pushed in
-    passing_step c.args.slice.now c.args.want c.args.steps.now at.rest c.in-Ok.rest c.in-Ok-push_before.rest at.now (drop at.change-index xs) (drop (at.change-index + 1) xs) x c.is_kept-front.result c.is_kept-there.result at.out.items c.push_before.new.out.items c.push_before-in-loop-change.new.out.items p.1 q.1 (drop_read xs at.change-index x (omega arith) c.change-item.is)
+    let p = c.in_ok-after.ensures.pushed in
+    let q = c.in_ok-rest.ensures.pushed in
+    passing_step c.args.slice.now c.args.want c.args.steps.now at.rest c.in_ok-after.after _ at.now (drop at.change-index xs) (drop (at.change-index + 1) xs) x c.is_kept-front.result c.is_kept-there.result at.out.items c.push_before.new.out.items c.push_before-in-loop-change.new.out.items p.1 q.1 (drop_read xs at.change-index x (omega arith) c.change-item.is)
     c.is_kept-front.ensures.value p.0 p.2 p.3 c.is_kept-there.ensures.value q.0 q.2 q.3 at.invariant
 
 pub returns : goal.returns

@@ -13,7 +13,7 @@ loop-edge-preserved c =
     let x = c.edge-item.result in
     let v = c.in-Ok.ensures.value in
     record {
-      listed = mapping_step (beside p q) (beside_parts p q) xs (drop at.edge-index xs) (drop (at.edge-index + 1) xs) at.out.items c.add.new.out.items x c.in-Ok.next (drop_read xs at.edge-index x (omega arith) c.edge-item.is) c.in-Ok-add.ensures.added v.0 v.1 at.invariant.listed;
+      listed = mapping_step (beside p q) (beside_parts p q) xs (drop at.edge-index xs) (drop (at.edge-index + 1) xs) at.out.items c.push.new.self.items x c.in-Ok.next (drop_read xs at.edge-index x (omega arith) c.edge-item.is) c.in_ok-push.ensures.items v.0 v.1 at.invariant.listed;
       known = (ap (λ (b : BesideEdge). b.to_b) v.0, all_second (point_parts p q x.0) (point_parts p q x.1) v.1);
     }
 

@@ -26,7 +26,7 @@ loop-beside-preserved c =
     let p = c.args.p.now in
     let q = c.args.q.now in
     let v = c.in-Ok.ensures.value in
-    mapping_step (with_turn p q) (λ (b : BesideEdge). turning_parts p q b.edge) xs (drop at.beside-index xs) (drop (at.beside-index + 1) xs) at.out.items c.add.new.out.items x _ (drop_read xs at.beside-index x (omega arith) c.beside-item.is) c.in-Ok-add.ensures.added (rw v.0 refl) v.1 at.invariant
+    mapping_step (with_turn p q) (λ (b : BesideEdge). turning_parts p q b.edge) xs (drop at.beside-index xs) (drop (at.beside-index + 1) xs) at.out.items c.push.new.self.items x _ (drop_read xs at.beside-index x (omega arith) c.beside-item.is) c.in_ok-push.ensures.items (rw v.0 refl) v.1 at.invariant
 
 pub returns : goal.returns
 returns c =

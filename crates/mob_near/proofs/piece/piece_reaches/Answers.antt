@@ -1,14 +1,17 @@
+use Rattle.std.proofs.lemmas.Result.{err_from_is_err_and}
 use Rattle.mob_frac.specs.Formula.{within_parts}
 use Rattle.mob_slice.specs.Sides.{piece_of}
 use Rattle.mob_near.{specs.Entries.{parts_between}, proofs.Judging.{leg_fails, squares_fail}}
 use Rattle.mob_near.proofs.piece.piece_reaches.Goals as goal
 
-pub returns-in-Err-clause-first : goal.returns-in-Err-clause-first
-returns-in-Err-clause-first c =
+pub returns-in_err-leg-clause-first : goal.returns-in_err-leg-clause-first
+returns-in_err-leg-clause-first c =
+    let q = err_from_is_err_and c.from_residual.result c.from_residual.ensures.1 in
     let p = piece_of c.args.piece.now in
-    leg_fails p (parts_between (within_parts c.args.square.now) p) c.in-Err.passed c.in-Err.ensures.first
+    rw (q.1, q.2) (leg_fails p (parts_between (within_parts c.args.square.now) p) c.in_err-leg.field-0.0 c.in_err-leg.ensures.first)
 
-pub returns-in-Err-squares_at_ends-clause-first : goal.returns-in-Err-squares_at_ends-clause-first
-returns-in-Err-squares_at_ends-clause-first c =
+pub returns-in_err-squares-clause-first : goal.returns-in_err-squares-clause-first
+returns-in_err-squares-clause-first c =
+    let q = err_from_is_err_and c.from_residual-in_err-squares.result c.from_residual-in_err-squares.ensures.1 in
     let p = piece_of c.args.piece.now in
-    squares_fail p (parts_between (within_parts c.args.square.now) p) c.in-Ok.ensures.first c.in-Ok.leg c.in-Ok.ensures.leg c.in-Err-squares_at_ends.passed c.in-Err-squares_at_ends.ensures.value
+    rw (q.1, q.2) (squares_fail p (parts_between (within_parts c.args.square.now) p) c.in_ok-leg.ensures.first c.in_ok-leg.leg c.in_ok-leg.ensures.leg c.in_err-squares.field-0.0 c.in_err-squares.ensures.value)

@@ -16,18 +16,18 @@ returns-in_default-clause-slices g c = absurd (c.slices-slices.ensures.normal.so
 pub returns-in_default-clause-first : goal.returns-in_default-clause-first
 returns-in_default-clause-first g c = absurd (c.slices-slices.ensures.normal.some (sym c.slices-slices.ensures.same ∙ c.in_default.ensures.holds))
 
-pub returns-in-Ok-clause-slices : goal.returns-in-Ok-clause-slices
-returns-in-Ok-clause-slices g c =
+pub returns-clause-slices : goal.returns-clause-slices
+returns-clause-slices g c =
     let time = c.in-Some.time in
     let remainders = c.as_slice.result.now in
     let holds : AllByRecursion (λ s. is_inside time s.span ≡ true) c.args.a.now = subst (AllByRecursion (λ s. is_inside time s.span ≡ true)) c.slices-slices.ensures.same c.in-Some.ensures.holds in
-    let left : AreRemainders time c.args.when.now remainders = subst (λ z. AreRemainders time c.args.when.now z) (sym c.as_slice.ensures.value) (subst (λ z. AreRemainders time z c.in-Ok.left.items) c.spans-spans.ensures.same c.in-Ok.ensures.instants) in
+    let left : AreRemainders time c.args.when.now remainders = subst (λ z. AreRemainders time c.args.when.now z) (sym c.as_slice.ensures.value) (subst (λ z. AreRemainders time z c.in_ok-left.left.items) c.spans-spans.ensures.same c.in_ok-left.ensures.instants) in
     IfOk-weaker c.within.result _ _ (λ all r. outside_values g.C.Course.value_of g.C.Course.start_of g.C.Course.end_of c.args.a.now all.items time c.args.when.now remainders holds left r) c.within.ensures.slices
 
-pub returns-in-Ok-clause-first : goal.returns-in-Ok-clause-first
-returns-in-Ok-clause-first g c =
+pub returns-clause-first : goal.returns-clause-first
+returns-clause-first g c =
     let time = c.in-Some.time in
     let remainders = c.as_slice.result.now in
     let holds : AllByRecursion (λ s. is_inside time s.span ≡ true) c.args.a.now = subst (AllByRecursion (λ s. is_inside time s.span ≡ true)) c.slices-slices.ensures.same c.in-Some.ensures.holds in
-    let made : remainders ≡ remainders_of time c.args.when.now = c.as_slice.ensures.value ∙ c.in-Ok.ensures.ends ∙ ap (remainders_of time) c.spans-spans.ensures.same in
+    let made : remainders ≡ remainders_of time c.args.when.now = c.as_slice.ensures.value ∙ c.in_ok-left.ensures.ends ∙ ap (remainders_of time) c.spans-spans.ensures.same in
     judged_by_set g.met.C.Course.laws c.args.a.now c.args.when.now remainders time c.within.result holds c.lower.ensures.some c.spans-spans.ensures.normal made c.within.ensures.first
