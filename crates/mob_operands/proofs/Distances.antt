@@ -6,7 +6,7 @@ use Rattle.mob_slice.{specs.declared.line.PlaneLine.{PlaneLine}, specs.declared.
 use Rattle.mob_near.{specs.Distances.{are_within}, specs.Sql.Nearness.{IsEverWithin}}
 use Rattle.mob_ast.specs.declared.types.SqlType.{SqlType}
 use Rattle.mob_value.{specs.ValueBoxes.{HasBox}, specs.declared.value.Value.{Value}, specs.declared.value.Value.TheVariants.{Null, Number, Box, MovingPoint}, specs.Moving.{or_nothing}}
-use Rattle.mob_compare.{specs.declared.sql.scope.When.TheVariants.{Ever}, specs.Sql.Signs.{IsAsked}}
+use Rattle.mob_compare.{specs.declared.sql.when.When.TheVariants.{Ever}, specs.Sql.Signs.{IsAsked}}
 use Rattle.mob_clip.specs.Sql.Boxes.{IsExpansion}
 use Rattle.mob_catalog.specs.OwnTypes.{IsValueOf}
 use Rattle.mob_operands.{specs.Rows.{IsAnswer}, proofs.Forms.{OnForms, by_type, by_types, null_answer, made_answer, first_null, second_null}, proofs.Plain.{is_plain_number}}

@@ -6,7 +6,7 @@ use Rattle.mob_ast.specs.declared.types.SqlType.{SqlType}
 use Rattle.mob_operators.{specs.Lookup.{Line, is_temporal}, specs.Table.{table}, specs.declared.operator.Op.{Op}}
 use Rattle.mob_value.{specs.declared.value.Value.TheVariants.{Bool as Truth}, specs.Lifted.{IsMovingBool, IsMovingText}}
 use Rattle.mob_ordinary.specs.Ordinary.{is_null}
-use Rattle.mob_compare.specs.declared.sql.scope.When.TheVariants.{Each, Ever, Always}
+use Rattle.mob_compare.specs.declared.sql.when.When.TheVariants.{Each, Ever, Always}
 use Rattle.mob_near.specs.Sql.Nearness.{IsApproachValue}
 use Rattle.mob_operands.{specs.Rows.{HasMeaning, LineHasMeaning, RowsHaveMeanings, SettledIsTheValue}, proofs.Distances.{are_near, within_answers, are_widened, expansion_answers}}
 use Rattle.mob_operands.{proofs.Forms.{of_one, of_two, of_three}, proofs.Numbers.{is_calculated, calculated_answers, is_divided, divided_answers}}

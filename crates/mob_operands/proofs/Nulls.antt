@@ -15,7 +15,7 @@ use Rattle.mob_value.{specs.declared.value.Value.{Value}, specs.declared.value.V
 use Rattle.mob_value.{specs.Relations.{rel_of, text_relates, truth_relates}, specs.Pairs.{OnOperands, OnPair, truth_pair, number_pair, text_pair, plane_pair}}
 use Rattle.mob_value.{specs.Lifted.{IsMovingBool, IsMovingInt, IsMovingText, IsMovingFrac}, specs.Lines.{line_pair}}
 use Rattle.mob_ordinary.specs.Ordinary.{IsTest}
-use Rattle.mob_compare.{specs.declared.sql.scope.When.{When as Asking}, specs.declared.sql.scope.When.TheVariants.{Each, Ever, Always}, specs.Sql.Signs.{IsAsked, IsOrderTest, IsAnyTest, IsSignTest}}
+use Rattle.mob_compare.{specs.declared.sql.when.When.{When as Asking}, specs.declared.sql.when.When.TheVariants.{Each, Ever, Always}, specs.Sql.Signs.{IsAsked, IsOrderTest, IsAnyTest, IsSignTest}}
 use Rattle.mob_meaning.{specs.Operators.{GivesOfOne, GivesOfTwo, GivesOfThree}, specs.Scene.{Scene}, specs.Types.{meeting, IsCastTo, IsCast}}
 use Rattle.mob_restrict.specs.Sql.Times.{asked_spans, IsRestriction}
 use Rattle.mob_operands.{specs.Rows.{HaveNull, knows_null, NullGivesNull}, proofs.Distances.{expansion_right}, proofs.Numbers.{product_right, quotient_right, dividend_right}}

@@ -4,7 +4,7 @@ use Rattle.mob_slice.{specs.LineComparison.{point_relates, number_relates}, spec
 use Rattle.mob_ast.{specs.declared.types.Cmp.{Cmp}, specs.declared.types.SqlType.{SqlType}}
 use Rattle.mob_operators.specs.declared.operator.Op.{Op}
 use Rattle.mob_value.{specs.declared.value.Value.{Value}, specs.Relations.{rel_of, text_relates, truth_relates}}
-use Rattle.mob_compare.{specs.declared.sql.scope.When.{When}, specs.Sql.Signs.{IsAsked, IsOrderTest, IsAnyTest, IsSignTest}}
+use Rattle.mob_compare.{specs.declared.sql.when.When.{When}, specs.Sql.Signs.{IsAsked, IsOrderTest, IsAnyTest, IsSignTest}}
 use Rattle.mob_meaning.specs.Types.{common_type}
 use Rattle.mob_catalog.specs.OwnTypes.{IsValueOf}
 use Rattle.mob_operands.specs.Rows.{AreNeverTogether, NullIsDue, IsAnswer}

@@ -12,7 +12,7 @@ use Rattle.mob_lift.specs.Sometime.{HaveCommon, IsEver, IsAlways}
 use Rattle.mob_near.{specs.Approaches.{IsApproach}, specs.Sql.Nearness.{IsApproachValue}}
 use Rattle.mob_ast.specs.declared.types.SqlType.{SqlType}
 use Rattle.mob_operators.specs.declared.operator.Op.{Op}
-use Rattle.mob_compare.{specs.declared.sql.scope.When.{When}, specs.declared.sql.scope.When.TheVariants.{Each, Ever, Always}, specs.Sql.Signs.{IsAsked}}
+use Rattle.mob_compare.{specs.declared.sql.when.When.{When}, specs.declared.sql.when.When.TheVariants.{Each, Ever, Always}, specs.Sql.Signs.{IsAsked}}
 use Rattle.mob_catalog.specs.OwnTypes.{IsValueOf}
 use Rattle.mob_operands.{specs.Rows.{is_there, AreNeverTogether, NullIsDue, IsAnswer}, proofs.Forms.{OnForms, by_types, null_answer}}
 use Rattle.mob_ast.specs.declared.types.SqlType.TheVariants as sql

@@ -1,7 +1,7 @@
 //! The ordinary operators without a formula: comparisons of two values of SQL, and logic. Also how
 //! stored values are read.
 //!
-//! It is apart from `mob_eval`, which takes longest to prove.
+//! It is apart from `mob_eval`, so that a change of the walk does not prove it again.
 #![tactic(auto)]
 
 pub mod comparison;

@@ -144,11 +144,11 @@ impl<'a, T> Memo<'a, T> {
 
 impl<K: Telling> Told<K> {
     // Whether it belongs to the operator and row of a memo.
-    fn is_of(&self, cell: &Memo<'_, Told<K>>) -> bool
-        ensures same { result ≡ true → (self.now.at ≡ cell.now.at) × (self.now.place ≡ cell.now.place) × (self.now.row ≡ cell.now.row) }
+    fn is_of(&self, memo: &Memo<'_, Told<K>>) -> bool
+        ensures same { result ≡ true → (self.now.at ≡ memo.now.at) × (self.now.place ≡ memo.now.place) × (self.now.row ≡ memo.now.row) }
     {
         let answer = &self.answer;
-        cell.is_at(answer.at, answer.place, answer.row)
+        memo.is_at(answer.at, answer.place, answer.row)
     }
 }
 

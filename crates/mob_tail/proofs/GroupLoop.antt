@@ -12,7 +12,7 @@ use Rattle.mob_tail.{specs.declared.columns.Column.{Column as ColumnOf}, specs.d
 use Rattle.mob_tail.specs.Groups.{group_fields, same_texts, same_group, under_fields, has_groups, groups_on}
 use Rattle.mob_tail.specs.GroupedAnswers.{AnswerColumn, columns_of, IsArgumentOn, IsAddingTo, IsColumnValue, keys_from, IsGroupRow, IsGroupedFault}
 use Rattle.mob_tail.specs.GroupSteps.{column_seen, IsStart, IsStartMemo, IsStartGroup, IsMemoWith, FailsInMemos, first_of, IsKeptOf, IsMemoKept, IsStateOf, IsGroupMemoOf, IsGroupOf, AreGroupsOf}
-use Rattle.mob_tail.{specs.GroupSteps.{keys_on, number_on}, proofs.TupleSteps.{cells_ok, cells_err}}
+use Rattle.mob_tail.{specs.GroupSteps.{keys_on, number_on}, proofs.TupleSteps.{memos_ok, memos_err}}
 use Rattle.mob_tail.proofs.GroupKeys.{AreApart, firsts_apart, any_first, any_at, texts_equal, With, with_earlier, group_there, group_step, by_keys, no_fields}
 use Rattle.mob_arrange.specs.Keyed.{Keyed}
 use Rattle.mob_literal.specs.Fields.{field_text}
@@ -33,31 +33,31 @@ module _ (select : TypedSelectParts) (store : Store) (day : ℤ) where
   start_state (e, None) x h = (Null, h, refl)
   start_state (e, Some agg) x h = let s = h agg.ty in (s.0, s.1, ([], tt, s.2))
 
-  start_cells : (columns : List ColumnOf) (cells : List GroupMemo) → AllZip IsStartMemo columns cells → AllZip (IsGroupMemoOf select store day []) (map column_seen columns) cells
-  start_cells [] [] h = tt
-  start_cells [] (c ∷ cells) h = absurd h
-  start_cells (d ∷ columns) [] h = absurd h
-  start_cells (d ∷ columns) (c ∷ cells) h = ((h.0.0, start_state (column_seen d) c.state h.0.1), start_cells columns cells h.1)
+  start_memos : (columns : List ColumnOf) (memos : List GroupMemo) → AllZip IsStartMemo columns memos → AllZip (IsGroupMemoOf select store day []) (map column_seen columns) memos
+  start_memos [] [] h = tt
+  start_memos [] (c ∷ memos) h = absurd h
+  start_memos (d ∷ columns) [] h = absurd h
+  start_memos (d ∷ columns) (c ∷ memos) h = ((h.0.0, start_state (column_seen d) c.state h.0.1), start_memos columns memos h.1)
 
   pub start_groups : (keys : List (List (List ℕ))) (groups : List Group) (columns : List ColumnOf) → map column_seen columns ≡ columns_of select → AllByRecursion (IsStartGroup columns) groups → length groups ≡ length keys → AreGroupsOf select store day keys [] groups
   start_groups [] [] columns e h n = tt
   start_groups [] (g ∷ groups) columns e h n = absurd (omega (arith, n))
   start_groups (k ∷ keys) [] columns e h n = absurd (omega (arith, n))
-  start_groups (k ∷ keys) (g ∷ groups) columns e h n = (record { first = h.0.first; cells = subst (λ z. AllZip (IsGroupMemoOf select store day []) z g.cells.items) e (start_cells columns g.cells.items h.0.cells) }, start_groups keys groups columns e h.1 (omega (arith, n)))
+  start_groups (k ∷ keys) (g ∷ groups) columns e h n = (record { first = h.0.first; memos = subst (λ z. AllZip (IsGroupMemoOf select store day []) z g.memos.items) e (start_memos columns g.memos.items h.0.memos) }, start_groups keys groups columns e h.1 (omega (arith, n)))
 
   -- ---- one more tuple
 
   abbrev There : List ℕ → Scene
   There t = scene store select.from t day
 
-  group_ok : (group : List (List ℕ)) (t : List ℕ) (old new : Group) → length group + 1 < 2 ^ 62 → IsGroupOf select store day group old → ((ts : List (List ℕ)) → old.first ≡ first_of ts → new.first ≡ first_of (ts ++ t ∷ [])) → AllZip (IsMemoWith (There t) (is_none old.first)) old.cells.items new.cells.items
+  group_ok : (group : List (List ℕ)) (t : List ℕ) (old new : Group) → length group + 1 < 2 ^ 62 → IsGroupOf select store day group old → ((ts : List (List ℕ)) → old.first ≡ first_of ts → new.first ≡ first_of (ts ++ t ∷ [])) → AllZip (IsMemoWith (There t) (is_none old.first)) old.memos.items new.memos.items
       → IsGroupOf select store day (group ++ t ∷ []) new × IsTuple (IsArgumentOn select store day) IsAddingTo group t (columns_of select) None
   group_ok group t old new few h first with_ =
-      let both = cells_ok select store day group t (columns_of select) old.cells.items new.cells.items (is_none old.first) (ap is_none h.first) few with_ h.cells in
-      (record { first = first group h.first; cells = both.0 }, both.1)
+      let both = memos_ok select store day group t (columns_of select) old.memos.items new.memos.items (is_none old.first) (ap is_none h.first) few with_ h.memos in
+      (record { first = first group h.first; memos = both.0 }, both.1)
 
-  group_err : (group : List (List ℕ)) (t : List ℕ) (old : Group) (f : PlacedFormula) → length group + 1 < 2 ^ 62 → IsGroupOf select store day group old → FailsInMemos (There t) (is_none old.first) old.cells.items f → IsTuple (IsArgumentOn select store day) IsAddingTo group t (columns_of select) (Some f)
-  group_err group t old f few h fails = cells_err select store day group t (columns_of select) old.cells.items (is_none old.first) f (ap is_none h.first) few fails h.cells
+  group_err : (group : List (List ℕ)) (t : List ℕ) (old : Group) (f : PlacedFormula) → length group + 1 < 2 ^ 62 → IsGroupOf select store day group old → FailsInMemos (There t) (is_none old.first) old.memos.items f → IsTuple (IsArgumentOn select store day) IsAddingTo group t (columns_of select) (Some f)
+  group_err group t old f few h fails = memos_err select store day group t (columns_of select) old.memos.items (is_none old.first) f (ap is_none h.first) few fails h.memos
 
   -- a group has at most as many tuples as there are
   few_with : (k : List (List ℕ)) (ts : List (List ℕ)) → length (With select store day k ts) ≤ length ts
@@ -105,7 +105,7 @@ module _ (select : TypedSelectParts) (store : Store) (day : ℤ) where
     more : take (i + 1) kept ≡ take i kept ++ t ∷ []
     more = take_more kept i t lt ∙ ap (λ z. take i kept ++ z ∷ []) (sym is)
 
-    pub next_grouped : (new : Group) → ((ts : List (List ℕ)) → old.first ≡ first_of ts → new.first ≡ first_of (ts ++ t ∷ [])) → AllZip (IsMemoWith (There t) (is_none old.first)) old.cells.items new.cells.items → IsGroupedSoFar kept (i + 1) (set all (number_on select store day kept t) new)
+    pub next_grouped : (new : Group) → ((ts : List (List ℕ)) → old.first ≡ first_of ts → new.first ≡ first_of (ts ++ t ∷ [])) → AllZip (IsMemoWith (There t) (is_none old.first)) old.memos.items new.memos.items → IsGroupedSoFar kept (i + 1) (set all (number_on select store day kept t) new)
     next_grouped new first with_ =
         let mine = (group_there select store day (IsGroupOf select store day) (keys_on select store day kept) all (take i kept) t old (key_there kept i t lt is) so_far.held at).1 in
         let tuple = (group_ok (With select store day mine.0 (take i kept)) t old new (few_before kept i mine.0 lt few) mine.2 first with_).1 in
@@ -116,7 +116,7 @@ module _ (select : TypedSelectParts) (store : Store) (day : ℤ) where
               (none_more (IsArgumentOn select store day) IsAddingTo (same_group select store day) (columns_of select) [] (take i kept) t so_far.fits (subst (λ z. IsTuple (IsArgumentOn select store day) IsAddingTo z t (columns_of select) None) (with_earlier select store day mine.0 (take i kept) t mine.1) tuple));
         }
 
-    pub fault_grouped : (f : PlacedFormula) → FailsInMemos (There t) (is_none old.first) old.cells.items f → IsGroupedFault select store day kept (Some (t, f))
+    pub fault_grouped : (f : PlacedFormula) → FailsInMemos (There t) (is_none old.first) old.memos.items f → IsGroupedFault select store day kept (Some (t, f))
     fault_grouped f fails =
         let mine = (group_there select store day (IsGroupOf select store day) (keys_on select store day kept) all (take i kept) t old (key_there kept i t lt is) so_far.held at).1 in
         let tuple = group_err (With select store day mine.0 (take i kept)) t old f (few_before kept i mine.0 lt few) mine.2 fails in
@@ -173,16 +173,16 @@ module _ (select : TypedSelectParts) (store : Store) (day : ℤ) where
   -- ---- rows
 
   -- the values of the states of a group
-  cells_made : (group : List (List ℕ)) (columns : List AnswerColumn) (cells : List GroupMemo) → AllZip (IsGroupMemoOf select store day group) columns cells → (values : List Value) × AllZip IsMemoKept values cells × AllZip (IsColumnValue select store day group) columns values
-  cells_made group [] [] h = ([], tt, tt)
-  cells_made group [] (c ∷ cells) h = absurd h
-  cells_made group (d ∷ columns) [] h = absurd h
-  cells_made group (d ∷ columns) (c ∷ cells) h =
-      let rest = cells_made group columns cells h.1 in
+  memos_made : (group : List (List ℕ)) (columns : List AnswerColumn) (memos : List GroupMemo) → AllZip (IsGroupMemoOf select store day group) columns memos → (values : List Value) × AllZip IsMemoKept values memos × AllZip (IsColumnValue select store day group) columns values
+  memos_made group [] [] h = ([], tt, tt)
+  memos_made group [] (c ∷ memos) h = absurd h
+  memos_made group (d ∷ columns) [] h = absurd h
+  memos_made group (d ∷ columns) (c ∷ memos) h =
+      let rest = memos_made group columns memos h.1 in
       (h.0.1.0 ∷ rest.0, (subst (λ z. IsKeptOf z c.state h.0.1.0) (sym h.0.0) h.0.1.1, rest.1), (h.0.1.2, rest.2))
 
-  pub values_made : (tuples : List (List ℕ)) (g : Group) → IsGroupOf select store day tuples g → (values : List Value) × AllZip IsMemoKept values g.cells.items × AllZip (IsColumnValue select store day tuples) (columns_of select) values
-  values_made tuples g h = cells_made tuples (columns_of select) g.cells.items h.cells
+  pub values_made : (tuples : List (List ℕ)) (g : Group) → IsGroupOf select store day tuples g → (values : List Value) × AllZip IsMemoKept values g.memos.items × AllZip (IsColumnValue select store day tuples) (columns_of select) values
+  values_made tuples g h = memos_made tuples (columns_of select) g.memos.items h.memos
 
   pub row_made : (tuples : List (List ℕ)) (values : List Value) (row : Keyed) → AllZip (IsColumnValue select store day tuples) (columns_of select) values → row.fields ≡ map (field_text day) values → row.keys ≡ keys_from select store day tuples values 0 select.keys → IsGroupRow select store day tuples row
   row_made tuples values row made fields keys = record { values = values; made = made; fields = fields; keys = keys }

@@ -39,7 +39,7 @@ pub record IsMemoWith (s : Scene) (first : Bool) (old new : GroupMemo) : Type 0 
 -- a fault in a memo, if those before it have none
 abbrev pub FailsInMemos : Scene → Bool → List GroupMemo → PlacedFormula → Type 0
 FailsInMemos s first [] f = ⊥
-FailsInMemos s first (c ∷ cells) f = IsColumnWith s (column_seen c.column) c.state first (Err f) ⊎ ((x : State) × IsColumnWith s (column_seen c.column) c.state first (Ok x) × FailsInMemos s first cells f)
+FailsInMemos s first (c ∷ memos) f = IsColumnWith s (column_seen c.column) c.state first (Err f) ⊎ ((x : State) × IsColumnWith s (column_seen c.column) c.state first (Ok x) × FailsInMemos s first memos f)
 
 -- the state of a column has this value
 abbrev pub IsKeptOf : AnswerColumn → State → Value → Type 0
@@ -47,7 +47,7 @@ IsKeptOf (e, None) x r = x ≡ Whole r
 IsKeptOf (e, Some agg) x r = IsKeptIn agg.kind x r
 
 abbrev pub IsMemoKept : Value → GroupMemo → Type 0
-IsMemoKept r cell = IsKeptOf (column_seen cell.column) cell.state r
+IsMemoKept r memo = IsKeptOf (column_seen memo.column) memo.state r
 
 -- the state of a column for a group without tuples
 abbrev pub IsStart : AnswerColumn → State → Type 0
@@ -56,12 +56,12 @@ IsStart (e, Some agg) x = IsStartState agg.kind x
 
 -- a memo for a group without tuples
 abbrev pub IsStartMemo : ColumnOf → GroupMemo → Type 0
-IsStartMemo column cell = (column_seen cell.column ≡ column_seen column) × IsStart (column_seen column) cell.state
+IsStartMemo column memo = (column_seen memo.column ≡ column_seen column) × IsStart (column_seen column) memo.state
 
 -- the program's record of a group without tuples
 pub record IsStartGroup (columns : List ColumnOf) (g : Group) : Type 0 where
   pub first : g.first ≡ None
-  pub cells : AllZip IsStartMemo columns g.cells.items
+  pub memos : AllZip IsStartMemo columns g.memos.items
 
 -- the first tuple of a group
 abbrev pub first_of : List (List ℕ) → Option (List ℕ)
@@ -74,12 +74,12 @@ IsStateOf select store day group column x = (r : Value) × IsKeptOf column x r �
 
 -- a memo holds the value of its column for a group
 abbrev pub IsGroupMemoOf : TypedSelectParts → Store → ℤ → List (List ℕ) → AnswerColumn → GroupMemo → Type 0
-IsGroupMemoOf select store day group column cell = (column_seen cell.column ≡ column) × IsStateOf select store day group column cell.state
+IsGroupMemoOf select store day group column memo = (column_seen memo.column ≡ column) × IsStateOf select store day group column memo.state
 
 -- the program's record of a group of these tuples
 pub record IsGroupOf (select : TypedSelectParts) (store : Store) (day : ℤ) (group : List (List ℕ)) (g : Group) : Type 0 where
   pub first : g.first ≡ first_of group
-  pub cells : AllZip (IsGroupMemoOf select store day group) (columns_of select) g.cells.items
+  pub memos : AllZip (IsGroupMemoOf select store day group) (columns_of select) g.memos.items
 
 -- the fields of each group: without GROUP BY there is one group, without fields
 abbrev pub keys_on : TypedSelectParts → Store → ℤ → List (List ℕ) → List (List (List ℕ))

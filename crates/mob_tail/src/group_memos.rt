@@ -34,7 +34,7 @@ pub struct GroupMemo<'a> {
 #[derive(Drop)]
 pub struct Group<'a> {
     pub first: Option<Tuple>,
-    pub cells: Vec<GroupMemo<'a>>,
+    pub memos: Vec<GroupMemo<'a>>,
 }
 
 // Adds the argument of an aggregate on one more tuple.
@@ -82,21 +82,21 @@ fn plain_on(alloc: Global, e: &TExpr, view: &View<'_>, state: &mut State) -> Res
 }
 
 // Adds one more tuple, the first of its group or a later one, to a memo.
-fn cell_with(
+fn memo_with(
     alloc: Global,
-    cell: &mut GroupMemo<'_>,
+    memo: &mut GroupMemo<'_>,
     view: &View<'_>,
     is_first: bool,
 ) -> Result<(), EvalFault>
-    ensures with { IfOk result (λ _. IsMemoWith (scene_of view.now) is_first cell.old cell.new) }
-    ensures fault { IfErr result (OnCause (λ f. IsColumnWith (scene_of view.now) (column_seen cell.old.column) cell.old.state is_first (Err f))) }
+    ensures with { IfOk result (λ _. IsMemoWith (scene_of view.now) is_first memo.old memo.new) }
+    ensures fault { IfErr result (OnCause (λ f. IsColumnWith (scene_of view.now) (column_seen memo.old.column) memo.old.state is_first (Err f))) }
 {
-    let column = cell.column;
+    let column = memo.column;
     match column.agg {
-        Some(agg) => aggregate_on(alloc, agg, column.expression, view, &mut cell.state),
+        Some(agg) => aggregate_on(alloc, agg, column.expression, view, &mut memo.state),
         None => {
             if is_first {
-                plain_on(alloc, column.expression, view, &mut cell.state)
+                plain_on(alloc, column.expression, view, &mut memo.state)
             } else {
                 Ok(())
             }
@@ -105,17 +105,17 @@ fn cell_with(
 }
 
 // Adds one more tuple to each memo, or returns the first fault.
-fn cells_with(
+fn memos_with(
     alloc: Global,
-    cells: &mut Vec<GroupMemo<'_>>,
+    memos: &mut Vec<GroupMemo<'_>>,
     view: &View<'_>,
     is_first: bool,
 ) -> Result<(), EvalFault>
-    ensures with { IfOk result (λ _. AllZip (IsMemoWith (scene_of view.now) is_first) cells.old.items cells.new.items) }
-    ensures fault { IfErr result (OnCause (λ f. FailsInMemos (scene_of view.now) is_first cells.old.items f)) }
+    ensures with { IfOk result (λ _. AllZip (IsMemoWith (scene_of view.now) is_first) memos.old.items memos.new.items) }
+    ensures fault { IfErr result (OnCause (λ f. FailsInMemos (scene_of view.now) is_first memos.old.items f)) }
 {
-    for number in 0..cells.len() {
-        cell_with(alloc, &mut cells[number], view, is_first)?;
+    for number in 0..memos.len() {
+        memo_with(alloc, &mut memos[number], view, is_first)?;
     }
     Ok(())
 }
@@ -138,12 +138,12 @@ pub fn group_with(
     view: &View<'_>,
 ) -> Result<(), EvalFault>
     ensures first { (tuples : _) → group.old.first ≡ first_of tuples → group.new.first ≡ first_of (tuples ++ tuple.now ∷ []) }
-    ensures with { IfOk result (λ _. AllZip (IsMemoWith (scene_of view.now) (is_none group.old.first)) group.old.cells.items group.new.cells.items) }
-    ensures fault { IfErr result (OnCause (λ f. FailsInMemos (scene_of view.now) (is_none group.old.first) group.old.cells.items f)) }
+    ensures with { IfOk result (λ _. AllZip (IsMemoWith (scene_of view.now) (is_none group.old.first)) group.old.memos.items group.new.memos.items) }
+    ensures fault { IfErr result (OnCause (λ f. FailsInMemos (scene_of view.now) (is_none group.old.first) group.old.memos.items f)) }
 {
     let is_first = group.first.is_none();
     group.first = Some(first_with(&group.first, tuple));
-    cells_with(alloc, &mut group.cells, view, is_first)
+    memos_with(alloc, &mut group.memos, view, is_first)
 }
 
 // The state of a column for a group without tuples.
@@ -157,17 +157,17 @@ fn start_of(alloc: Global, column: &Column<'_>) -> State
 }
 
 // The memos of a group without tuples.
-fn no_cells<'a>(alloc: Global, columns: &[Column<'a>]) -> Result<Vec<GroupMemo<'a>>, AllocError>
-    ensures start { IfOk result (λ cells. AllZip IsStartMemo columns.now cells.items) }
+fn no_memos<'a>(alloc: Global, columns: &[Column<'a>]) -> Result<Vec<GroupMemo<'a>>, AllocError>
+    ensures start { IfOk result (λ memos. AllZip IsStartMemo columns.now memos.items) }
 {
-    let mut cells = Vec::with_capacity(alloc, columns.len())?;
+    let mut memos = Vec::with_capacity(alloc, columns.len())?;
     for column in columns {
-        cells.push(GroupMemo {
+        memos.push(GroupMemo {
             column: *column,
             state: start_of(alloc, column),
         })?;
     }
-    Ok(cells)
+    Ok(memos)
 }
 
 /// `count` groups without tuples.
@@ -181,19 +181,19 @@ pub fn no_groups<'a>(
 {
     let mut groups = Vec::with_capacity(alloc, count)?;
     for _ in 0..count {
-        let cells = no_cells(alloc, columns)?;
-        groups.push(Group { first: None, cells })?;
+        let memos = no_memos(alloc, columns)?;
+        groups.push(Group { first: None, memos })?;
     }
     Ok(groups)
 }
 
 /// The values of the columns of a group.
-pub fn values_of(alloc: Global, cells: Vec<GroupMemo<'_>>) -> Result<Vec<Value>, AllocError>
-    ensures values { (all : _) → AllZip IsMemoKept all cells.entry.items → IfOk result (λ values. values.items ≡ all) }
+pub fn values_of(alloc: Global, memos: Vec<GroupMemo<'_>>) -> Result<Vec<Value>, AllocError>
+    ensures values { (all : _) → AllZip IsMemoKept all memos.entry.items → IfOk result (λ values. values.items ≡ all) }
 {
-    let mut values = Vec::with_capacity(alloc, cells.len())?;
-    for cell in cells {
-        values.push(value_of(alloc, cell.state)?)?;
+    let mut values = Vec::with_capacity(alloc, memos.len())?;
+    for memo in memos {
+        values.push(value_of(alloc, memo.state)?)?;
     }
     Ok(values)
 }

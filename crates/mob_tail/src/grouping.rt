@@ -267,8 +267,8 @@ fn row_of<'a>(
 ) -> Result<Row<'a>, AllocError>
     ensures row { (tuples : _) → IsGroupOf (select_seen select.now) store.now epoch.now tuples group.entry → IfOk result (λ row. IsGroupRowOf (select_seen select.now) store.now epoch.now tuples row) }
 {
-    let Group { first, cells } = group;
-    let columns = values_of(alloc, cells)?;
+    let Group { first, memos } = group;
+    let columns = values_of(alloc, memos)?;
     row_with(alloc, select, store, &first, columns, epoch)
 }
 

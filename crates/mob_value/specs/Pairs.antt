@@ -9,8 +9,8 @@ use Rattle.mob_value.{specs.declared.value.Value.{Value}, specs.declared.value.V
 use Rattle.mob_value.specs.Moving.{OverTime}
 
 -- an operand that changes in steps: the slices of a temporal value, or a base value
-abbrev pub StepOperand : Type 0 → Type 0
-StepOperand B = OperandOf (Steady B) B
+abbrev pub SteadyOperand : Type 0 → Type 0
+SteadyOperand B = OperandOf (Steady B) B
 
 abbrev pub LineOperand : Type 0
 LineOperand = OperandOf Line Ratio
@@ -19,18 +19,18 @@ abbrev pub PlaneOperand : Type 0
 PlaneOperand = OperandOf PlaneLine PointOf
 
 -- a truth value as an operand, if the value is one
-abbrev pub truth_operand : Value → Option (StepOperand Bool)
+abbrev pub truth_operand : Value → Option (SteadyOperand Bool)
 truth_operand (MovingBool a) = Some (Slices a)
 truth_operand (Truth a) = Some (Base a)
 truth_operand _ = None
 
 -- a number that changes in steps
-abbrev pub number_operand : Value → Option (StepOperand Ratio)
+abbrev pub number_operand : Value → Option (SteadyOperand Ratio)
 number_operand (MovingInt a) = Some (Slices a)
 number_operand (Number a) = Some (Base a)
 number_operand _ = None
 
-abbrev pub text_operand : Value → Option (StepOperand (List ℕ))
+abbrev pub text_operand : Value → Option (SteadyOperand (List ℕ))
 text_operand (MovingText a) = Some (Slices a)
 text_operand (Text a) = Some (Base a)
 text_operand _ = None
@@ -54,7 +54,7 @@ paired _ _ = None
 
 -- two operands that change in steps, at least one of which is temporal
 abbrev pub Pair : Type 0 → Type 0
-Pair B = Option (StepOperand B × StepOperand B)
+Pair B = Option (SteadyOperand B × SteadyOperand B)
 
 -- two truth values
 abbrev pub truth_pair : Value → Value → Pair Bool

@@ -12,7 +12,7 @@ use mob_slice::{Course, Line, Operand, PlaneLine, Steady};
 pub type Pair<'a, C> = (Operand<'a, C>, Operand<'a, C>);
 
 /// Two operands that change in steps.
-pub type StepPair<'a, B> = Pair<'a, Steady<B>>;
+pub type SteadyPair<'a, B> = Pair<'a, Steady<B>>;
 
 fn truth_operand<'a>(value: &'a Value) -> Option<Operand<'a, Steady<bool>>>
     ensures operand { option_map operand_of result ≡ truth_operand value.now }
@@ -92,7 +92,7 @@ fn paired<'a, C: Course>(
 }
 
 /// Two truth values; `None` if neither is temporal, or one is not a truth value.
-pub fn truth_pair<'a>(left: &'a Value, right: &'a Value) -> Option<StepPair<'a, bool>>
+pub fn truth_pair<'a>(left: &'a Value, right: &'a Value) -> Option<SteadyPair<'a, bool>>
     ensures operands { option_map operands_of result ≡ truth_pair left.now right.now }
     ensures moving { IfSome result (λ p. (has_slices (operand_of p.0) || has_slices (operand_of p.1)) ≡ true) }
 {
@@ -100,7 +100,7 @@ pub fn truth_pair<'a>(left: &'a Value, right: &'a Value) -> Option<StepPair<'a, 
 }
 
 /// Two numbers; `None` if neither is temporal, or one is not a number.
-pub fn number_pair<'a>(left: &'a Value, right: &'a Value) -> Option<StepPair<'a, Frac>>
+pub fn number_pair<'a>(left: &'a Value, right: &'a Value) -> Option<SteadyPair<'a, Frac>>
     ensures operands { option_map operands_of result ≡ number_pair left.now right.now }
     ensures moving { IfSome result (λ p. (has_slices (operand_of p.0) || has_slices (operand_of p.1)) ≡ true) }
 {
@@ -108,7 +108,7 @@ pub fn number_pair<'a>(left: &'a Value, right: &'a Value) -> Option<StepPair<'a,
 }
 
 /// Two texts; `None` if neither is temporal, or one is not a text.
-pub fn text_pair<'a>(left: &'a Value, right: &'a Value) -> Option<StepPair<'a, Text>>
+pub fn text_pair<'a>(left: &'a Value, right: &'a Value) -> Option<SteadyPair<'a, Text>>
     ensures operands { option_map operands_of result ≡ text_pair left.now right.now }
     ensures moving { IfSome result (λ p. (has_slices (operand_of p.0) || has_slices (operand_of p.1)) ≡ true) }
 {

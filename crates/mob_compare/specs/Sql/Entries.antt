@@ -7,7 +7,7 @@ use Rattle.mob_slice.specs.declared.comparison.Gaps.{Gaps}
 use Rattle.mob_cells.specs.Gaps.{entries_of_ends}
 use Rattle.mob_ast.{specs.declared.types.SqlType.{SqlType}, specs.declared.types.Cmp.{Cmp}}
 use Rattle.mob_value.{specs.declared.value.Value.{Value}, specs.Pairs.{entries_on, plane_pair}, specs.Lines.{line_pair}}
-use Rattle.mob_compare.{specs.Compared.{entries_of_gaps}, specs.declared.sql.scope.When.{When}, specs.declared.sql.scope.When.TheVariants.{Each, Ever, Always}}
+use Rattle.mob_compare.{specs.Compared.{entries_of_gaps}, specs.declared.sql.when.When.{When}, specs.declared.sql.when.When.TheVariants.{Each, Ever, Always}}
 use Rattle.mob_ast.specs.declared.types.SqlType.TheVariants as sql
 use Rattle.mob_ast.specs.declared.types.Cmp.TheVariants as cmp
 

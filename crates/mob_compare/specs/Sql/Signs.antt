@@ -6,7 +6,7 @@ use Rattle.mob_lift.specs.Sometime.{IsEver, IsAlways}
 use Rattle.mob_ast.{specs.declared.types.SqlType.{SqlType}, specs.declared.types.Cmp.{Cmp}}
 use Rattle.mob_value.{specs.declared.value.Value.{Value}, specs.declared.value.Value.TheVariants.{Null}, specs.Moving.{OverTime}, specs.Relations.{rel_of, text_relates, truth_relates}}
 use Rattle.mob_value.{specs.Truths.{known}, specs.Lifted.{IsMovingBool}, specs.Pairs.{OnOperands, OnPair, truth_pair, number_pair, text_pair, plane_pair}, specs.Lines.{line_pair}}
-use Rattle.mob_compare.{specs.declared.sql.scope.When.{When}, specs.declared.sql.scope.When.TheVariants.{Each, Ever, Always}}
+use Rattle.mob_compare.{specs.declared.sql.when.When.{When}, specs.declared.sql.when.When.TheVariants.{Each, Ever, Always}}
 use Rattle.mob_ast.specs.declared.types.SqlType.TheVariants as sql
 use Rattle.mob_ast.specs.declared.types.Cmp.TheVariants as cmp
 

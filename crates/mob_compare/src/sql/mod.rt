@@ -1,6 +1,6 @@
 //! The operators of SQL that compare over time: their values, or the first formula with a part that
 //! does not fit.
 
-pub mod scope;
 pub mod signs;
 pub mod true_times;
+pub mod when;

@@ -15,14 +15,16 @@ ghost use Rattle.mob_value.specs.Outcomes.{IsOutcome};
 
 use crate::courses::compare;
 use crate::ever::{always, ever};
-use crate::sql::scope::When;
+use crate::sql::when::When;
 use mob_ast::{Cmp, SqlType};
 use mob_list::fault::Fault;
 use mob_slice::{Compared, Formula, Ranked, Rel};
 use mob_value::Value;
 use mob_value::kinds::{answered, bool_or_null};
 use mob_value::lines::as_lines;
-use mob_value::pair::{Pair, StepPair, frac_pair, number_pair, plane_pair, text_pair, truth_pair};
+use mob_value::pair::{
+    Pair, SteadyPair, frac_pair, number_pair, plane_pair, text_pair, truth_pair,
+};
 use mob_value::relation::rel_of;
 use std::alloc::Global;
 use std::mem::drop;
@@ -59,7 +61,7 @@ fn steps_asked<B: Ranked + Drop>(
     alloc: Global,
     scope: When,
     rel: Rel,
-    pair: Option<StepPair<'_, B>>,
+    pair: Option<SteadyPair<'_, B>>,
 ) -> Result<Value, Fault<Formula>>
     requires moving { IfSome pair (λ p. (has_slices (operand_of p.0) || has_slices (operand_of p.1)) ≡ true) }
     ensures outcome { IsOutcome (OnPair (option_map operands_of pair.entry) (IsAsked scope (λ x y. holds rel (B.compare_of x y)))) (IsFirst []) result }

@@ -16,12 +16,12 @@ use std::marker::{Model, PhantomData};
 use std::sync::atomic::AtomicU64;
 
 // How many memos are allocated at once.
-const CELLS: usize = 256;
+const MEMOS: usize = 256;
 
 // Memos of neighbouring rows.
 #[derive(Drop)]
 struct Chunk<T> {
-    cells: Vec<OnceBox<T>>,
+    memos: Vec<OnceBox<T>>,
 }
 
 // The memos of an operator: one for each row of the table that it names, or one if it names none.
@@ -54,12 +54,12 @@ pub struct Memory<K: Remembering> {
 }
 
 // `many` empty memos.
-fn empty_cells<T: Drop>(alloc: Global, many: usize) -> Result<Vec<OnceBox<T>>, AllocError> {
-    let mut cells = Vec::with_capacity(alloc, many)?;
-    for _cell in 0..many {
-        cells.push(OnceBox::new(alloc))?;
+fn empty_memos<T: Drop>(alloc: Global, many: usize) -> Result<Vec<OnceBox<T>>, AllocError> {
+    let mut memos = Vec::with_capacity(alloc, many)?;
+    for _memo in 0..many {
+        memos.push(OnceBox::new(alloc))?;
     }
-    Ok(cells)
+    Ok(memos)
 }
 
 // The chunk of this place. It is made if it does not exist; if an allocation fails there is none.
@@ -67,10 +67,10 @@ fn chunk_in<T: Drop>(alloc: Global, kept: &OnceBox<Chunk<T>>) -> Option<&Chunk<T
     if let Some(chunk) = kept.get() {
         return Some(chunk);
     }
-    let Ok(cells) = empty_cells(alloc, CELLS) else {
+    let Ok(memos) = empty_memos(alloc, MEMOS) else {
         return None;
     };
-    let Ok(boxed) = Box::new(alloc, Chunk { cells }) else {
+    let Ok(boxed) = Box::new(alloc, Chunk { memos }) else {
         return None;
     };
     // Another worker may have set its chunk first; then that one is used.
@@ -81,13 +81,13 @@ fn chunk_in<T: Drop>(alloc: Global, kept: &OnceBox<Chunk<T>>) -> Option<&Chunk<T
 // The memo of a row.
 fn kept_at<T: Drop>(alloc: Global, chunks: &[OnceBox<Chunk<T>>], row: u32) -> Option<&OnceBox<T>> {
     let number = row as usize;
-    let Some(kept) = chunks.get(number / CELLS) else {
+    let Some(kept) = chunks.get(number / MEMOS) else {
         return None;
     };
     let Some(chunk) = chunk_in(alloc, kept) else {
         return None;
     };
-    chunk.cells.get(number % CELLS)
+    chunk.memos.get(number % MEMOS)
 }
 
 // The row of a tuple at a place.
@@ -102,8 +102,8 @@ fn row_at(place: Option<u32>, tuple: &[u32]) -> Option<u32>
 
 impl<K: Remembering, T: Drop> Slot<K, T> {
     // The memo of the row of a tuple; none if the table has no row in the tuple.
-    fn cell<'a>(&'a self, alloc: Global, tuple: &[u32], taken: &'a AtomicU64) -> Option<Memo<'a, T>>
-        ensures cell { IfSome result (λ c. IsMemoOf K.recollection self.now.0 tuple.now c.at c.place c.row) }
+    fn memo<'a>(&'a self, alloc: Global, tuple: &[u32], taken: &'a AtomicU64) -> Option<Memo<'a, T>>
+        ensures memo { IfSome result (λ c. IsMemoOf K.recollection self.now.0 tuple.now c.at c.place c.row) }
     {
         let place = self.place;
         let Some(row) = row_at(place, tuple) else {
@@ -152,7 +152,7 @@ fn remember<K: Remembering, T: Drop>(
 ) -> Result<(), AllocError>
     requires fits { IsOfPlace K.recollection at place }
 {
-    let chunks = empty_cells(alloc, rows.div_ceil(CELLS))?;
+    let chunks = empty_memos(alloc, rows.div_ceil(MEMOS))?;
     slots.push(Slot {
         at,
         place,
@@ -163,49 +163,49 @@ fn remember<K: Remembering, T: Drop>(
 }
 
 // The memo for a place in the script on a tuple, if the place has a slot.
-fn cell_in<'a, K: Remembering, T: Drop>(
+fn memo_in<'a, K: Remembering, T: Drop>(
     alloc: Global,
     slots: &'a [Slot<K, T>],
     taken: &'a AtomicU64,
     at: u32,
     tuple: &[u32],
 ) -> Option<Memo<'a, T>>
-    ensures cell { IfSome result (λ c. IsMemoOf K.recollection at tuple.now c.at c.place c.row) }
+    ensures memo { IfSome result (λ c. IsMemoOf K.recollection at tuple.now c.at c.place c.row) }
 {
     for slot in slots {
         if slot.at == at {
-            return slot.cell(alloc, tuple, taken);
+            return slot.memo(alloc, tuple, taken);
         }
     }
     None
 }
 
 /// The memo of the operator at a place in the script on a tuple, if its outcomes are remembered.
-pub fn cell_of<'a, K: Remembering>(
+pub fn memo_of<'a, K: Remembering>(
     alloc: Global,
     memory: Option<&'a Memory<K>>,
     at: u32,
     tuple: &[u32],
 ) -> Option<Memo<'a, Told<Outcomes<K>>>>
-    ensures cell { IfSome result (λ c. IsMemoOf K.recollection at tuple.now c.at c.place c.row) }
+    ensures memo { IfSome result (λ c. IsMemoOf K.recollection at tuple.now c.at c.place c.row) }
 {
     match memory {
-        Some(memory) => cell_in(alloc, &memory.slots, &memory.taken, at, tuple),
+        Some(memory) => memo_in(alloc, &memory.slots, &memory.taken, at, tuple),
         None => None,
     }
 }
 
 /// The memo of the operand at a place in the script on a tuple, if its boxes are remembered.
-pub fn box_cell_of<'a, K: Remembering>(
+pub fn box_memo_of<'a, K: Remembering>(
     alloc: Global,
     memory: Option<&'a Memory<K>>,
     at: u32,
     tuple: &[u32],
 ) -> Option<Memo<'a, ToldBox<K>>>
-    ensures cell { IfSome result (λ c. IsMemoOf K.recollection at tuple.now c.at c.place c.row) }
+    ensures memo { IfSome result (λ c. IsMemoOf K.recollection at tuple.now c.at c.place c.row) }
 {
     match memory {
-        Some(memory) => cell_in(alloc, &memory.boxes, &memory.taken, at, tuple),
+        Some(memory) => memo_in(alloc, &memory.boxes, &memory.taken, at, tuple),
         None => None,
     }
 }

@@ -12,7 +12,7 @@ ghost use Rattle.mob_eval.specs.SoFar.{trees};
 ghost use Rattle.mob_eval.specs.Remembered.{AllFit, Fits, IsBoxTold};
 
 use crate::memory::remembered::Remembering;
-use crate::memory::{Memory, box_cell_of};
+use crate::memory::{Memory, box_memo_of};
 use crate::scene::View;
 use mob_clip::sql::boxes::{overlap, overlap_of};
 use mob_outcome::memos::{Memo, has_room};
@@ -53,11 +53,11 @@ impl<K: Remembering> Model for ToldBox<K> {
 
 impl<K: Remembering> ToldBox<K> {
     // The box, if it belongs to the operand and row of a memo.
-    fn area_for(&self, cell: &Memo<'_, ToldBox<K>>) -> Option<StBox>
-        ensures told { IfSome result (IsBoxTold K.recollection cell.now.at cell.now.place cell.now.row) }
+    fn area_for(&self, memo: &Memo<'_, ToldBox<K>>) -> Option<StBox>
+        ensures told { IfSome result (IsBoxTold K.recollection memo.now.at memo.now.place memo.now.row) }
     {
         let own = &self.own;
-        if cell.is_at(own.at, own.place, own.row) {
+        if memo.is_at(own.at, own.place, own.row) {
             Some(own.area)
         } else {
             None
@@ -66,27 +66,27 @@ impl<K: Remembering> ToldBox<K> {
 }
 
 // The box in a memo, if there is one.
-fn kept_box<K: Remembering>(cell: &Memo<'_, ToldBox<K>>) -> Option<StBox>
-    ensures told { IfSome result (IsBoxTold K.recollection cell.now.at cell.now.place cell.now.row) }
+fn kept_box<K: Remembering>(memo: &Memo<'_, ToldBox<K>>) -> Option<StBox>
+    ensures told { IfSome result (IsBoxTold K.recollection memo.now.at memo.now.place memo.now.row) }
 {
-    match cell.kept.get() {
-        Some(told) => told.area_for(cell),
+    match memo.kept.get() {
+        Some(told) => told.area_for(memo),
         None => None,
     }
 }
 
 // Keeps a box in a memo if it is empty and memory allows.
-fn keep<K: Remembering>(alloc: Global, cell: &Memo<'_, ToldBox<K>>, area: StBox)
-    requires told { IsBoxTold K.recollection cell.now.at cell.now.place cell.now.row area }
+fn keep<K: Remembering>(alloc: Global, memo: &Memo<'_, ToldBox<K>>, area: StBox)
+    requires told { IsBoxTold K.recollection memo.now.at memo.now.place memo.now.row area }
 {
-    if !has_room(cell.taken, size_of::<OwnBox>() as u64) {
+    if !has_room(memo.taken, size_of::<OwnBox>() as u64) {
         return;
     }
     let told = ToldBox {
         own: OwnBox {
-            at: cell.at,
-            place: cell.place,
-            row: cell.row,
+            at: memo.at,
+            place: memo.place,
+            row: memo.row,
             area,
         },
         by: PhantomData,
@@ -95,7 +95,7 @@ fn keep<K: Remembering>(alloc: Global, cell: &Memo<'_, ToldBox<K>>, area: StBox)
         return;
     };
     // Another worker may have been first; then its box stays.
-    let _set = cell.kept.set(boxed);
+    let _set = memo.kept.set(boxed);
 }
 
 // The box of an operand's value, if it has one; from the memory if it is there.
@@ -110,16 +110,16 @@ fn box_with<'a, K: Remembering>(
     requires value { EvaluatesTo (scene_of view.now) operand.now (Ok value.now) }
     ensures own { OnBox value.now (λ b. result ≡ Some b) (result ≡ None) }
 {
-    let Some(cell) = box_cell_of(alloc, memory, operand.place, view.tuple) else {
+    let Some(memo) = box_memo_of(alloc, memory, operand.place, view.tuple) else {
         return box_of_value(value);
     };
-    if let Some(area) = kept_box(&cell) {
+    if let Some(area) = kept_box(&memo) {
         return Some(area);
     }
     let Some(area) = box_of_value(value) else {
         return None;
     };
-    keep(alloc, &cell, area);
+    keep(alloc, &memo, area);
     Some(area)
 }
 

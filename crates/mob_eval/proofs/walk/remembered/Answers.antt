@@ -3,10 +3,10 @@ use Rattle.mob_eval.proofs.walk.remembered.Goals as goal
 
 pub kept-requires : goal.kept-requires
 kept-requires g c =
-    let cell = c.in-Some.cell in
-    record { told = says_told g.K.Remembering.recollection (scene_of c.args.view.now) c.args.e.now cell.at cell.place cell.row c.requires.fits (rw c.in-Some.is at c.requires.cell) c.args.outcome c.requires.says }
+    let memo = c.in-Some.memo in
+    record { told = says_told g.K.Remembering.recollection (scene_of c.args.view.now) c.args.e.now memo.at memo.place memo.row c.requires.fits (rw c.in-Some.is at c.requires.memo) c.args.outcome c.requires.says }
 
 pub returns-in-Some : goal.returns-in-Some
 returns-in-Some g c =
-    let cell = c.in-Some.cell in
-    record { says = told_says g.K.Remembering.recollection (scene_of c.args.view.now) c.args.e.now cell.at cell.place cell.row c.requires.fits (rw c.in-Some.is at c.requires.cell) c.kept.result c.kept.ensures.told }
+    let memo = c.in-Some.memo in
+    record { says = told_says g.K.Remembering.recollection (scene_of c.args.view.now) c.args.e.now memo.at memo.place memo.row c.requires.fits (rw c.in-Some.is at c.requires.memo) c.kept.result c.kept.ensures.told }

@@ -7,8 +7,8 @@ pub loop-preserved : goal.loop-preserved
 loop-preserved c =
     let P = IsStartGroup c.args.columns.now in
     let pushed = ap length c.in_ok-push.ensures.items in
-    let group : Group = record { first = None; cells = c.in_ok-cells.cells } in
-    let start : IsStartGroup c.args.columns.now group = record { first = refl; cells = c.in_ok-cells.ensures.start } in
+    let group : Group = record { first = None; memos = c.in_ok-memos.memos } in
+    let start : IsStartGroup c.args.columns.now group = record { first = refl; memos = c.in_ok-memos.ensures.start } in
     let more = length_more c.loop.groups.items group in
     record {
       start = subst (AllByRecursion P) (sym c.in_ok-push.ensures.items) (each_more P c.loop.groups.items group c.loop.invariant.start start);

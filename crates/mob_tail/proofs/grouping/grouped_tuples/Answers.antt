@@ -37,7 +37,7 @@ returns-in-Err-clause-fault c =
     let s = scene c.args.store.now select.from t c.args.epoch.now in
     let n : get_or c.args.numbers.now at.place 0 ≡ number_on select c.args.store.now c.args.epoch.now c.args.kept.now t = ap (λ z. get_or z at.place 0) c.requires.numbered ∙ got_map (number_on select c.args.store.now c.args.epoch.now c.args.kept.now) c.args.kept.now at.place t 0 c.loop-place-test.true c.index-kept-place.is in
     let step = fault_grouped select c.args.store.now c.args.epoch.now c.args.kept.now at.place t c.loop-place-test.true c.requires.few c.index-kept-place.is at.groups.items at.invariant old (c.index_mut.ensures.value ∙ ap (λ m. get_or at.groups.items m old) n) in
-    on_tuple t (λ f. FailsInMemos s (is_none old.first) old.cells.items f) (λ f. IsGroupedFault select c.args.store.now c.args.epoch.now c.args.kept.now (Some f)) (λ f is h. subst (λ z. IsGroupedFault select c.args.store.now c.args.epoch.now c.args.kept.now (Some (z, f.1))) (sym is) (step f.1 h)) c.in-Err.fault c.fault_on.result
+    on_tuple t (λ f. FailsInMemos s (is_none old.first) old.memos.items f) (λ f. IsGroupedFault select c.args.store.now c.args.epoch.now c.args.kept.now (Some f)) (λ f is h. subst (λ z. IsGroupedFault select c.args.store.now c.args.epoch.now c.args.kept.now (Some (z, f.1))) (sym is) (step f.1 h)) c.in-Err.fault c.fault_on.result
     (rw (c.as_slice.ensures.same, c.as_slice-in-loop-place.ensures.same) at c.in-Err.ensures.fault)
     c.fault_on.ensures.fault
 

@@ -6,15 +6,15 @@ use Rattle.mob_eval.proofs.memory.own_box.box_with.Goals as goal
 
 pub returns-in-Some-kept_box : goal.returns-in-Some-kept_box
 returns-in-Some-kept_box g c =
-    let cell = c.in-Some.cell in
+    let memo = c.in-Some.memo in
     let s = scene_of c.args.view.now in
-    let of = subst (λ n. IsMemoOf g.K.Remembering.recollection n s.tuple cell.at cell.place cell.row) (sym (ap place_of (typed_is c.args.operand.now))) c.in-Some.ensures.cell in
-    let has = told_box g.K.Remembering.recollection s c.args.operand.now cell.at cell.place cell.row c.requires.fits of c.args.value.now c.in-Some-kept_box.area c.requires.value c.in-Some-kept_box.ensures.told in
+    let of = subst (λ n. IsMemoOf g.K.Remembering.recollection n s.tuple memo.at memo.place memo.row) (sym (ap place_of (typed_is c.args.operand.now))) c.in-Some.ensures.memo in
+    let has = told_box g.K.Remembering.recollection s c.args.operand.now memo.at memo.place memo.row c.requires.fits of c.args.value.now c.in-Some-kept_box.area c.requires.value c.in-Some-kept_box.ensures.told in
     record { own = has_given c.args.value.now c.in-Some-kept_box.area has }
 
 pub keep-requires : goal.keep-requires
 keep-requires g c =
-    let cell = c.in-Some.cell in
+    let memo = c.in-Some.memo in
     let s = scene_of c.args.view.now in
-    let of = subst (λ n. IsMemoOf g.K.Remembering.recollection n s.tuple cell.at cell.place cell.row) (sym (ap place_of (typed_is c.args.operand.now))) c.in-Some.ensures.cell in
-    record { told = box_told g.K.Remembering.recollection s c.args.operand.now cell.at cell.place cell.row c.requires.fits of c.args.value.now c.in-Some-box_of_value.area c.requires.value c.in-Some-box_of_value.ensures.own }
+    let of = subst (λ n. IsMemoOf g.K.Remembering.recollection n s.tuple memo.at memo.place memo.row) (sym (ap place_of (typed_is c.args.operand.now))) c.in-Some.ensures.memo in
+    record { told = box_told g.K.Remembering.recollection s c.args.operand.now memo.at memo.place memo.row c.requires.fits of c.args.value.now c.in-Some-box_of_value.area c.requires.value c.in-Some-box_of_value.ensures.own }

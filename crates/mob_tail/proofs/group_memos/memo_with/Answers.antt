@@ -3,12 +3,12 @@ use Rattle.mob_typed.specs.Trees.{typed_of}
 use Rattle.mob_eval.specs.Views.{scene_of}
 use Rattle.mob_tail.specs.GroupSteps.{IsAggregateOn, IsColumnWith}
 use Rattle.mob_list.proofs.Faults.{cause_weaker}
-use Rattle.mob_tail.proofs.group_memos.cell_with.Goals as goal
+use Rattle.mob_tail.proofs.group_memos.memo_with.Goals as goal
 
 pub returns-in-Some : goal.returns-in-Some
 returns-in-Some c =
     let s = scene_of c.args.view.now in
-    let old = c.args.cell.now in
+    let old = c.args.memo.now in
     let e = typed_of old.column.expression.now in
     let agg = c.in-Some.agg in
     let first = c.args.is_first in
