@@ -48,10 +48,11 @@ class Layout:
         fields = fields_of(header.removeprefix(MARK), self.separator)
         if self.names is None:
             return fields, self.by_place(fields)
-        faults = [f"the header has {'two columns' if it in fields else 'no column'} {it}"
-                  for it in self.names.values() if fields.count(it) != 1]
+        faults = [f"the header has {fault} {', '.join(found)}" for fault, found in (
+            ("no column", [it for it in self.names.values() if it not in fields]),
+            ("two columns", [it for it in self.names.values() if fields.count(it) > 1])) if found]
         if faults:
-            raise Refused("; ".join([*faults, f"it is {', '.join(fields)}"]))
+            raise Refused("; ".join([*faults, f"it is {shown(', '.join(fields), 1000)}"]))
         return fields, {role: fields.index(it) for role, it in self.names.items()}
 
     @staticmethod

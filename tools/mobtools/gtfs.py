@@ -28,7 +28,7 @@ SOURCES = list(TABLES)
 Stop = namedtuple("Stop", "number comes goes lon lat line")
 
 
-def date_of(text):
+def service_date(text):
     """A date such as 2026-05-05 or 20260505."""
     found = DATE.fullmatch(text)
     try:
@@ -96,11 +96,11 @@ class Feed:
         running = set()
         if self.has("calendar.txt"):
             for _, (service, *week, first, last) in self.rows("calendar.txt"):
-                if week[day.weekday()] == "1" and date_of(first) <= day <= date_of(last):
+                if week[day.weekday()] == "1" and service_date(first) <= day <= service_date(last):
                     running.add(service)
         if self.has("calendar_dates.txt"):
             for _, (service, on, kind) in self.rows("calendar_dates.txt"):
-                if date_of(on) == day:
+                if service_date(on) == day:
                     (running.add if kind == "1" else running.discard)(service)
         return running
 
@@ -179,7 +179,7 @@ def read_folder(log, folder, day_text, zone_text):
     missing = [it for it in ("stop_times.txt", "stops.txt") if not feed.has(it)]
     if missing:
         raise Refused(f"{folder} has no {' and no '.join(missing)}")
-    day = date_of(day_text)
+    day = service_date(day_text)
     midnight = start_of_service(day, feed.zone(zone_text))
     for trip, stops in stops_of(feed, log, feed.trips(day)).items():
         guessed = sum(it.comes is None for it in stops)

@@ -3,8 +3,8 @@ from fractions import Fraction
 
 from .answers import Area, Place, Timed, plain, value_of
 from .command import Refused
-from .drawing import (COLOURS, GREY, GRID, RED, WIDTH, arrow, axis_text, badge, box, clock, dot,
-                      moment, round_numbers, round_step, stroke, text)
+from .drawing import (COLOURS, DAY, GREY, GRID, RED, WIDTH, arrow, axis_text, badge, box, clock,
+                      dot, moment, round_numbers, round_step, stroke, text)
 
 # From how many spots of lines on labels keep clear of one for each square alone.
 MANY = 20_000
@@ -58,6 +58,8 @@ class Map:
                        for name, field in row.items() if is_drawn(value := value_of(field))]
         if not self.shapes:
             raise Refused("no place is in these answers")
+        days = {it // DAY for shape in self.shapes if self.is_meeting(shape) for it in shape.span()}
+        self.clock_form = "%Y-%m-%d %H:%M:%S" if len(days) > 1 else "%H:%M:%S"
         xs, ys = zip(*(it for shape in self.shapes for line in shape.lines for it in line))
         wide, high = max(xs) - min(xs), max(ys) - min(ys)
         edge = max(wide, high, 1) / 25
@@ -146,11 +148,13 @@ class Map:
         return badge(free[0] + 9, free[1] + 9, number)
 
     def meeting(self, shape):
-        """A thick red line where two were near. Who and when goes to the legend, by a number."""
+        """A thick red line where two were near. Who and when goes to the legend, by a number, with
+        the dates if there are several."""
         first, last = shape.span()
         squared = value_of(shape.row.get("squared", ""))
         apart = f", nearest {float(squared) ** 0.5:.1f}" if isinstance(squared, Fraction) else ""
-        shown = f"{' and '.join(shape.texts())} {clock(first)}–{clock(last)}{apart}"
+        times = "–".join(clock(it, self.clock_form) for it in (first, last))
+        shown = f"{' and '.join(shape.texts())} {times}{apart}"
         self.meetings.append((len(self.meetings) + 1, shown))
         return "".join(stroke(self.path(it if len(it) > 1 else it * 2), RED, 5)
                        for it in shape.lines)

@@ -55,11 +55,12 @@ const ships = data.tracks.map((track) => {
     "paint-order": "stroke", "stroke-linejoin": "round", "font-weight": "bold"}, track.name);
   return {track, group, dot, name};
 });
-const buttons = data.meetings.map((meeting, number) => {
+const buttons = data.meetings.map((meeting) => {
   const item = byId("meetings").appendChild(document.createElement("li"));
   const button = item.appendChild(document.createElement("button"));
   button.textContent = meeting.shown;
-  button.onclick = () => { slider.value = meeting.spans[0][0]; show(); };
+  // The slider has whole seconds, and an encounter may begin between two.
+  button.onclick = () => { slider.value = meeting.spans[0][0]; show(meeting.spans[0][0]); };
   return button;
 });
 
@@ -72,8 +73,7 @@ function freeBelow(shown, x, y) {
   return below;
 }
 
-function show() {
-  const second = Number(slider.value);
+function show(second) {
   byId("clock").textContent = new Date((data.start + second) * 1000).toISOString()
     .replace("T", " ").slice(0, 19) + " UTC";
   const now = data.meetings.filter((it) =>
@@ -97,7 +97,7 @@ function show() {
 function fromAddress() {
   const asked = Date.parse(location.hash.slice(1) + "Z") / 1000 - data.start;
   if (!Number.isNaN(asked)) slider.value = asked;
-  show();
+  show(Number(slider.value));
 }
 
 let running = null;
@@ -107,10 +107,10 @@ byId("play").onclick = () => {
   running = setInterval(() => {
     const next = Number(slider.value) + Math.max(1, data.length / 600);
     slider.value = next > data.length ? 0 : next;
-    show();
+    show(Number(slider.value));
   }, 50);
 };
-slider.oninput = show;
+slider.oninput = () => show(Number(slider.value));
 window.onhashchange = fromAddress;
 fromAddress();
 """
