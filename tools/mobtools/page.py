@@ -59,8 +59,7 @@ const buttons = data.meetings.map((meeting) => {
   const item = byId("meetings").appendChild(document.createElement("li"));
   const button = item.appendChild(document.createElement("button"));
   button.textContent = meeting.shown;
-  // The slider has whole seconds, and an encounter may begin between two.
-  button.onclick = () => { slider.value = meeting.spans[0][0]; show(meeting.spans[0][0]); };
+  button.onclick = () => go(meeting.spans[0][0]);
   return button;
 });
 
@@ -93,11 +92,16 @@ function show(second) {
   }
 }
 
+// Shows an instant. The slider has whole seconds, and an encounter may begin between two.
+function go(second) {
+  slider.value = second;
+  show(second);
+}
+
 // The instant of the address, such as #2026-05-05T09:22:08.
 function fromAddress() {
-  const asked = Date.parse(location.hash.slice(1) + "Z") / 1000 - data.start;
-  if (!Number.isNaN(asked)) slider.value = asked;
-  show(Number(slider.value));
+  const asked = (Date.parse(location.hash.slice(1) + "Z") - data.start * 1000) / 1000;
+  go(Number.isNaN(asked) ? 0 : Math.min(Math.max(asked, 0), data.length));
 }
 
 let running = null;
@@ -105,9 +109,8 @@ byId("play").onclick = () => {
   byId("play").textContent = running ? "Play" : "Stop";
   if (running) { clearInterval(running); running = null; return; }
   running = setInterval(() => {
-    const next = Number(slider.value) + Math.max(1, data.length / 600);
-    slider.value = next > data.length ? 0 : next;
-    show(Number(slider.value));
+    const next = Number(slider.value) + Math.ceil(data.length / 600);
+    go(next > data.length ? 0 : next);
   }, 50);
 };
 slider.oninput = () => show(Number(slider.value));
