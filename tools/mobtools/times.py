@@ -85,8 +85,8 @@ def time_of(seconds, digits=0):
     """The text of a second, rounded down to some digits."""
     whole, part = (seconds, 0) if isinstance(seconds, int) else divmod(seconds, 1)
     day, second = divmod(whole, DAY)
-    shown = f"{date_of(day)} {second // 3600:02}:{second // 60 % 60:02}:{second % 60:02}"
-    return f"{shown}.{int(part * 10**digits):0{digits}}" if part and digits else shown
+    text = f"{date_of(day)} {second // 3600:02}:{second // 60 % 60:02}:{second % 60:02}"
+    return f"{text}.{int(part * 10**digits):0{digits}}" if part and digits else text
 
 
 def zone_of(text):
