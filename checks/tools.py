@@ -518,6 +518,17 @@ REFUSED = [
     ("waypoints alone", b'<gpx><wpt lat="1" lon="2"/></gpx>', ["--gpx", *AROUND], "no point of a"),
     ("a long text", b"time,ship,x,y\n" + b"9" * 10**6 + b",a,1000,1\n", [],
      f"line 2: no time: {'9' * 60}..\n"),
+    ("numbers that do not fit", b"time,ship,v\n2026-05-05 06:00,a,1e19\n2026-05-05 06:01,a,1e-19\n"
+     b"2026-05-05 06:02,a,4611686018427387904\n2026-05-05 06:03,a,4611686018427387903\n"
+     b"2026-05-05 06:04,a,0.12345678901234567890\n2026-05-05 06:05,a,2.500000000000000000000\n",
+     [*VALUE, "tfrac"], "4 faults"),
+    ("a place that does not fit", b"time,ship,x,y\n2026-05-05 06:00,a,1000,9e18\n", [],
+     "line 2: a number that does not fit 62 bits: 9e18"),
+    ("a year before the first", b"time,ship,v\n0001-01-01 00:00+01,a,1\n", [*VALUE, "tint"],
+     "outside of the years"),
+    ("a header of other names", b"a,b,a\n",
+     ["--columns", "time=a", "name=c", "value=d", "--type", "tint"],
+     "no column c, d; two columns a; it is a, b, a"),
     ("a bad role", b"time,ship,x,y\n", ["--columns", "time=time", "speed=x", "name=ship"], "takes"),
 ]
 
@@ -592,7 +603,8 @@ def check_counts():
     want(rows == ["4", "5", "6", "7", "8"] and output.count("POINT") == 3, f"{rows}, {output}")
     _, note = run(*table[:5], "--to", "1", *words, "+00:00", status=1)
     want(note.startswith("log_to_table: 3 faults;") and "no trip ghost" in note, note)
-    write("spoilt/calendar_dates.txt", "service_id,date,exception_type\ns,20260504,1\ns,2026,1\n")
+    write("spoilt/calendar_dates.txt",
+          "service_id,date,exception_type\ns,20260504,1\ns,2026,1\n")
     _, note = run(*table, *words, "+00:00", status=1)
     want("spoilt/calendar_dates.txt, line 3: no date: 2026\n" in note, note)
     _, note = run(*table, "--gtfs", "answer", *words[2:], "+00:00", status=1)
@@ -727,6 +739,11 @@ def check_large():
     want(all(os.path.getsize(f"many_{it}.csv") <= 16_777_216 for it in (1, 2)), "a part too large")
     want(len(parts[0]) + len(parts[1]) == 38 and parts[0][0] == parts[1][0], "other parts")
     run("log_to_table", "text_of", "600", given="\n".join(log), status=1)
+    log = ["time,device,text", *(f"2026-05-05 06:00:{at:02},d,{value}" for at in range(36))]
+    columns = ["time=time", "name=device", "value=text"]
+    _, note = run("log_to_table", "text_of", "600", "--out", "whole.csv", "--type", "ttext",
+                  "--columns", *columns, given="\n".join(log), status=1)
+    want("line 2: d is larger than a file may be" in note and not os.path.exists("whole.csv"), note)
     # A process of its own: the memory of a child is that of the largest so far.
     words = [sys.executable, os.path.join(TOP, "checks", "tools.py"), "--measure", "30000"]
     return subprocess.run(words, capture_output=True, text=True, check=True).stdout.strip()
