@@ -646,6 +646,12 @@ def check_types():
                    {"ship": "x", "metres": 3, "s": 2}], f"other properties: {found}")
     output, _ = run("spans_to_rows", *words, given=given)
     want(output == "ship,metres,s,rounded\n10/2,0.5,0.333,s\nx,3,2,\n", output)
+    point = "[POINT(1 1)@2026-05-05 06:00:00+00]"
+    for names in ("ship,ship,near", "ship,times,near", "ship,rounded,near", "near,column,near2"):
+        given = f'{names}\n"{point}",1/3,"{point}"\n(1 rows)\n'
+        _, note = run("table_to_geojson", *AROUND[:2], given=given, status=1)
+        want("two properties" in note, f"{names}: {note}")
+    given = "a,squared\n1,2\n(1 rows)\n"
     for tool in (["spans_to_rows"], ["table_to_geojson", *AROUND[:2]]):
         for wrong in (["--answer", "1", "--root", "none"], ["--answer", "3"], ["--answer", "0"]):
             run(*tool, *wrong, given=given, status=1)
@@ -681,6 +687,8 @@ def check_legend():
         wide = 7.2 * len(f"{names[0]} and {names[1]} 06:00:00-06:01:00, nearest 50.0")
         want(len(lefts) == 2 and all(it + wide < 900 for it in lefts), f"{names}: {lefts}, {wide}")
         want(len(set(lefts)) == (1 if wide > 390 else 2), f"{names}: texts over one another")
+    text, _ = run("picture", "map", given=given.replace("one,other", "ship,ship"))
+    want(">b and a 06:00:00" in text, "a legend without the first of two columns of one name")
     given = given.replace("05 06:01:00+00]\"\n(2", "06 06:01:00+00]\"\n(2")
     text, _ = run("picture", "map", given=given)
     want(">b and a 2026-05-05 06:00:00\u20132026-05-06 06:01:00," in text, "a legend without dates")

@@ -26,7 +26,8 @@ def is_drawn(value):
 
 
 class Shape:
-    """A field that is drawn: the name of its column, its row, its value and its lines."""
+    """A field that is drawn: the name of its column, its row, its value and its lines. A row is the
+    names of its columns with their fields: two columns may have one name."""
 
     def __init__(self, name, row, value):
         self.name, self.row, self.value = name, row, value
@@ -34,11 +35,11 @@ class Shape:
         self.is_moving = isinstance(value, Timed)
 
     def label(self):
-        return plain(next(iter(self.row.values())))
+        return plain(self.row[0][1])
 
     def texts(self):
         """The texts of the row of an encounter: who it is."""
-        return [plain(it) for name, it in self.row.items() if name != "squared"
+        return [plain(it) for name, it in self.row if name != "squared"
                 and not isinstance(value_of(it), (Timed, list, Area, Place))]
 
     def span(self):
@@ -54,8 +55,8 @@ class Map:
     def __init__(self, found):
         self.labels, self.meetings = [], []
         self.shapes = [Shape(name, row, value) for answer in found
-                       for row in (dict(zip(answer.names, it)) for it in answer.rows)
-                       for name, field in row.items() if is_drawn(value := value_of(field))]
+                       for row in (list(zip(answer.names, it)) for it in answer.rows)
+                       for name, field in row if is_drawn(value := value_of(field))]
         if not self.shapes:
             raise Refused("no place is in these answers")
         days = {it // DAY for shape in self.shapes if self.is_meeting(shape) for it in shape.span()}
@@ -151,7 +152,7 @@ class Map:
         """A thick red line where two were near. Who and when goes to the legend, by a number, with
         the dates if there are several."""
         first, last = shape.span()
-        squared = value_of(shape.row.get("squared", ""))
+        squared = value_of(dict(shape.row).get("squared", ""))
         apart = f", nearest {float(squared) ** 0.5:.1f}" if isinstance(squared, Fraction) else ""
         times = "–".join(clock(it, self.clock_form) for it in (first, last))
         shown = f"{' and '.join(shape.texts())} {times}{apart}"
