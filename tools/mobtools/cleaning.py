@@ -59,7 +59,8 @@ def drop_unfit(log):
         log.reports[name] = kept = []
         for it in group:
             try:
-                fitting(it.x), fitting(it.y)
+                for text in (it.x, it.y):
+                    fitting(text)
                 kept.append(it)
             except Refused as why:
                 log.spoilt(it.source, it.line, why)
