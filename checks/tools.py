@@ -330,22 +330,29 @@ def check_page(text, names):
     return data
 
 
-def check_browser(path, data, second):
-    """In a headless browser each ship is where the computation has it."""
-    browser = shutil.which("chromium")
-    if not browser:
-        return "no chromium: the page was not tried in a browser"
-    clock = make_logs.clock_of(second)
-    words = ["--headless", "--no-sandbox", "--disable-gpu", "--dump-dom",
+def in_browser(path, clock):
+    """A page as a headless browser has it at a time of the day."""
+    words = ["chromium", "--headless", "--no-sandbox", "--disable-gpu", "--dump-dom",
              f"--user-data-dir={os.path.abspath('chromium')}",
              f"file://{os.path.abspath(path)}#{make_logs.DAY}T{clock}"]
+    shown = subprocess.run(words, capture_output=True, text=True, timeout=300, check=True).stdout
+    want(f"{clock[:8]} UTC</output>" in shown, "the page shows another time")
+    return shown, len(re.findall('<circle r="6"[^>]*fill="#c8161d"', shown))
+
+
+def check_browser(path, data, second):
+    """In a headless browser each ship is where the computation has it. An encounter is red from its
+    first instant on."""
+    if not shutil.which("chromium"):
+        return "no chromium: the page was not tried in a browser"
+    first = data["meetings"][0]["spans"][0][0]
+    want(first % 1, "the first encounter begins at a full second")
     try:
-        ran = subprocess.run([browser, *words], capture_output=True, text=True, timeout=300,
-                             check=True)
+        shown, reds = in_browser(path, make_logs.clock_of(second))
+        part = f"{first % 1:.3f}"[1:]
+        _, reds_at_first = in_browser(path, make_logs.clock_of(make_logs.START + int(first)) + part)
     except (OSError, subprocess.SubprocessError) as fault:
         return f"the page was not tried in a browser: {fault}"[:200]
-    shown = ran.stdout
-    want(f"{clock} UTC</output>" in shown, "the page shows another time")
     ships = re.findall(r'<g class="ship"[^>]*transform="translate\((\S+) (\S+)\)"[^>]*>', shown)
     known = [piece for it in data["tracks"] for piece in it["pieces"]
              if piece[0][0] <= second - make_logs.START <= piece[-1][0]]
@@ -353,8 +360,7 @@ def check_browser(path, data, second):
     for found, piece in zip(ships, known):
         exact = scene.place_at(piece, second - make_logs.START)
         want(all(abs(float(a) - b) <= 0.06 for a, b in zip(found, exact)), "a ship is elsewhere")
-    reds = re.findall('<circle r="6"[^>]*fill="#c8161d"', shown)
-    want(len(reds) >= 2, "no encounter is red")
+    want(reds >= 2 and reds_at_first >= 2, "no encounter is red")
     return "the page was tried in chromium"
 
 
@@ -451,6 +457,19 @@ def check_names():
             tree.fromstring(text)
 
 
+def check_bad_names():
+    """A name of a track that no table file may have, or that takes two lines, is refused."""
+    for name in (b"a\nb", b"a\x01b", b"\xff"):
+        stem = os.fsdecode(name)
+        shutil.copy(f"logs/nmea/{make_logs.SHIPS[0]}.nmea", f"{stem}.nmea")
+        write(f"{stem}.gpx", '<gpx><trk><trkseg><trkpt lat="55.7" lon="12.6"><time>'
+              "2026-05-05T06:00:00Z</time></trkpt></trkseg></trk></gpx>")
+        for words in (["--nmea", f"{stem}.nmea"], ["--gpx", f"{stem}.gpx"],
+                      ["--nmea", "--name", stem, "logs/nmea/219000101.nmea"]):
+            output, note = run("log_to_table", "track", "600", *AROUND, *words, status=1)
+            want(output == "" and "in the name of a track" in note, f"{words}: {note}")
+
+
 def check_files():
     """File names with blanks and leading dashes, and files that cannot be read."""
     shutil.copy("names.csv", "- my log.csv")
@@ -499,6 +518,17 @@ REFUSED = [
     ("waypoints alone", b'<gpx><wpt lat="1" lon="2"/></gpx>', ["--gpx", *AROUND], "no point of a"),
     ("a long text", b"time,ship,x,y\n" + b"9" * 10**6 + b",a,1000,1\n", [],
      f"line 2: no time: {'9' * 60}..\n"),
+    ("numbers that do not fit", b"time,ship,v\n2026-05-05 06:00,a,1e19\n2026-05-05 06:01,a,1e-19\n"
+     b"2026-05-05 06:02,a,4611686018427387904\n2026-05-05 06:03,a,4611686018427387903\n"
+     b"2026-05-05 06:04,a,0.12345678901234567890\n2026-05-05 06:05,a,2.500000000000000000000\n",
+     [*VALUE, "tfrac"], "4 faults"),
+    ("a place that does not fit", b"time,ship,x,y\n2026-05-05 06:00,a,1000,9e18\n", [],
+     "line 2: a number that does not fit 62 bits: 9e18"),
+    ("a year before the first", b"time,ship,v\n0001-01-01 00:00+01,a,1\n", [*VALUE, "tint"],
+     "outside of the years"),
+    ("a header of other names", b"a,b,a\n",
+     ["--columns", "time=a", "name=c", "value=d", "--type", "tint"],
+     "no column c, d; two columns a; it is a, b, a"),
     ("a bad role", b"time,ship,x,y\n", ["--columns", "time=time", "speed=x", "name=ship"], "takes"),
 ]
 
@@ -522,10 +552,11 @@ def check_outputs():
     write("answer", "ship,place\na,POINT(1 2)\n(1 rows)\n")
     write("moving", "ship,track\na,[POINT(1 2)@2026-05-05 06:00:00+00]\n(1 rows)\n")
     write("over_time", "ship,speed\na,[1@2026-05-05 06:00:00+00]\n(1 rows)\n")
+    write("note", "no memory\n")
     for words, given in (("log_to_table track 600", "names.csv"), ("picture map", "answer"),
                          ("picture map --html", "moving"), ("picture curves", "over_time"),
                          ("spans_to_rows", "answer"), ("table_to_geojson --around 1,1", "answer"),
-                         ("table_to_log v", "over_time")):
+                         ("table_to_log v", "over_time"), ("where answer", "note")):
         command = f"{os.path.join(TOP, 'tools', words)} < {given}"
         note = shell(f"{command} > /dev/full")
         want(note.endswith(": standard output: No space left on device\n"), f"{words}: {note}")
@@ -572,6 +603,12 @@ def check_counts():
     want(rows == ["4", "5", "6", "7", "8"] and output.count("POINT") == 3, f"{rows}, {output}")
     _, note = run(*table[:5], "--to", "1", *words, "+00:00", status=1)
     want(note.startswith("log_to_table: 3 faults;") and "no trip ghost" in note, note)
+    write("spoilt/calendar_dates.txt",
+          "service_id,date,exception_type\ns,20260504,1\ns,2026,1\n")
+    _, note = run(*table, *words, "+00:00", status=1)
+    want("spoilt/calendar_dates.txt, line 3: no date: 2026\n" in note, note)
+    _, note = run(*table, "--gtfs", "answer", *words[2:], "+00:00", status=1)
+    want("answer is no folder: unpack the feed" in note, note)
     _, note = run(*table, *words, "+99:99", status=1)
     want(note == "log_to_table: an offset that does not exist: +99:99\n", note)
 
@@ -598,6 +635,9 @@ def check_types():
                           ("n,s\n7,a\n1/2,9\n", "n,s,rounded\n7,a,\n0.5,9,\n")):
         output, _ = run("spans_to_rows", given=given + "(2 rows)\n")
         want(output == wanted, f"{given}: {output}")
+    for given in ("n,s\n(0 rows)\n", "n,s\na,\\N\n(1 rows)\n"):
+        output, _ = run("spans_to_rows", "--column", "s", given=given)
+        want(output == "n,start,end,seconds,rounded\n", f"{given}: {output}")
     given = "ship,squared,s\n10/2,1/4,1/3\nx,9,2\n(2 rows)\nn\n1\n(1 rows)\n"
     words = ["--answer", "1", "--root", "squared=metres"]
     output, _ = run("table_to_geojson", *AROUND[:2], *words, given=given)
@@ -606,6 +646,12 @@ def check_types():
                    {"ship": "x", "metres": 3, "s": 2}], f"other properties: {found}")
     output, _ = run("spans_to_rows", *words, given=given)
     want(output == "ship,metres,s,rounded\n10/2,0.5,0.333,s\nx,3,2,\n", output)
+    point = "[POINT(1 1)@2026-05-05 06:00:00+00]"
+    for names in ("ship,ship,near", "ship,times,near", "ship,rounded,near", "near,column,near2"):
+        given = f'{names}\n"{point}",1/3,"{point}"\n(1 rows)\n'
+        _, note = run("table_to_geojson", *AROUND[:2], given=given, status=1)
+        want("two properties" in note, f"{names}: {note}")
+    given = "a,squared\n1,2\n(1 rows)\n"
     for tool in (["spans_to_rows"], ["table_to_geojson", *AROUND[:2]]):
         for wrong in (["--answer", "1", "--root", "none"], ["--answer", "3"], ["--answer", "0"]):
             run(*tool, *wrong, given=given, status=1)
@@ -641,6 +687,11 @@ def check_legend():
         wide = 7.2 * len(f"{names[0]} and {names[1]} 06:00:00-06:01:00, nearest 50.0")
         want(len(lefts) == 2 and all(it + wide < 900 for it in lefts), f"{names}: {lefts}, {wide}")
         want(len(set(lefts)) == (1 if wide > 390 else 2), f"{names}: texts over one another")
+    text, _ = run("picture", "map", given=given.replace("one,other", "ship,ship"))
+    want(">b and a 06:00:00" in text, "a legend without the first of two columns of one name")
+    given = given.replace("05 06:01:00+00]\"\n(2", "06 06:01:00+00]\"\n(2")
+    text, _ = run("picture", "map", given=given)
+    want(">b and a 2026-05-05 06:00:00\u20132026-05-06 06:01:00," in text, "a legend without dates")
 
 
 def check_near(load):
@@ -696,6 +747,11 @@ def check_large():
     want(all(os.path.getsize(f"many_{it}.csv") <= 16_777_216 for it in (1, 2)), "a part too large")
     want(len(parts[0]) + len(parts[1]) == 38 and parts[0][0] == parts[1][0], "other parts")
     run("log_to_table", "text_of", "600", given="\n".join(log), status=1)
+    log = ["time,device,text", *(f"2026-05-05 06:00:{at:02},d,{value}" for at in range(36))]
+    columns = ["time=time", "name=device", "value=text"]
+    _, note = run("log_to_table", "text_of", "600", "--out", "whole.csv", "--type", "ttext",
+                  "--columns", *columns, given="\n".join(log), status=1)
+    want("line 2: d is larger than a file may be" in note and not os.path.exists("whole.csv"), note)
     # A process of its own: the memory of a child is that of the largest so far.
     words = [sys.executable, os.path.join(TOP, "checks", "tools.py"), "--measure", "30000"]
     return subprocess.run(words, capture_output=True, text=True, check=True).stdout.strip()
@@ -733,6 +789,7 @@ def main():
     check_heat(spoilt["heat"])
     print(f"tools: {check_projection()}")
     check_names()
+    check_bad_names()
     check_files()
     check_outputs()
     check_counts()

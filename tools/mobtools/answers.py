@@ -160,9 +160,3 @@ def chosen(found, number):
     if not 1 <= number <= len(found):
         raise Refused(f"no answer {number}: there are {len(found)}")
     return found[number - 1]
-
-
-def root_option(text):
-    """The argument of --root: the column, and the name of the root."""
-    column, _, name = text.partition("=")
-    return column, name or column

@@ -4,7 +4,7 @@ from statistics import median_low
 
 from .command import Refused, shown
 from .logs import Report
-from .numbers import NANO, nano
+from .numbers import NANO, fitting, nano
 from .places import degree, to_nano
 from .times import time_of
 
@@ -49,6 +49,19 @@ def project(log, projection):
         for (it, _), x, y in zip(kept, xs, ys):
             try:
                 placed.append(Report(*it[:4], to_nano(x), to_nano(y), *it[6:]))
+            except Refused as why:
+                log.spoilt(it.source, it.line, why)
+
+
+def drop_unfit(log):
+    """Drops each report whose place is too far or too fine for mobsql."""
+    for name, group in log.reports.items():
+        log.reports[name] = kept = []
+        for it in group:
+            try:
+                for text in (it.x, it.y):
+                    fitting(text)
+                kept.append(it)
             except Refused as why:
                 log.spoilt(it.source, it.line, why)
 

@@ -3,7 +3,7 @@ import re
 
 from .command import Refused, shown
 from .logs import Report
-from .numbers import number
+from .numbers import fitting, number
 from .places import degree
 from .texts import MARK, fields_of, line_of, name_of
 from .times import danish_time, seconds_of
@@ -32,7 +32,7 @@ def truth(text):
 
 
 # How a value is read, by the type of its column. Without a type each value is taken.
-VALUES = {None: any_value, "tint": whole_number, "tfrac": number, "tbool": truth,
+VALUES = {None: any_value, "tint": whole_number, "tfrac": fitting, "tbool": truth,
           "ttext": any_value}
 
 
@@ -48,10 +48,13 @@ class Layout:
         fields = fields_of(header.removeprefix(MARK), self.separator)
         if self.names is None:
             return fields, self.by_place(fields)
-        faults = [f"the header has {'two columns' if it in fields else 'no column'} {it}"
-                  for it in self.names.values() if fields.count(it) != 1]
+        missing = [it for it in self.names.values() if it not in fields]
+        twice = [it for it in self.names.values() if fields.count(it) > 1]
+        faults = [f"{what} {', '.join(found)}" for what, found in
+                  (("no column", missing), ("two columns", twice)) if found]
         if faults:
-            raise Refused("; ".join([*faults, f"it is {', '.join(fields)}"]))
+            header = shown(", ".join(fields), 1000)
+            raise Refused(f"the header has {'; '.join(faults)}; it is {header}")
         return fields, {role: fields.index(it) for role, it in self.names.items()}
 
     @staticmethod

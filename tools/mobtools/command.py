@@ -14,9 +14,9 @@ class Refused(Exception):
     """Why an input is not accepted."""
 
 
-def shown(text):
+def shown(text, longest=LONGEST):
     """A text of an input in a message, cut where it is long."""
-    return text if len(text) <= LONGEST else text[:LONGEST] + ".."
+    return text if len(text) <= longest else text[:longest] + ".."
 
 
 def parser(description, usage):

@@ -5,7 +5,7 @@ import xml.etree.ElementTree as tree
 from .command import Refused
 from .logs import Report
 from .numbers import number
-from .texts import CONTROL
+from .texts import check_name
 from .times import seconds_of
 
 
@@ -49,8 +49,7 @@ class Reader:
         self.points += 1
         time = next((it.text for it in element if short(it.tag) == "time"), None)
         try:
-            if CONTROL.search(self.name):
-                raise Refused("a control character in the name of the track")
+            check_name(self.name)
             if not time:
                 raise Refused("no time")
             x, y = (number(element.get(it, "")) for it in ("lon", "lat"))

@@ -1,4 +1,5 @@
 """Timetables in GTFS: the trips of a day, as points that move from stop to stop."""
+import contextlib
 import os
 import re
 from collections import namedtuple
@@ -28,7 +29,7 @@ SOURCES = list(TABLES)
 Stop = namedtuple("Stop", "number comes goes lon lat line")
 
 
-def date_of(text):
+def service_date(text):
     """A date such as 2026-05-05 or 20260505."""
     found = DATE.fullmatch(text)
     try:
@@ -81,6 +82,14 @@ class Feed:
                     if at is None:
                         return
 
+    @contextlib.contextmanager
+    def faults(self, name, line):
+        """Lists what is refused in a line of a table."""
+        try:
+            yield
+        except Refused as why:
+            self.log.fault(SOURCES.index(name), line, why)
+
     def zone(self, asked):
         """The zone that was asked for, or that of the agency."""
         if asked:
@@ -95,13 +104,16 @@ class Feed:
             return None
         running = set()
         if self.has("calendar.txt"):
-            for _, (service, *week, first, last) in self.rows("calendar.txt"):
-                if week[day.weekday()] == "1" and date_of(first) <= day <= date_of(last):
-                    running.add(service)
+            for line, (service, *week, first, last) in self.rows("calendar.txt"):
+                with self.faults("calendar.txt", line):
+                    is_in = service_date(first) <= day <= service_date(last)
+                    if is_in and week[day.weekday()] == "1":
+                        running.add(service)
         if self.has("calendar_dates.txt"):
-            for _, (service, on, kind) in self.rows("calendar_dates.txt"):
-                if date_of(on) == day:
-                    (running.add if kind == "1" else running.discard)(service)
+            for line, (service, on, kind) in self.rows("calendar_dates.txt"):
+                with self.faults("calendar_dates.txt", line):
+                    if service_date(on) == day:
+                        (running.add if kind == "1" else running.discard)(service)
         return running
 
     def trips(self, day):
@@ -176,10 +188,12 @@ def read_folder(log, folder, day_text, zone_text):
     """Reads the trips of a date."""
     feed = Feed(log, folder)
     log.heading = "trip"
+    if not os.path.isdir(folder):
+        raise Refused(f"{folder} is no folder: unpack the feed, and name its folder")
     missing = [it for it in ("stop_times.txt", "stops.txt") if not feed.has(it)]
     if missing:
         raise Refused(f"{folder} has no {' and no '.join(missing)}")
-    day = date_of(day_text)
+    day = service_date(day_text)
     midnight = start_of_service(day, feed.zone(zone_text))
     for trip, stops in stops_of(feed, log, feed.trips(day)).items():
         guessed = sum(it.comes is None for it in stops)

@@ -3,8 +3,8 @@ from fractions import Fraction
 
 from .answers import Area, Place, Timed, plain, value_of
 from .command import Refused
-from .drawing import (COLOURS, GREY, GRID, RED, WIDTH, arrow, axis_text, badge, box, clock, dot,
-                      moment, round_numbers, round_step, stroke, text)
+from .drawing import (COLOURS, DAY, GREY, GRID, RED, WIDTH, arrow, axis_text, badge, box, clock,
+                      dot, moment, round_numbers, round_step, stroke, text)
 
 # From how many spots of lines on labels keep clear of one for each square alone.
 MANY = 20_000
@@ -26,7 +26,8 @@ def is_drawn(value):
 
 
 class Shape:
-    """A field that is drawn: the name of its column, its row, its value and its lines."""
+    """A field that is drawn: the name of its column, its row, its value and its lines. A row is the
+    names of its columns with their fields: two columns may have one name."""
 
     def __init__(self, name, row, value):
         self.name, self.row, self.value = name, row, value
@@ -34,11 +35,11 @@ class Shape:
         self.is_moving = isinstance(value, Timed)
 
     def label(self):
-        return plain(next(iter(self.row.values())))
+        return plain(self.row[0][1])
 
     def texts(self):
         """The texts of the row of an encounter: who it is."""
-        return [plain(it) for name, it in self.row.items() if name != "squared"
+        return [plain(it) for name, it in self.row if name != "squared"
                 and not isinstance(value_of(it), (Timed, list, Area, Place))]
 
     def span(self):
@@ -54,10 +55,12 @@ class Map:
     def __init__(self, found):
         self.labels, self.meetings = [], []
         self.shapes = [Shape(name, row, value) for answer in found
-                       for row in (dict(zip(answer.names, it)) for it in answer.rows)
-                       for name, field in row.items() if is_drawn(value := value_of(field))]
+                       for row in (list(zip(answer.names, it)) for it in answer.rows)
+                       for name, field in row if is_drawn(value := value_of(field))]
         if not self.shapes:
             raise Refused("no place is in these answers")
+        days = {it // DAY for shape in self.shapes if self.is_meeting(shape) for it in shape.span()}
+        self.clock_form = "%Y-%m-%d %H:%M:%S" if len(days) > 1 else "%H:%M:%S"
         xs, ys = zip(*(it for shape in self.shapes for line in shape.lines for it in line))
         wide, high = max(xs) - min(xs), max(ys) - min(ys)
         edge = max(wide, high, 1) / 25
@@ -146,11 +149,13 @@ class Map:
         return badge(free[0] + 9, free[1] + 9, number)
 
     def meeting(self, shape):
-        """A thick red line where two were near. Who and when goes to the legend, by a number."""
+        """A thick red line where two were near. Who and when goes to the legend, by a number, with
+        the dates if there are several."""
         first, last = shape.span()
-        squared = value_of(shape.row.get("squared", ""))
+        squared = value_of(dict(shape.row).get("squared", ""))
         apart = f", nearest {float(squared) ** 0.5:.1f}" if isinstance(squared, Fraction) else ""
-        shown = f"{' and '.join(shape.texts())} {clock(first)}–{clock(last)}{apart}"
+        times = "–".join(clock(it, self.clock_form) for it in (first, last))
+        shown = f"{' and '.join(shape.texts())} {times}{apart}"
         self.meetings.append((len(self.meetings) + 1, shown))
         return "".join(stroke(self.path(it if len(it) > 1 else it * 2), RED, 5)
                        for it in shape.lines)

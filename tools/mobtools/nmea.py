@@ -4,7 +4,7 @@ from functools import reduce
 
 from .command import Refused, shown
 from .logs import Report
-from .texts import line_of
+from .texts import check_name, line_of
 from .times import seconds_of
 
 SENTENCE = re.compile(r"\$([A-Z]{2}RMC,[^*$]*)(?:\*([0-9A-Fa-f]{2}))?", re.ASCII)
@@ -52,6 +52,11 @@ def report(text, source, line):
 
 def read_lines(log, source, name, lines):
     """Reads the sentences RMC of one thing. Other lines are no reports."""
+    try:
+        check_name(name)
+    except Refused as why:
+        log.fault(source, 0, f"{why}: give another with --name")
+        return
     count = log.read
     for line, text in enumerate(lines, 1):
         try:

@@ -55,11 +55,11 @@ const ships = data.tracks.map((track) => {
     "paint-order": "stroke", "stroke-linejoin": "round", "font-weight": "bold"}, track.name);
   return {track, group, dot, name};
 });
-const buttons = data.meetings.map((meeting, number) => {
+const buttons = data.meetings.map((meeting) => {
   const item = byId("meetings").appendChild(document.createElement("li"));
   const button = item.appendChild(document.createElement("button"));
   button.textContent = meeting.shown;
-  button.onclick = () => { slider.value = meeting.spans[0][0]; show(); };
+  button.onclick = () => go(meeting.spans[0][0]);
   return button;
 });
 
@@ -72,8 +72,7 @@ function freeBelow(shown, x, y) {
   return below;
 }
 
-function show() {
-  const second = Number(slider.value);
+function show(second) {
   byId("clock").textContent = new Date((data.start + second) * 1000).toISOString()
     .replace("T", " ").slice(0, 19) + " UTC";
   const now = data.meetings.filter((it) =>
@@ -93,11 +92,16 @@ function show() {
   }
 }
 
+// Shows an instant. The slider has whole seconds, and an encounter may begin between two.
+function go(second) {
+  slider.value = second;
+  show(second);
+}
+
 // The instant of the address, such as #2026-05-05T09:22:08.
 function fromAddress() {
-  const asked = Date.parse(location.hash.slice(1) + "Z") / 1000 - data.start;
-  if (!Number.isNaN(asked)) slider.value = asked;
-  show();
+  const asked = (Date.parse(location.hash.slice(1) + "Z") - data.start * 1000) / 1000;
+  go(Number.isNaN(asked) ? 0 : Math.min(Math.max(asked, 0), data.length));
 }
 
 let running = null;
@@ -105,12 +109,11 @@ byId("play").onclick = () => {
   byId("play").textContent = running ? "Play" : "Stop";
   if (running) { clearInterval(running); running = null; return; }
   running = setInterval(() => {
-    const next = Number(slider.value) + Math.max(1, data.length / 600);
-    slider.value = next > data.length ? 0 : next;
-    show();
+    const next = Number(slider.value) + Math.ceil(data.length / 600);
+    go(next > data.length ? 0 : next);
   }, 50);
 };
-slider.oninput = show;
+slider.oninput = () => show(Number(slider.value));
 window.onhashchange = fromAddress;
 fromAddress();
 """

@@ -5,6 +5,7 @@ of 6,371,000 metres: x = (longitude - LON) * cos(LAT), y = latitude - LAT, in ra
 """
 import argparse
 import re
+import sys
 from fractions import Fraction
 from math import cos, degrees, hypot, isfinite, radians, sin, sqrt
 
@@ -13,8 +14,8 @@ from .numbers import NANO, NUMBER, number
 
 METRES_OF_DEGREE = radians(6_371_000)
 EQUATOR, SQUARED_ECCENTRICITY = 6_378_137, 0.00669437999014
-INSTALL = ("--project needs pyproj (Debian: python3-pyproj; else pip install pyproj); "
-           "without it use --around LAT,LON")
+INSTALL = (f"{sys.executable} has no pyproj, which --project needs (Debian: python3-pyproj; else "
+           "pip install pyproj); without it use --around LAT,LON")
 
 
 class Around:

@@ -1,11 +1,26 @@
 """Answers as rows for other programs: decimals in place of fractions, times in UTC."""
 from fractions import Fraction
 
-from .command import Refused
+from .command import Refused, digits
 from .numbers import decimal, root
 from .times import UNIX, time_of
 
 ROUNDED = "rounded"
+
+
+def root_option(text):
+    """The argument of --root: the column, and the name of the root."""
+    column, _, name = text.partition("=")
+    return column, name or column
+
+
+def add_options(made):
+    """The options of the tools that write decimals."""
+    made.add_argument("--answer", metavar="N", type=int, help="the answer of this number alone")
+    made.add_argument("--digits", metavar="N", type=digits, default=3,
+                      help="decimal places; 3 by default")
+    made.add_argument("--root", metavar="COLUMN[=NAME]", type=root_option,
+                      help="show the square root of this column, under this name")
 
 
 class Shown:

@@ -15,6 +15,11 @@ def quoted(text):
     return '"' + text.replace('"', '""') + '"'
 
 
+def size_of(line):
+    """The bytes of a line in a file."""
+    return (len(line) if line.isascii() else len(line.encode("utf-8", "surrogateescape"))) + 1
+
+
 class Table:
     """The table of a log: a row for each thing."""
 
@@ -46,6 +51,9 @@ class Table:
             if not self.has_places or self.log.value_heading:
                 fields.append(self.field(name, reports[0], readings_of(reports, self.asked)))
             self.rows.append(",".join(fields))
+            if size_of(self.rows[-1]) + size_of(self.header()) > FILE_BYTES:
+                self.log.fault(reports[0].source, reports[0].line, f"{name} is larger than a file "
+                               f"may be, {FILE_BYTES} bytes: take a shorter time")
         if len(self.rows) > ROWS:
             self.log.fault(0, 0, f"a table has at most {ROWS} rows, this one {len(self.rows)}")
 
@@ -70,10 +78,10 @@ def parts_of(header, rows):
     """The rows in parts, each within the size of a file."""
     parts, size = [[]], FILE_BYTES + 1
     for row in rows:
-        its_size = len(row.encode("utf-8", "surrogateescape")) + 1
+        its_size = size_of(row)
         if size + its_size > FILE_BYTES:
             parts.append([])
-            size = len(header) + 1
+            size = size_of(header)
         parts[-1].append(row)
         size += its_size
     return parts[1:] or [[]]

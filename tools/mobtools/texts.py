@@ -33,6 +33,14 @@ def line_of(text):
     return text
 
 
+def check_name(text):
+    """Refuses a name that no table file may have, or that takes more than one line."""
+    if not is_text(text):
+        raise Refused("bytes that are no UTF-8 in the name of a track")
+    if CONTROL.search(text) or "\n" in text:
+        raise Refused("a control character in the name of a track")
+
+
 def fields_of(text, separator=","):
     """The fields of a line. One in double quotes may have separators and doubled quotes."""
     if '"' not in text:

@@ -24,6 +24,7 @@ def days(year, month, day):
 
 
 UNIX = days(1970, 1, 1) * DAY
+FIRST, AFTER = days(1, 1, 1) * DAY, days(10000, 1, 1) * DAY
 
 
 @lru_cache
@@ -55,6 +56,8 @@ def seconds_of(text):
     ahead = 3600 * int(ahead_hours or 0) + 60 * int(ahead_minutes or 0)
     whole = second_of((year, month, day), hour, minute, second, text)
     whole -= -ahead if sign == "-" else ahead
+    if not FIRST <= whole < AFTER:
+        raise Refused(f"a time outside of the years 0001 to 9999: {shown(text)}")
     exact = whole + Fraction("0" + part) if part else whole
     return exact if exact.denominator > 1 else int(exact)
 
@@ -85,8 +88,8 @@ def time_of(seconds, digits=0):
     """The text of a second, rounded down to some digits."""
     whole, part = (seconds, 0) if isinstance(seconds, int) else divmod(seconds, 1)
     day, second = divmod(whole, DAY)
-    shown = f"{date_of(day)} {second // 3600:02}:{second // 60 % 60:02}:{second % 60:02}"
-    return f"{shown}.{int(part * 10**digits):0{digits}}" if part and digits else shown
+    text = f"{date_of(day)} {second // 3600:02}:{second // 60 % 60:02}:{second % 60:02}"
+    return f"{text}.{int(part * 10**digits):0{digits}}" if part and digits else text
 
 
 def zone_of(text):
