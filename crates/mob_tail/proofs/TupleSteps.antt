@@ -56,25 +56,25 @@ module _ (select : TypedSelectParts) (store : Store) (day : ℤ) where
   column_err group t (e, Some agg) before first f (inl h) k = inl h
   column_err group t (e, Some agg) before first f (inr h) k = inr (h.0, h.1, (k.2.0, k.2.1, (Some f.1, h.3 k.0 k.1 k.2.0 k.2.2, ap (λ p. Some (p, f.1)) h.2)))
 
-  pub cells_ok : (group : List (List ℕ)) (t : List ℕ) (columns : List AnswerColumn) (old new : List GroupMemo) (first : Bool) → first ≡ is_none (first_of group) → length group + 1 < 2 ^ 62 → AllZip (IsMemoWith (scene store select.from t day) first) old new → AllZip (IsGroupMemoOf select store day group) columns old
+  pub memos_ok : (group : List (List ℕ)) (t : List ℕ) (columns : List AnswerColumn) (old new : List GroupMemo) (first : Bool) → first ≡ is_none (first_of group) → length group + 1 < 2 ^ 62 → AllZip (IsMemoWith (scene store select.from t day) first) old new → AllZip (IsGroupMemoOf select store day group) columns old
       → AllZip (IsGroupMemoOf select store day (group ++ t ∷ [])) columns new × IsTuple (IsArgumentOn select store day) IsAddingTo group t columns None
-  cells_ok group t [] [] [] first i few h k = (tt, refl)
-  cells_ok group t [] [] (d ∷ new) first i few h k = absurd h
-  cells_ok group t [] (c ∷ old) new first i few h k = absurd k
-  cells_ok group t (column ∷ columns) [] new first i few h k = absurd k
-  cells_ok group t (column ∷ columns) (c ∷ old) [] first i few h k = absurd h
-  cells_ok group t (column ∷ columns) (c ∷ old) (d ∷ new) first i few h k =
+  memos_ok group t [] [] [] first i few h k = (tt, refl)
+  memos_ok group t [] [] (d ∷ new) first i few h k = absurd h
+  memos_ok group t [] (c ∷ old) new first i few h k = absurd k
+  memos_ok group t (column ∷ columns) [] new first i few h k = absurd k
+  memos_ok group t (column ∷ columns) (c ∷ old) [] first i few h k = absurd h
+  memos_ok group t (column ∷ columns) (c ∷ old) (d ∷ new) first i few h k =
       let here = column_ok group t column c.state d.state first i few (subst (λ z. IsColumnWith (scene store select.from t day) z c.state first (Ok d.state)) k.0.0 h.0.state) k.0.1 in
-      let rest = cells_ok group t columns old new first i few h.1 k.1 in
+      let rest = memos_ok group t columns old new first i few h.1 k.1 in
       (((h.0.column ∙ k.0.0, here.0), rest.0), inr (here.1, rest.1))
 
-  pub cells_err : (group : List (List ℕ)) (t : List ℕ) (columns : List AnswerColumn) (old : List GroupMemo) (first : Bool) (f : PlacedFormula) → first ≡ is_none (first_of group) → length group + 1 < 2 ^ 62 → FailsInMemos (scene store select.from t day) first old f → AllZip (IsGroupMemoOf select store day group) columns old → IsTuple (IsArgumentOn select store day) IsAddingTo group t columns (Some f)
-  cells_err group t [] [] first f i few h k = absurd h
-  cells_err group t [] (c ∷ old) first f i few h k = absurd k
-  cells_err group t (column ∷ columns) [] first f i few h k = absurd k
-  cells_err group t (column ∷ columns) (c ∷ old) first f i few (inl h) k = inl (f, column_err group t column c.state first f (subst (λ z. IsColumnWith (scene store select.from t day) z c.state first (Err f)) k.0.0 h) k.0.1, refl)
-  cells_err group t (column ∷ columns) (c ∷ old) first f i few (inr h) k =
-      inr ((column_ok group t column c.state h.0 first i few (subst (λ z. IsColumnWith (scene store select.from t day) z c.state first (Ok h.0)) k.0.0 h.1) k.0.1).1, cells_err group t columns old first f i few h.2 k.1)
+  pub memos_err : (group : List (List ℕ)) (t : List ℕ) (columns : List AnswerColumn) (old : List GroupMemo) (first : Bool) (f : PlacedFormula) → first ≡ is_none (first_of group) → length group + 1 < 2 ^ 62 → FailsInMemos (scene store select.from t day) first old f → AllZip (IsGroupMemoOf select store day group) columns old → IsTuple (IsArgumentOn select store day) IsAddingTo group t columns (Some f)
+  memos_err group t [] [] first f i few h k = absurd h
+  memos_err group t [] (c ∷ old) first f i few h k = absurd k
+  memos_err group t (column ∷ columns) [] first f i few h k = absurd k
+  memos_err group t (column ∷ columns) (c ∷ old) first f i few (inl h) k = inl (f, column_err group t column c.state first f (subst (λ z. IsColumnWith (scene store select.from t day) z c.state first (Err f)) k.0.0 h) k.0.1, refl)
+  memos_err group t (column ∷ columns) (c ∷ old) first f i few (inr h) k =
+      inr ((column_ok group t column c.state h.0 first i few (subst (λ z. IsColumnWith (scene store select.from t day) z c.state first (Ok h.0)) k.0.0 h.1) k.0.1).1, memos_err group t columns old first f i few h.2 k.1)
 
 -- a fault in a memo after memos that have none
 pub fails_at : (s : Scene) (first : Bool) (n : ℕ) (old now : List GroupMemo) (c : GroupMemo) (f : PlacedFormula) → n < length now → c ≡ get_or now n c → AreChanged (IsMemoWith s first) n old now → IsColumnWith s (column_seen c.column) c.state first (Err f) → FailsInMemos s first old f
