@@ -9,7 +9,7 @@ use Rattle.mob_lift.{specs.Sometime.{IsSometime}, proofs.Walking.{walked}, proof
 use Rattle.mob_near.{specs.Approaches.{IsNearest, IsApproach}, specs.Distances.{distance_squared}, specs.Entries.{PointPiece}, specs.Legs.{nearest_of, piece_approach}}
 use Rattle.mob_near.proofs.OnPieces.{square_on, IsNearestOn}
 
-up_to-trans : (a b c : Ratio) → up_to a b ≡ true → up_to b c ≡ true → up_to a c ≡ true
+pub up_to-trans : (a b c : Ratio) → up_to a b ≡ true → up_to b c ≡ true → up_to a c ≡ true
 up_to-trans a b c h k = rw (le-up_to a c (le_trans a b c (not-up_to-le a b h) (not-up_to-le b c k))) refl
 
 -- ---- the smaller of two
