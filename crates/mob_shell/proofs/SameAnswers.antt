@@ -15,6 +15,7 @@ use Rattle.mob_shell.{specs.Program.{IsHalted, IsProgram, ProgramWrites, StopsWi
 use Rattle.mob_shell.specs.SameAnswers.{DifferInWorkers, IndexesAnswerTheSame, IndexesDeleteTheSame, IndexesKeepTheSame, WorkersEndTheSame, WorkersReadTheSame, WorkersWriteTheSame}
 use Rattle.mob_shell.specs.StepOutcomes.{OneAnswer}
 use Rattle.mob_statements.specs.Statements.{Ran}
+use Rattle.mob_meaning.specs.declared.terms.Terms.{Terms}
 
 -- ---- workers
 
@@ -75,15 +76,15 @@ write_the_same one other differ input text h = other_text one other differ input
 -- ---- indexes
 
 -- the tuples on which WHERE is true, by the store and the live rows
-abbrev MeetOn : TypedSelectParts → ℤ → List (List ℕ) → Store → List TableHead → Type 0
-MeetOn select day kept store heads = AreThoseThatMeet (conditions select) (λ visit. IsMet (condition_at select visit.on) (scene store select.from visit.tuple day)) (live_of heads) select.from kept
+abbrev MeetOn : TypedSelectParts → Terms → List (List ℕ) → Store → List TableHead → Type 0
+MeetOn select terms kept store heads = AreThoseThatMeet (conditions select) (λ visit. IsMet (condition_at select visit.on) (scene store select.from visit.tuple terms)) (live_of heads) select.from kept
 
 pub keep_the_same : IndexesKeepTheSame
-keep_the_same select one other day kept others differ h k =
-    let there : MeetOn select day others other.store other.heads = k.1 in
-    let here : MeetOn select day others one.store one.heads =
-    subst (λ (heads : List TableHead). MeetOn select day others one.store heads) (sym differ.heads) (subst (λ (store : Store). MeetOn select day others store other.heads) (sym differ.store) there) in
-    those_once (conditions select) (IsMetAt select one day) (live_rows one) select.from kept others h.1 here
+keep_the_same select one other terms kept others differ h k =
+    let there : MeetOn select terms others other.store other.heads = k.1 in
+    let here : MeetOn select terms others one.store one.heads =
+    subst (λ (heads : List TableHead). MeetOn select terms others one.store heads) (sym differ.heads) (subst (λ (store : Store). MeetOn select terms others store other.heads) (sym differ.store) there) in
+    those_once (conditions select) (IsMetAt select one terms) (live_rows one) select.from kept others h.1 here
 
 pub delete_the_same : IndexesKeepTheSame → IndexesDeleteTheSame
 delete_the_same keeps select one other day left others differ h k =
@@ -97,11 +98,11 @@ delete_the_same keeps select one other day left others differ h k =
     }
 
 pub answer_the_same : OneAnswer → IndexesAnswerTheSame
-answer_the_same once select one other day rows others differ h k =
-    let here : QueryAnswers select one day (Ok others) = (
+answer_the_same once select one other terms rows others differ h k =
+    let here : QueryAnswers select one terms (Ok others) = (
       k.0,
-      subst (λ kept. IsKept select one day (Ok kept)) (keep_the_same select one other day h.0 k.0 differ h.1 k.1) h.1,
-      subst (λ (store : Store). IsAnswerOnKept select store day k.0 (Ok others)) (sym differ.store) k.2,
+      subst (λ kept. IsKept select one terms (Ok kept)) (keep_the_same select one other terms h.0 k.0 differ h.1 k.1) h.1,
+      subst (λ (store : Store). IsAnswerOnKept select store terms k.0 (Ok others)) (sym differ.store) k.2,
     ) in
-    let e = once select one day (Ok rows) (Ok others) h here in
+    let e = once select one terms (Ok rows) (Ok others) h here in
     cc e

@@ -71,7 +71,7 @@ pub fn of_one<'a>(
         Op::GetX => made(east(alloc, value)),
         Op::GetY => made(north(alloc, value)),
         Op::BoxOf => made(box_value(alloc, value)),
-        Op::AsText => made(as_text(alloc, value, view.epoch)),
+        Op::AsText => made(as_text(alloc, value, &view.terms.epoch)),
         Op::Cast => cast(alloc, ty, args, operand),
         _ => Ok(Held::Made(Value::Null)),
     }

@@ -47,7 +47,7 @@ pub fn run_demo<R: Threads + Sync, K: Sink, G: Gate>(
     requires some { 1 ≤ settings.workers }
     requires few { settings.workers ≤ 64 }
     requires ships { ships ≤ 1000 }
-    ensures ends { DemoEnds settings.epoch ships (stream_seen K.held K.faults out.old out.new) result }
+    ensures ends { DemoEnds (terms_of settings) ships (stream_seen K.held K.faults out.old out.new) result }
     ensures later { K.faults out.old ≤ K.faults out.new }
 {
     let Ok(script) = demo_script(alloc) else {

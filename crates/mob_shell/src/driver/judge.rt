@@ -64,7 +64,7 @@ pub fn run_text<R: Threads + Sync, F: Files, K: Sink, G: Gate>(
 ) -> Ending
     requires some { 1 ≤ settings.workers }
     requires few { settings.workers ≤ 64 }
-    ensures ends { TextEnds settings.epoch bytes.now (files_seen F.files F.asked F.faults files.old files.new) (stream_seen K.held K.faults out.old out.new) result }
+    ensures ends { TextEnds (terms_of settings) bytes.now (files_seen F.files F.asked F.faults files.old files.new) (stream_seen K.held K.faults out.old out.new) result }
     ensures files { KeepsFiles (F.files files.old) (F.files files.new) }
     ensures filed_later { F.faults files.old ≤ F.faults files.new }
     ensures put_later { K.faults out.old ≤ K.faults out.new }

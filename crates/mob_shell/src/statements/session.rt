@@ -41,7 +41,7 @@ impl Session {
         Session {
             catalog: Catalog::new(alloc, values),
             files: VecDeque::from_vec(files.into_vec()),
-            epoch,
+            terms,
         }
     }
 
@@ -50,7 +50,7 @@ impl Session {
         ensures rows { result ≡ next_rows self.old.files.items }
         ensures left { self.new.files.items ≡ later_files self.old.files.items }
         ensures catalog { self.new.catalog ≡ self.old.catalog }
-        ensures day { self.new.epoch ≡ self.old.epoch }
+        ensures day { self.new.terms ≡ self.old.terms }
     {
         match self.files.pop_front() {
             Some(rows) => rows,
@@ -73,7 +73,7 @@ impl Session {
         ensures text { IfOk result (λ text. StatementWrites (session_day self.now) (session_state self.now) (query (select_seen select.now)) text.items) }
         ensures fault { IfErr result (OnCause (λ f. Stops (session_day self.now) (session_state self.now) (query (select_seen select.now)) f)) }
     {
-        answered(rt, alloc, select, &self.catalog, &self.epoch, workers, gate)
+        answered(rt, alloc, select, &self.catalog, &self.terms, workers, gate)
     }
 
     // The text of the plan of a query. It has no fault of evaluation.
@@ -109,7 +109,7 @@ impl Session {
             alloc,
             select,
             &mut self.catalog,
-            &self.epoch,
+            &self.terms,
             workers,
             gate,
         )?;
