@@ -28,6 +28,7 @@ use Rattle.mob_laws.specs.AggregateValues.{AggregateRowsHaveMeanings, ArgumentsH
 use Rattle.mob_laws.{specs.AggregateValues.{TypedColumnsHaveMeanings}, specs.ExpressionTypes.{HasItsType, TypedExpressionsHaveTheirTypes}, proofs.ExpressionTypes.{leaf_of_type, null_of}}
 use Rattle.mob_ast.specs.declared.types.SqlType.TheVariants as sql
 use Rattle.mob_meaning.specs.declared.terms.Terms.{Terms}
+use Rattle.mob_shell.specs.Terms.{terms_of}
 
 -- ---- lists of values
 -- what holds for each value that is not NULL holds for those that are left

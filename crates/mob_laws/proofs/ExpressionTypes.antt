@@ -31,6 +31,7 @@ use Rattle.mob_laws.specs.ExpressionTypes.{HasItsType, RunExpressionsHaveTheirTy
 use Rattle.mob_ast.specs.declared.types.SqlType.TheVariants as sql
 use Rattle.mob_operators.specs.declared.operator.Op.TheVariants as op
 use Rattle.mob_meaning.specs.declared.terms.Terms.{Terms}
+use Rattle.mob_shell.specs.Terms.{terms_of}
 
 -- ---- the line that answers
 -- what holds for each operator of each line, on the types that the line takes, holds for the

@@ -1,5 +1,5 @@
 -- Scripts that differ only in CREATE INDEX statements have the same answers.
-use Rattle.std.{specs.List.{AllByRecursion, concat}, proofs.Common.{◌≡◌, ◌∙◌, refl, sym, ap, subst, ℕ, List, [], ◌∷◌, ◌++◌, map, Ok}}
+use Rattle.std.{specs.List.{AllByRecursion, concat}, proofs.Common.{◌≡◌, ◌∙◌, refl, sym, ap, subst, ℕ, ℤ, List, [], ◌∷◌, ◌++◌, map, Ok}}
 use Rattle.mob_typed.specs.Statements.{ScriptOut, StatementOut, nothing, new_index, deletion, query, plan_of}
 use Rattle.mob_outside.specs.Told.{Contents}
 use Rattle.mob_accept.{specs.Accepts.{IsAccepted}, specs.Outcomes.{HasOneScript}}
@@ -11,6 +11,7 @@ use Rattle.mob_shell.specs.Runs.{RunState, RunsStatement, StatementWrites, begin
 use Rattle.mob_laws.specs.IndexScripts.{Answered, DifferInIndexStatements, HasNoExplain, IndexesChangeNoAnswer, IndexesWriteTheSame, IsNoExplain, WrittenIsAnswered, answer_in, unplaced_literal}
 use Rattle.mob_laws.{specs.IndexScripts.{without_indexes}, proofs.BareLoads.{program_alike}, proofs.BareRuns.{answered_alike}}
 use Rattle.mob_meaning.specs.declared.terms.Terms.{Terms}
+use Rattle.mob_shell.{specs.Terms.{terms_of}, proofs.SameAnswers.{same_terms}}
 
 -- ---- the answers in the text
 
@@ -65,7 +66,7 @@ module _ (script : HasOneScript) where
       )
 
   module _ (meaning : ConstantsHaveOneMeaning) (read : LoadedIsRead) (values : ProgramHasValues) (loading : HasOneLoading) (one : HasOneQueryAnswer) where
-    -- for one day, accepted scripts and the same files
+    -- for the same terms, accepted scripts and the same files
     scripts_alike : (terms : Terms) (files : Contents) (out others : ScriptOut) (p q : Program) (a b : List (List ℕ)) → DifferInIndexStatements out others → LoadsScript terms.epoch files out (Ok p) → LoadsScript terms.epoch files others (Ok q) → Answered terms (begin p) out.statements a → Answered terms (begin q) others.statements b → a ≡ b
     scripts_alike terms files out others p q a b differ loads loaded h k =
         let same : p ≡ q = program_alike meaning read values loading terms.epoch files out others p q differ loads loaded in
@@ -80,8 +81,8 @@ module _ (script : HasOneScript) where
           statements = ap (λ (o : ScriptOut). without_indexes o.statements) out ∙ differ.scripts.statements ∙ sym (ap (λ (o : ScriptOut). without_indexes o.statements) second);
           literals = ap (λ (o : ScriptOut). map unplaced_literal o.consts) out ∙ differ.scripts.literals ∙ sym (ap (λ (o : ScriptOut). map unplaced_literal o.consts) second);
         } in
-        let loads : LoadsScript settings.epoch one.files k.out (Ok k.program) = subst (λ (terms : Terms). LoadsScript terms.epoch one.files k.out (Ok k.program)) (sym workers.epoch) (subst (λ (files : Contents). LoadsScript others.epoch files k.out (Ok k.program)) (sym differ.files) k.is.loads) in
-        let there : Answered (terms_of settings) (begin k.program) k.out.statements b = subst (λ (terms : Terms). Answered terms (begin k.program) k.out.statements b) (sym workers.epoch) k.answered in
+        let loads : LoadsScript settings.epoch one.files k.out (Ok k.program) = subst (λ (day : ℤ). LoadsScript day one.files k.out (Ok k.program)) (sym workers.epoch) (subst (λ (files : Contents). LoadsScript others.epoch files k.out (Ok k.program)) (sym differ.files) k.is.loads) in
+        let there : Answered (terms_of settings) (begin k.program) k.out.statements b = subst (λ (terms : Terms). Answered terms (begin k.program) k.out.statements b) (sym (same_terms settings others workers)) k.answered in
         scripts_alike (terms_of settings) one.files h.out k.out h.program k.program a b scripts h.is.loads loads h.answered there
 
     pub write_the_same : IndexesWriteTheSame

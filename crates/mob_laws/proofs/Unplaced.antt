@@ -34,7 +34,7 @@ mutual
 
 mutual
   pub evaluated_same : (s : Scene) (e : TypedTree) (v : Value) → TreeEvaluatesTo s e (Ok v) ≡ TreeEvaluatesTo s (unplaced e) (Ok v)
-  evaluated_same s (typed o ty place args) v = λ i. (vs : List Value) × operands_same s (stop_of o) args vs i × IsFirstFormula o ty (types_same args i) vs None × OperatorGives s o ty (types_same args i) vs v
+  evaluated_same s (typed o ty place args) v = λ i. (vs : List Value) × operands_same s (stop_of o) args vs i × IsFirstFormula s.terms.mode o ty (types_same args i) vs None × OperatorGives s o ty (types_same args i) vs v
 
   operands_same : (s : Scene) (stop : Option Bool) (es : TypedTrees) (vs : List Value) → OperandsEvaluateTo s stop es (Ok vs) ≡ OperandsEvaluateTo s stop (all_unplaced es) (Ok vs)
   operands_same s stop none vs = refl

@@ -20,6 +20,7 @@ use Rattle.mob_arguments.specs.declared.options.Settings.{Settings}
 use Rattle.mob_shell.{specs.Inputs.{Input}, specs.Program.{WritesFirst}}
 use Rattle.mob_ast.specs.declared.types.SqlType.TheVariants as sql
 use Rattle.mob_meaning.specs.declared.terms.Terms.{Terms}
+use Rattle.mob_shell.specs.Terms.{terms_of}
 
 -- the types that an aggregate may give
 abbrev pub GivesType : AggKind → SqlType → Type 0

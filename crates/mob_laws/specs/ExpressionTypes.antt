@@ -9,6 +9,7 @@ use Rattle.mob_join.specs.TypedFor.{IsTypedFor}
 use Rattle.mob_arguments.specs.declared.options.Settings.{Settings}
 use Rattle.mob_shell.{specs.Inputs.{Input}, specs.Program.{WritesFirst}}
 use Rattle.mob_meaning.specs.declared.terms.Terms.{Terms}
+use Rattle.mob_shell.specs.Terms.{terms_of}
 
 -- whatever value an expression has, it is NULL or one of the expression's type
 abbrev pub HasItsType : Scene → TypedTree → Type 0

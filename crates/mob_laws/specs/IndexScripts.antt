@@ -7,6 +7,7 @@ use Rattle.mob_accept.specs.Accepts.{IsAccepted}
 use Rattle.mob_load.specs.declared.program.Program.{Program}
 use Rattle.mob_shell.{specs.Inputs.{Input}, specs.Program.{IsProgram, ProgramWrites}, specs.Runs.{RunState, RunsStatement, begin}, specs.SameAnswers.{DifferInWorkers}}
 use Rattle.mob_meaning.specs.declared.terms.Terms.{Terms}
+use Rattle.mob_shell.specs.Terms.{terms_of}
 
 -- ---- without places
 

@@ -12,6 +12,7 @@ use Rattle.mob_tail.{specs.Answers.{IsAnswerOnKept}, specs.AnswerTexts.{answer_n
 use Rattle.mob_arguments.specs.declared.options.Settings.{Settings}
 use Rattle.mob_shell.{specs.Deletes.{IsDeleted, deleted_table}, specs.Inputs.{Input}, specs.Program.{WritesFirst}, specs.ReadAsStored.{IsLiveTuple}, specs.Runs.{StatementWrites}}
 use Rattle.mob_meaning.specs.declared.terms.Terms.{Terms}
+use Rattle.mob_shell.specs.Terms.{terms_of}
 
 -- A query keeps exactly the tuples of its tables for which WHERE is true, each once, in order:
 -- `AreThoseThatMeet` of mob_join says it tuple by tuple, and entry by entry.

@@ -16,8 +16,12 @@ use Rattle.mob_shell.specs.SameAnswers.{DifferInWorkers, IndexesAnswerTheSame, I
 use Rattle.mob_shell.specs.StepOutcomes.{OneAnswer}
 use Rattle.mob_statements.specs.Statements.{Ran}
 use Rattle.mob_meaning.specs.declared.terms.Terms.{Terms}
+use Rattle.mob_shell.specs.Terms.{mode_of, terms_of}
 
 -- ---- workers
+
+pub same_terms : (one other : Settings) → DifferInWorkers one other → terms_of one ≡ terms_of other
+same_terms one other differ = λ i. record { epoch = differ.epoch i; mode = mode_of (differ.wide i) }
 
 pub read_the_same : WorkersReadTheSame
 read_the_same one other differ s input h = record {
@@ -38,7 +42,7 @@ module _ (one other : Settings) (differ : DifferInWorkers one other) (input : In
     program = h.program;
     is = other_program h.out h.program h.is;
     stands = h.stands;
-    ran = subst (λ (d : ℤ). Ran (RunsStatement d) (begin h.program) h.out.statements h.stands text) differ.epoch h.ran;
+    ran = subst (λ (d : Terms). Ran (RunsStatement d) (begin h.program) h.out.statements h.stands text) (same_terms one other differ) h.ran;
   }
 
   other_stop : (text : List ℕ) (number : ℕ) (f : TupleFault) → StopsWith one input text number f → StopsWith other input text number f
@@ -49,10 +53,10 @@ module _ (one other : Settings) (differ : DifferInWorkers one other) (input : In
     before = h.before;
     counts = h.counts;
     stands = h.stands;
-    ran = subst (λ (d : ℤ). Ran (RunsStatement d) (begin h.program) (take h.before h.out.statements) h.stands text) differ.epoch h.ran;
+    ran = subst (λ (d : Terms). Ran (RunsStatement d) (begin h.program) (take h.before h.out.statements) h.stands text) (same_terms one other differ) h.ran;
     statement = h.statement;
     there = h.there;
-    stops = subst (λ (d : ℤ). Stops d h.stands h.statement f) differ.epoch h.stops;
+    stops = subst (λ (d : Terms). Stops d h.stands h.statement f) (same_terms one other differ) h.stops;
   }
 
   other_due : (ending : Ending) → IsDue one input ending → IsDue other input ending
@@ -87,8 +91,8 @@ keep_the_same select one other terms kept others differ h k =
     those_once (conditions select) (IsMetAt select one terms) (live_rows one) select.from kept others h.1 here
 
 pub delete_the_same : IndexesKeepTheSame → IndexesDeleteTheSame
-delete_the_same keeps select one other day left others differ h k =
-    let kept : h.0 ≡ k.0 = keeps select one other day h.0 k.0 differ h.1 k.1 in
+delete_the_same keeps select one other terms left others differ h k =
+    let kept : h.0 ≡ k.0 = keeps select one other terms h.0 k.0 differ h.1 k.1 in
     let heads : (with_deleted (deleted_table select) (first_rows h.0) one).heads ≡ (with_deleted (deleted_table select) (first_rows k.0) other).heads =
     ap (λ (heads : List TableHead). with_changed (deleted_table select) (without_rows (first_rows h.0)) heads) differ.heads
     ∙ ap (λ (rows : List (List ℕ)). with_changed (deleted_table select) (without_rows (first_rows rows)) other.heads) kept in

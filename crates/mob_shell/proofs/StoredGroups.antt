@@ -13,6 +13,7 @@ use Rattle.mob_tail.specs.GroupLaws.{GroupsAreOfValues, IsKeyOn}
 use Rattle.mob_shell.{specs.ReadAsStored.{IsLiveTuple}, specs.StoredGroups.{QueriesGroupByValues, TypedQueriesGroupByValues}, specs.StoredTypes.{QueriesAreTyped}, proofs.ReadAsStored.{value_of_place}}
 use Rattle.mob_operators.specs.declared.operator.Op.TheVariants as op
 use Rattle.mob_meaning.specs.declared.terms.Terms.{Terms}
+use Rattle.mob_shell.specs.Terms.{terms_of}
 
 null_as : (ty : SqlType) → IsReadAs ty Null
 null_as ty = record { own = record { form = refl; whole = tt }; fits = tt }

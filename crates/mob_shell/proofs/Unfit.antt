@@ -13,6 +13,7 @@ use Rattle.mob_arguments.specs.declared.options.Settings.{Settings}
 use Rattle.mob_shell.{specs.Answers.{QueryAnswers}, specs.Fits.{ArgumentOfPasses, ArgumentPasses, ColumnPasses, ConditionPasses, PartPasses, PassesAt, RowPasses, StatementPasses, TuplePasses}}
 use Rattle.mob_shell.{specs.Inputs.{Input}, specs.Program.{StopsWith}, specs.Runs.{RunState, Stops}, proofs.GroupFaults.{FailsAt, stands_behind, tuple_fails}}
 use Rattle.mob_meaning.specs.declared.terms.Terms.{Terms}
+use Rattle.mob_shell.specs.Terms.{terms_of}
 
 -- the first fault over a list comes from one of its entries
 failing_entry : {X Y F : Type 0} (R : X → Result Y F → Type 0) (xs : List X) (f : F) → IsMadeOfEach R xs (Err f) → (x : X) × StandsIn x xs × R x (Err f)

@@ -8,10 +8,12 @@ use Rattle.mob_ending.specs.declared.ending.Ending.{Ending}
 use Rattle.mob_shell.{specs.Answers.{QueryAnswers}, specs.Deletes.{IsDeleted}, specs.Ending.{IsDue}, specs.Inputs.{Input, IsInputOf, Seen}, specs.Program.{ProgramWrites}}
 use Rattle.mob_meaning.specs.declared.terms.Terms.{Terms}
 
--- settings that differ only in the number of workers: they have the same epoch and the same demo
+-- settings that differ only in the number of workers: they have the same epoch, the same demo and
+-- the same mode
 pub record DifferInWorkers (one other : Settings) : Type 0 where
   pub epoch : one.epoch ≡ other.epoch
   pub demo : one.demo ≡ other.demo
+  pub wide : one.wide ≡ other.wide
 
 -- such settings read the same input
 abbrev pub WorkersReadTheSame : Type 0

@@ -7,6 +7,7 @@ use Rattle.mob_tail.{specs.Groups.{same_group}, specs.GroupLaws.{HasSameValue}}
 use Rattle.mob_arguments.specs.declared.options.Settings.{Settings}
 use Rattle.mob_shell.{specs.Inputs.{Input}, specs.Program.{WritesFirst}, specs.ReadAsStored.{IsLiveTuple}}
 use Rattle.mob_meaning.specs.declared.terms.Terms.{Terms}
+use Rattle.mob_shell.specs.Terms.{terms_of}
 
 -- two tuples are in one group exactly if each column of GROUP BY has the same value on both, where
 -- NULL equals NULL

@@ -2,6 +2,7 @@
 ghost use Rattle.std.specs.Prelude.{◌≡◌, ◌≤◌, IfOk};
 ghost use Rattle.mob_outside.specs.EndsSeen.{stream_seen};
 ghost use Rattle.mob_shell.specs.Inputs.{demo_files};
+ghost use Rattle.mob_shell.specs.Terms.{terms_of};
 ghost use Rattle.mob_shell.specs.Parts.{DemoEnds, demo_ending};
 
 use crate::driver::judge::run_text;

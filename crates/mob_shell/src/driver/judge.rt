@@ -2,8 +2,10 @@
 ghost use Rattle.std.specs.Prelude.{◌≡◌, ◌≤◌};
 ghost use Rattle.mob_outside.specs.Told.{KeepsFiles};
 ghost use Rattle.mob_outside.specs.EndsSeen.{files_seen, stream_seen};
+ghost use Rattle.mob_shell.specs.Terms.{terms_of};
 ghost use Rattle.mob_shell.specs.Parts.{IsEndingOfRefusal, TextEnds, unloaded};
 
+use crate::driver::terms::terms_of;
 use crate::statements::{Session, run_session};
 use mob_accept::accept;
 use mob_arguments::Settings;
@@ -81,7 +83,7 @@ pub fn run_text<R: Threads + Sync, F: Files, K: Sink, G: Gate>(
         Ok(program) => program,
         Err(end) => return unloaded(end),
     };
-    let mut session = Session::new(alloc, program, settings.epoch);
+    let mut session = Session::new(alloc, program, terms_of(&settings));
     let statements = typed.statements.as_slice();
     let workers = settings.workers as usize;
     run_session(rt, alloc, &mut session, statements, out, workers, gate)
