@@ -16,7 +16,7 @@ made_mapped : {X Z Y F : Type 0} (R : X → Result Y F → Type 0) (Q : Z → Re
 made_mapped R Q f each [] ys h = h
 made_mapped R Q f each (x ∷ xs) ys h = (h.0, each x h.0 h.1, (h.2.0, h.2.1, made_mapped R Q f each xs h.2.0 h.2.2))
 
-made_carried : {X Y F : Type 0} (R Q : X → Result Y F → Type 0) → ((x : X) (y : Y) → R x (Ok y) → Q x (Ok y)) → (xs : List X) (ys : List Y) → IsMadeOfEach R xs (Ok ys) → IsMadeOfEach Q xs (Ok ys)
+pub made_carried : {X Y F : Type 0} (R Q : X → Result Y F → Type 0) → ((x : X) (y : Y) → R x (Ok y) → Q x (Ok y)) → (xs : List X) (ys : List Y) → IsMadeOfEach R xs (Ok ys) → IsMadeOfEach Q xs (Ok ys)
 made_carried R Q each [] ys h = h
 made_carried R Q each (x ∷ xs) ys h = (h.0, each x h.0 h.1, (h.2.0, h.2.1, made_carried R Q each xs h.2.0 h.2.2))
 
