@@ -1,13 +1,11 @@
 -- Where all parts fit in the narrow mode they fit in the wide one, and the values are the same.
-use Rattle.std.{specs.Prelude.{◌⊎◌, map}, proofs.Common.{◌≡◌, inl, inr, refl, Bool, true, false, ℕ, ℤ, List, [], ◌∷◌, Option, Some, None, Result, Ok, Err}}
+use Rattle.std.{specs.Prelude.{◌⊎◌}, proofs.Common.{◌≡◌, inl, inr, refl, Bool, true, false, ℕ, ℤ, List, [], ◌∷◌, Option, Some, None, Result, Ok, Err}}
 use Rattle.mob_ratio.specs.Ratio.{Ratio}
 use Rattle.mob_frac.{specs.Fits.{Fits}, specs.Formula.{AllFit}, proofs.Fits.{fits_or}}
 use Rattle.mob_ast.specs.declared.types.SqlType.{SqlType}
 use Rattle.mob_operators.specs.declared.operator.Op.{Op}
-use Rattle.mob_list.{specs.Faults.{OnCause}, specs.declared.fault.Fault.TheVariants.{Because}}
-use Rattle.mob_slice.{specs.Entries.{Entry, IsFirst}, specs.Modes.{by_mode}, specs.declared.formula.Formula.{Formula}, specs.declared.formula.Formula.TheVariants.{Given}, specs.declared.mode.Mode.{Mode}, specs.declared.mode.Mode.TheVariants.{Narrow, Wide}}
+use Rattle.mob_slice.{specs.Entries.{Entry, IsFirst}, specs.declared.formula.Formula.{Formula}, specs.declared.mode.Mode.TheVariants.{Narrow, Wide}}
 use Rattle.mob_slice.proofs.Narrowing.{given_fits}
-use Rattle.mob_stbox.specs.Boxes.{BoxOf}
 use Rattle.mob_typed.specs.Trees.{TypedTree, typed, TypedTrees, none, more, arg_types}
 use Rattle.mob_value.{specs.declared.store.Store.{Store}, specs.declared.value.Value.{Value}, specs.declared.value.Value.TheVariants.{Number, MovingPoint, Box}, specs.ValueBoxes.{OnBox}, specs.Pairs.{PlaneOperand, plane_pair}}
 use Rattle.mob_slice.specs.Sides.{pieces}
@@ -15,8 +13,8 @@ use Rattle.mob_arith.{specs.declared.sql.calculation.Calculation.{Calculation}, 
 use Rattle.mob_clip.specs.Sql.Entries.{entries_outward}
 use Rattle.mob_near.{specs.Sql.Entries.{approach_on, within_on}, specs.Wide.{least_approach}, proofs.Narrowing.{least_narrows}}
 use Rattle.mob_cells.specs.Roots.{as_list}
-use Rattle.mob_meaning.{specs.Scene.{Scene, scene}, specs.Modes.{Numbers, Expansions, given_for, named_in}, specs.Operators.{OperatorGives, IsFirstFormula, OnEntries, OnEntriesOfTwo, calculated_entries, entries_of_two, entries_of_three, quotient_entries_in}}
-use Rattle.mob_meaning.{specs.Evaluation.{PlacedFormula, TreeEvaluatesTo, OperandsEvaluateTo, stop_of, stops}, specs.Widening.{WideFaultsAreNarrow, WideKeepsValues, narrow_scene, wide_scene}, proofs.AnyMode.{gives_any}, proofs.OneEntries.{one_formula}}
+use Rattle.mob_meaning.{specs.Scene.{Scene, scene}, specs.Modes.{Expansions, given_for}, specs.Operators.{OperatorGives, IsFirstFormula, OnEntriesOfTwo, calculated_entries, entries_of_two, entries_of_three, quotient_entries_in}}
+use Rattle.mob_meaning.{specs.Evaluation.{PlacedFormula, TreeEvaluatesTo, OperandsEvaluateTo, stop_of, stops}, specs.Widening.{WideFaultsAreNarrow, WideKeepsValues, narrow_scene, wide_scene}, proofs.AnyMode.{gives_any}, proofs.Named.{none_given}, proofs.OneEntries.{one_formula}}
 use Rattle.mob_ast.specs.declared.types.SqlType.TheVariants as sql
 use Rattle.mob_operators.specs.declared.operator.Op.TheVariants as op
 
@@ -39,29 +37,6 @@ some_first (e ∷ entries) = by (parts_or e.parts) (some_first entries)
     by : AllFit e.parts ⊎ (¬ AllFit e.parts) → (f : Option Formula) × IsFirst entries f → (f : Option Formula) × IsFirst (e ∷ entries) f
     by (inl h) k = (k.0, inl (h, k.1))
     by (inr h) k = (Some e.formula, inr (h, refl))
-
--- entries whose formula is that of numbers that are given
-abbrev as_given : List Entry → List Entry
-as_given entries = map (λ e. record { formula = Given; parts = e.parts }) entries
-
-none_given : (entries : List Entry) → IsFirst entries None → IsFirst (as_given entries) None
-none_given [] h = h
-none_given (e ∷ entries) (inl h) = inl (h.0, none_given entries h.1)
-none_given (e ∷ entries) (inr h) = cc h.1
-
-some_given : (entries : List Entry) (f : Formula) → IsFirst entries (Some f) → IsFirst (as_given entries) (Some Given)
-some_given [] f h = cc h
-some_given (e ∷ entries) f (inl h) = inl (h.0, some_given entries f h.1)
-some_given (e ∷ entries) f (inr h) = inr (h.0, refl)
-
--- in each mode: all fit, or the formula that the fault names is the first
-pub none_named : (mode : Mode) (entries : List Entry) → IsFirst entries None → IsFirst (by_mode mode entries (as_given entries)) None
-none_named Narrow entries h = h
-none_named Wide entries h = none_given entries h
-
-pub first_named : (mode : Mode) (entries : List Entry) (f : Formula) → IsFirst entries (Some f) → OnCause (λ g. IsFirst (by_mode mode entries (as_given entries)) (Some g)) (named_in mode (Because f))
-first_named Narrow entries f h = h
-first_named Wide entries f h = some_given entries f h
 
 -- ---- operators: where nothing passes in the narrow mode, nothing does in the wide one
 

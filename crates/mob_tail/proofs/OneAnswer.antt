@@ -58,7 +58,7 @@ module _ (one : HasOneOutcome) where
   field_once : (s : Scene) (item : TypedTree × List ℕ) → IsOne (IsField s item)
   field_once s item (Ok a) (Ok b) h k =
       let same : h.0 ≡ k.0 = let v = one s item.0 (Ok h.0) (Ok k.0) h.1 k.1 in cc v in
-      ap Ok (h.2 ∙ ap (field_text s.terms) same ∙ sym k.2)
+      ap Ok (h.2 ∙ ap (field_text s.terms.epoch) same ∙ sym k.2)
   field_once s item (Ok a) (Err g) h k = let v = one s item.0 (Ok h.0) (Err g) h.1 k in absurd (cc v)
   field_once s item (Err f) (Ok b) h k = let v = one s item.0 (Err f) (Ok k.0) h k.1 in absurd (cc v)
   field_once s item (Err f) (Err g) h k = let v = one s item.0 (Err f) (Err g) h k in let same : f ≡ g = cc v in ap Err same

@@ -23,9 +23,12 @@ use std::alloc::Global;
 fn named(mode: Mode, fault: Fault<Formula>) -> Fault<Formula>
     ensures named { result ≡ named_in mode fault }
 {
-    match (mode, fault) {
-        (Mode::Wide, Fault::Because(_)) => Fault::Because(Formula::Given),
-        (_, fault) => fault,
+    match mode {
+        Mode::Narrow => fault,
+        Mode::Wide => match fault {
+            Fault::Because(_) => Fault::Because(Formula::Given),
+            Fault::NoMemory => Fault::NoMemory,
+        },
     }
 }
 
