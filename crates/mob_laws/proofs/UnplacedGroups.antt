@@ -13,6 +13,7 @@ use Rattle.mob_tail.specs.GroupedAnswers.{AnswerColumn, IsAddingTo, IsArgumentOf
 use Rattle.mob_tail.specs.Groups.{column_on, first_value, group_fields, groups_on, is_bare_column, same_group, same_texts}
 use Rattle.mob_laws.{specs.IndexScripts.{unplaced, unplaced_aggregate, unplaced_key, unplaced_output, unplaced_select}, proofs.Unplaced.{evaluated_bare, picked_same}}
 use Rattle.mob_meaning.specs.declared.terms.Terms.{Terms}
+use Rattle.mob_slice.specs.declared.mode.Mode.{Mode}
 
 -- ---- lists, one by one
 
@@ -74,9 +75,9 @@ no_fault : (place : ℕ) (g : Option Formula) → None ≡ option_map (at_place 
 no_fault place None h = refl
 no_fault place (Some x) h = absurd cc
 
-added_bare : (c : AnswerColumn) (vs : List Value) (v : Value) → IsAddingTo c vs v None → IsAddingTo (unplaced_column c) vs v None
-added_bare (e, None) vs v h = h
-added_bare (e, Some agg) vs v h = (h.0, h.1, no_fault agg.place h.0 h.2)
+added_bare : (mode : Mode) (c : AnswerColumn) (vs : List Value) (v : Value) → IsAddingTo mode c vs v None → IsAddingTo mode (unplaced_column c) vs v None
+added_bare mode (e, None) vs v h = h
+added_bare mode (e, Some agg) vs v h = (h.0, h.1, no_fault agg.place h.0 h.2)
 
 module _ (q : TypedSelectParts) (store : Store) (terms : Terms) where
   abbrev bare : TypedSelectParts
@@ -104,12 +105,12 @@ module _ (q : TypedSelectParts) (store : Store) (terms : Terms) where
 
   pub fault_bare : (kept : List (List ℕ)) → IsGroupedFault q store terms kept None → IsGroupedFault bare store terms kept None
   fault_bare kept h =
-      let rows : IsRowFault (IsArgumentOn bare store terms) IsAddingTo (same_group q store terms) (map unplaced_column (columns_of q)) [] kept None =
-      rows_bare (IsArgumentOn q store terms) IsAddingTo (IsArgumentOn bare store terms) IsAddingTo unplaced_column argument_bare added_bare (same_group q store terms) (columns_of q) [] kept h in
-      let columns : IsRowFault (IsArgumentOn bare store terms) IsAddingTo (same_group q store terms) (columns_of bare) [] kept None =
-      subst (λ (cs : List AnswerColumn). IsRowFault (IsArgumentOn bare store terms) IsAddingTo (same_group q store terms) cs [] kept None) (columns_same q.aggs 0 q.items) rows in
+      let rows : IsRowFault (IsArgumentOn bare store terms) (IsAddingTo terms.mode) (same_group q store terms) (map unplaced_column (columns_of q)) [] kept None =
+      rows_bare (IsArgumentOn q store terms) (IsAddingTo terms.mode) (IsArgumentOn bare store terms) (IsAddingTo terms.mode) unplaced_column argument_bare (added_bare terms.mode) (same_group q store terms) (columns_of q) [] kept h in
+      let columns : IsRowFault (IsArgumentOn bare store terms) (IsAddingTo terms.mode) (same_group q store terms) (columns_of bare) [] kept None =
+      subst (λ (cs : List AnswerColumn). IsRowFault (IsArgumentOn bare store terms) (IsAddingTo terms.mode) (same_group q store terms) cs [] kept None) (columns_same q.aggs 0 q.items) rows in
       let groups : same_group q store terms ≡ same_group bare store terms = λ i t u. same_texts (fields_same t i) (fields_same u i) in
-      subst (λ (same : List ℕ → List ℕ → Bool). IsRowFault (IsArgumentOn bare store terms) IsAddingTo same (columns_of bare) [] kept None) groups columns
+      subst (λ (same : List ℕ → List ℕ → Bool). IsRowFault (IsArgumentOn bare store terms) (IsAddingTo terms.mode) same (columns_of bare) [] kept None) groups columns
 
   -- ---- rows of groups
 

@@ -68,19 +68,25 @@ module _ (q : TypedSelectParts) (c : Catalogue) (epoch : ℤ) where
 
 -- ---- no fault of adding
 
-module _ {T I V F : Type 0} (E K : T → I → Result V F → Type 0) (A : I → List V → V → Option F → Type 0) (evaluated : (t : T) (i : I) (v : V) → E t i (Ok v) → K t i (Ok v)) where
-  item_wide : (group : List T) (t : T) (i : I) → IsItem E A group t i None → IsItem K A group t i None
-  item_wide group t i h = (h.0, evaluated t i h.0 h.1, (h.2.0, zip_carried (λ u v. E u i (Ok v)) (λ u v. K u i (Ok v)) (λ u v. evaluated u i v) group h.2.0 h.2.1, h.2.2))
+module _ {T I V F : Type 0} (E : T → I → Result V F → Type 0) (A : I → List V → V → Option F → Type 0) (K : T → I → Result V F → Type 0) (B : I → List V → V → Option F → Type 0)
+    (evaluated : (t : T) (i : I) (v : V) → E t i (Ok v) → K t i (Ok v)) (added : (i : I) (vs : List V) (v : V) → A i vs v None → B i vs v None) where
+  item_wide : (group : List T) (t : T) (i : I) → IsItem E A group t i None → IsItem K B group t i None
+  item_wide group t i h = (h.0, evaluated t i h.0 h.1, (h.2.0, zip_carried (λ u v. E u i (Ok v)) (λ u v. K u i (Ok v)) (λ u v. evaluated u i v) group h.2.0 h.2.1, added i h.2.0 h.0 h.2.2))
 
-  items_wide : (group : List T) (t : T) (items : List I) → IsTuple E A group t items None → IsTuple K A group t items None
+  items_wide : (group : List T) (t : T) (items : List I) → IsTuple E A group t items None → IsTuple K B group t items None
   items_wide group t [] h = h
   items_wide group t (i ∷ items) (inl h) = let none = h.2 in absurd cc
   items_wide group t (i ∷ items) (inr h) = inr (item_wide group t i h.0, items_wide group t items h.1)
 
-  rows_wide : (same : T → T → Bool) (items : List I) (before ts : List T) → IsRowFault E A same items before ts None → IsRowFault K A same items before ts None
+  rows_wide : (same : T → T → Bool) (items : List I) (before ts : List T) → IsRowFault E A same items before ts None → IsRowFault K B same items before ts None
   rows_wide same items before [] h = h
   rows_wide same items before (t ∷ ts) (inl h) = let none = h.2 in absurd cc
   rows_wide same items before (t ∷ ts) (inr h) = inr (items_wide (earlier same before t) t items h.0, rows_wide same items (before ++ t ∷ []) ts h.1)
+
+-- aggregates are decided as in the narrow mode
+added_wide : (c : AnswerColumn) (vs : List Value) (v : Value) → IsAddingTo Narrow c vs v None → IsAddingTo Wide c vs v None
+added_wide (e, None) vs v h = h
+added_wide (e, Some agg) vs v h = h
 
 -- ---- the answer
 
@@ -132,10 +138,10 @@ module _ (q : TypedSelectParts) (store : Store) (epoch : ℤ) where
 
   fault_wide : (kept : List (List ℕ)) → IsGroupedFault q store narrow kept None → IsGroupedFault q store wide kept None
   fault_wide kept h =
-      let rows : IsRowFault (IsArgumentOn q store wide) IsAddingTo (same_group q store narrow) (columns_of q) [] kept None =
-      rows_wide (IsArgumentOn q store narrow) (IsArgumentOn q store wide) IsAddingTo argument_wide (same_group q store narrow) (columns_of q) [] kept h in
+      let rows : IsRowFault (IsArgumentOn q store wide) (IsAddingTo Wide) (same_group q store narrow) (columns_of q) [] kept None =
+      rows_wide (IsArgumentOn q store narrow) (IsAddingTo Narrow) (IsArgumentOn q store wide) (IsAddingTo Wide) argument_wide added_wide (same_group q store narrow) (columns_of q) [] kept h in
       let groups : same_group q store narrow ≡ same_group q store wide = λ i t u. same_texts (fields_same t i) (fields_same u i) in
-      subst (λ (same : List ℕ → List ℕ → Bool). IsRowFault (IsArgumentOn q store wide) IsAddingTo same (columns_of q) [] kept None) groups rows
+      subst (λ (same : List ℕ → List ℕ → Bool). IsRowFault (IsArgumentOn q store wide) (IsAddingTo Wide) same (columns_of q) [] kept None) groups rows
 
   first_same : (group : List (List ℕ)) (e : TypedTree) → first_value q store narrow group e ≡ first_value q store wide group e
   first_same [] e = refl

@@ -10,9 +10,9 @@ narrowed terms = record terms { mode = Narrow }
 
 -- The families of operators that have entries.
 pub data Family : Type 0 where
-  -- `+`, `-`, `*` and `/` on plain numbers, and sums of them
+  -- `+`, `-`, `*` and `/` on plain numbers
   Numbers : Family
-  -- the same over time, and sums over time
+  -- the same over time
   NumbersOverTime : Family
   -- signs with `#`
   Signs : Family
@@ -34,6 +34,8 @@ pub data Family : Type 0 where
   Intersections : Family
   -- eDwithin and nearestApproachSquared
   Nearness : Family
+  -- the aggregates that count and add
+  Sums : Family
 
 -- The mode of a family. Those that are named are decided as in the narrow mode also in the wide
 -- one: their steps are computed in 62 bits alone.
@@ -47,6 +49,7 @@ mode_for LookUps mode = Narrow
 mode_for BoxRestrictions mode = Narrow
 mode_for PolygonRestrictions mode = Narrow
 mode_for Intersections mode = Narrow
+mode_for Sums mode = Narrow
 mode_for _ mode = mode
 
 -- the entries of an operator of this family: those of the narrow mode or those of the wide one

@@ -52,7 +52,7 @@ module _ (pass : FaultsPass) where
         (subst (λ (t : List ℕ). StandsIn t kept) same of.1, unfit_part f (subst (λ (t : List ℕ). IsRowOf select (scene catalogue.store select.from t terms) (Err f.1)) same of.2.1))
 
     -- a column of a grouped query
-    unfit_column : (kept : List (List ℕ)) (f : TupleFault) → FailsAt (IsArgumentOn select catalogue.store terms) IsAddingTo (same_group select catalogue.store terms) (columns_of select) kept f → (column : AnswerColumn) × StandsIn column (columns_of select) × ColumnPasses select catalogue terms kept f column
+    unfit_column : (kept : List (List ℕ)) (f : TupleFault) → FailsAt (IsArgumentOn select catalogue.store terms) (IsAddingTo terms.mode) (same_group select catalogue.store terms) (columns_of select) kept f → (column : AnswerColumn) × StandsIn column (columns_of select) × ColumnPasses select catalogue terms kept f column
     unfit_column kept f at = (
       at.item,
       at.stands,
@@ -64,7 +64,7 @@ module _ (pass : FaultsPass) where
 
     unfit_group : (kept : List (List ℕ)) (f : TupleFault) → IsGroupedFault select catalogue.store terms kept (Some f) → StandsIn f.0 kept × TuplePasses true select catalogue terms kept f
     unfit_group kept f h =
-        let at = tuple_fails (IsArgumentOn select catalogue.store terms) IsAddingTo (same_group select catalogue.store terms) (columns_of select) [] kept f h in
+        let at = tuple_fails (IsArgumentOn select catalogue.store terms) (IsAddingTo terms.mode) (same_group select catalogue.store terms) (columns_of select) [] kept f h in
         ((at.before, at.behind, at.in_order), unfit_column kept f at)
 
     unfit_tuple : (grouped : Bool) (kept : List (List ℕ)) (f : TupleFault) → IsAnswerBy grouped select catalogue.store terms kept (Err f) → StandsIn f.0 kept × TuplePasses grouped select catalogue terms kept f

@@ -58,12 +58,12 @@ module _ (select : TypedSelectParts) (store : Store) (terms : Terms) where
   There t = scene store select.from t terms
 
   group_ok : (group : List (List ℕ)) (t : List ℕ) (old new : Group) → length group + 1 < 2 ^ 62 → IsGroupOf select store terms group old → ((ts : List (List ℕ)) → old.first ≡ first_of ts → new.first ≡ first_of (ts ++ t ∷ [])) → AllZip (IsMemoWith (There t) (is_none old.first)) old.cells.items new.cells.items
-      → IsGroupOf select store terms (group ++ t ∷ []) new × IsTuple (IsArgumentOn select store terms) IsAddingTo group t (columns_of select) None
+      → IsGroupOf select store terms (group ++ t ∷ []) new × IsTuple (IsArgumentOn select store terms) (IsAddingTo terms.mode) group t (columns_of select) None
   group_ok group t old new few h first with_ =
       let both = cells_ok select store terms group t (columns_of select) old.cells.items new.cells.items (is_none old.first) (ap is_none h.first) few with_ h.cells in
       (record { first = first group h.first; cells = both.0 }, both.1)
 
-  group_err : (group : List (List ℕ)) (t : List ℕ) (old : Group) (f : PlacedFormula) → length group + 1 < 2 ^ 62 → IsGroupOf select store terms group old → FailsInMemos (There t) (is_none old.first) old.cells.items f → IsTuple (IsArgumentOn select store terms) IsAddingTo group t (columns_of select) (Some f)
+  group_err : (group : List (List ℕ)) (t : List ℕ) (old : Group) (f : PlacedFormula) → length group + 1 < 2 ^ 62 → IsGroupOf select store terms group old → FailsInMemos (There t) (is_none old.first) old.cells.items f → IsTuple (IsArgumentOn select store terms) (IsAddingTo terms.mode) group t (columns_of select) (Some f)
   group_err group t old f few h fails = cells_err select store terms group t (columns_of select) old.cells.items (is_none old.first) f (ap is_none h.first) few fails h.cells
 
   -- a group has at most as many tuples as there are
@@ -120,7 +120,7 @@ module _ (select : TypedSelectParts) (store : Store) (terms : Terms) where
           held = subst (λ z. AreGroupsOf select store terms (keys_on select store terms kept) z (set all (number_on select store terms kept t) new)) (sym more)
               (group_step select store terms (IsGroupOf select store terms) (keys_on select store terms kept) all (take i kept) t old new (keys_apart kept) (key_there kept i t lt is) so_far.held at (λ k h e. (group_ok (With select store terms k (take i kept)) t old new (few_before kept i k lt few) h first with_).0));
           fits = subst (λ z. IsGroupedFault select store terms z None) (sym more)
-              (none_more (IsArgumentOn select store terms) IsAddingTo (same_group select store terms) (columns_of select) [] (take i kept) t so_far.fits (subst (λ z. IsTuple (IsArgumentOn select store terms) IsAddingTo z t (columns_of select) None) (with_earlier select store terms mine.0 (take i kept) t mine.1) tuple));
+              (none_more (IsArgumentOn select store terms) (IsAddingTo terms.mode) (same_group select store terms) (columns_of select) [] (take i kept) t so_far.fits (subst (λ z. IsTuple (IsArgumentOn select store terms) (IsAddingTo terms.mode) z t (columns_of select) None) (with_earlier select store terms mine.0 (take i kept) t mine.1) tuple));
         }
 
     pub fault_grouped : (f : PlacedFormula) → FailsInMemos (There t) (is_none old.first) old.cells.items f → IsGroupedFault select store terms kept (Some (t, f))
@@ -129,7 +129,7 @@ module _ (select : TypedSelectParts) (store : Store) (terms : Terms) where
         let tuple = group_err (With select store terms mine.0 (take i kept)) t old f (few_before kept i mine.0 lt few) mine.2 fails in
         let whole : kept ≡ take i kept ++ t ∷ drop (i + 1) kept = sym (take-append-drop i kept) ∙ ap (λ z. take i kept ++ z) (drop_read kept i t lt is) in
         subst (λ z. IsGroupedFault select store terms z (Some (t, f))) (sym whole)
-        (fault_at (IsArgumentOn select store terms) IsAddingTo (same_group select store terms) (columns_of select) [] (take i kept) t (drop (i + 1) kept) f so_far.fits (subst (λ z. IsTuple (IsArgumentOn select store terms) IsAddingTo z t (columns_of select) (Some f)) (with_earlier select store terms mine.0 (take i kept) t mine.1) tuple))
+        (fault_at (IsArgumentOn select store terms) (IsAddingTo terms.mode) (same_group select store terms) (columns_of select) [] (take i kept) t (drop (i + 1) kept) f so_far.fits (subst (λ z. IsTuple (IsArgumentOn select store terms) (IsAddingTo terms.mode) z t (columns_of select) (Some f)) (with_earlier select store terms mine.0 (take i kept) t mine.1) tuple))
 
   -- the groups of all tuples
   pub grouped_all : (kept : List (List ℕ)) (groups : List Group) → AreGroupsOf select store terms (keys_on select store terms kept) kept groups → AllZip (IsGroupOf select store terms) (groups_on select store terms kept) groups

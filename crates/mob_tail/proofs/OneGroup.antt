@@ -18,6 +18,7 @@ use Rattle.mob_tail.{specs.Aggregated.{IsOverTime, IsAggregated, leaves_out, add
 use Rattle.mob_tail.specs.GroupedAnswers.{AnswerColumn, columns_of, IsArgumentOf, IsArgument, IsArgumentOn, IsAddingTo, IsColumnValue, keys_from, IsGroupRow, IsGroupedFault}
 use Rattle.mob_ast.specs.declared.types.SqlType.TheVariants as sql
 use Rattle.mob_meaning.specs.declared.terms.Terms.{Terms}
+use Rattle.mob_slice.specs.declared.mode.Mode.{Mode}
 
 over_once : {C B Z : Type 0} (course : CourseOf C Z) (one : OneList course) (make : List (Slice C) → Value) (f : List B → Z) (there : Value → Ratio → Option B) (vs : List Value) (v w : Value) → IsOverTime course make f there vs v → IsOverTime course make f there vs w → v ≡ w
 over_once course one make f there vs v w h k =
@@ -56,9 +57,9 @@ passes_once false kind ty vs v f g h k =
     let a = aggregated_once kind ty (v ∷ []) h.2.0 k.2.0 h.2.1 k.2.1 in
     one_first (adding_entries kind ty k.0 k.2.0) f g (subst (λ z. IsFirst (adding_entries kind ty z k.2.0) f) r (subst (λ z. IsFirst (adding_entries kind ty h.0 z) f) a h.2.2)) k.2.2
 
-adding_once : (c : AnswerColumn) (vs : List Value) (v : Value) (f g : Option PlacedFormula) → IsAddingTo c vs v f → IsAddingTo c vs v g → f ≡ g
-adding_once (e, None) vs v f g h k = h ∙ sym k
-adding_once (e, Some agg) vs v f g h k = h.2 ∙ ap (option_map (λ formula. (agg.place, formula))) (passes_once (leaves_out agg.kind v) agg.kind agg.ty vs v h.0 k.0 h.1 k.1) ∙ sym k.2
+adding_once : (mode : Mode) (c : AnswerColumn) (vs : List Value) (v : Value) (f g : Option PlacedFormula) → IsAddingTo mode c vs v f → IsAddingTo mode c vs v g → f ≡ g
+adding_once mode (e, None) vs v f g h k = h ∙ sym k
+adding_once mode (e, Some agg) vs v f g h k = h.2 ∙ ap (option_map (λ formula. (agg.place, formula))) (passes_once (leaves_out agg.kind v) agg.kind agg.ty vs v h.0 k.0 h.1 k.1) ∙ sym k.2
 
 module _ (one : HasOneOutcome) where
   argument_of_once : (kind : AggKind) (s : Scene) (e : TypedTree) → IsOne (IsArgumentOf kind s e)
@@ -76,7 +77,7 @@ module _ (one : HasOneOutcome) where
 
   module _ (select : TypedSelectParts) (store : Store) (terms : Terms) where
     pub fault_once : (kept : List (List ℕ)) (f g : Option TupleFault) → IsGroupedFault select store terms kept f → IsGroupedFault select store terms kept g → f ≡ g
-    fault_once kept f g h k = one_row_fault (IsArgumentOn select store terms) IsAddingTo (λ t c r q h k. argument_once (scene store select.from t terms) c r q h k) adding_once (same_group select store terms) (columns_of select) [] kept f g h k
+    fault_once kept f g h k = one_row_fault (IsArgumentOn select store terms) (IsAddingTo terms.mode) (λ t c r q h k. argument_once (scene store select.from t terms) c r q h k) (adding_once terms.mode) (same_group select store terms) (columns_of select) [] kept f g h k
 
     arguments_once : (c : AnswerColumn) (ts : List (List ℕ)) (vs ws : List Value) → AllZip (λ t w. IsArgumentOn select store terms t c (Ok w)) ts vs → AllZip (λ t w. IsArgumentOn select store terms t c (Ok w)) ts ws → vs ≡ ws
     arguments_once c [] [] [] h k = refl

@@ -41,13 +41,13 @@ module _ (select : TypedSelectParts) (store : Store) (terms : Terms) where
   nulls [] = []
   nulls (t ∷ ts) = Null ∷ nulls ts
 
-  no_arguments : (group : List (List ℕ)) (c : AnswerColumn) → c.1 ≡ None → AreValues (IsArgumentOn select store terms) IsAddingTo group c (nulls group)
+  no_arguments : (group : List (List ℕ)) (c : AnswerColumn) → c.1 ≡ None → AreValues (IsArgumentOn select store terms) (IsAddingTo terms.mode) group c (nulls group)
   no_arguments [] (e, None) n = tt
   no_arguments (t ∷ group) (e, None) n = (refl, no_arguments group (e, None) n)
   no_arguments group (e, Some agg) n = absurd cc
 
   column_ok : (group : List (List ℕ)) (t : List ℕ) (c : AnswerColumn) (before x : State) (first : Bool) → first ≡ is_none (first_of group) → length group + 1 < 2 ^ 62 → IsColumnWith (scene store select.from t terms) c before first (Ok x) → IsStateOf select store terms group c before
-      → IsStateOf select store terms (group ++ t ∷ []) c x × IsItem (IsArgumentOn select store terms) IsAddingTo group t c None
+      → IsStateOf select store terms (group ++ t ∷ []) c x × IsItem (IsArgumentOn select store terms) (IsAddingTo terms.mode) group t c None
   column_ok [] t (e, None) before x true i few h k = ((column_on (scene store select.from t terms) e, h, refl), (Null, refl, ([], tt, refl)))
   column_ok [] t (e, None) before x false i few h k = absurd cc
   column_ok (u ∷ group) t (e, None) before x true i few h k = absurd cc
@@ -58,13 +58,13 @@ module _ (select : TypedSelectParts) (store : Store) (terms : Terms) where
       let both = h.2 k.0 k.1 vs k.2.2 (omega (arith, few, long)) in
       ((both.0, both.1, (vs ++ h.0 ∷ [], zip_more _ group vs t h.0 k.2.1 h.1, both.2)), (h.0, h.1, (vs, k.2.1, (None, both.3, refl))))
 
-  column_err : (group : List (List ℕ)) (t : List ℕ) (c : AnswerColumn) (before : State) (first : Bool) (f : PlacedFormula) → IsColumnWith (scene store select.from t terms) c before first (Err f) → IsStateOf select store terms group c before → IsItem (IsArgumentOn select store terms) IsAddingTo group t c (Some f)
+  column_err : (group : List (List ℕ)) (t : List ℕ) (c : AnswerColumn) (before : State) (first : Bool) (f : PlacedFormula) → IsColumnWith (scene store select.from t terms) c before first (Err f) → IsStateOf select store terms group c before → IsItem (IsArgumentOn select store terms) (IsAddingTo terms.mode) group t c (Some f)
   column_err group t (e, None) before first f h k = absurd h
   column_err group t (e, Some agg) before first f (inl h) k = inl h
   column_err group t (e, Some agg) before first f (inr h) k = inr (h.0, h.1, (k.2.0, k.2.1, (Some f.1, h.3 k.0 k.1 k.2.0 k.2.2, ap (λ p. Some (p, f.1)) h.2)))
 
   pub cells_ok : (group : List (List ℕ)) (t : List ℕ) (columns : List AnswerColumn) (old new : List GroupMemo) (first : Bool) → first ≡ is_none (first_of group) → length group + 1 < 2 ^ 62 → AllZip (IsMemoWith (scene store select.from t terms) first) old new → AllZip (IsGroupMemoOf select store terms group) columns old
-      → AllZip (IsGroupMemoOf select store terms (group ++ t ∷ [])) columns new × IsTuple (IsArgumentOn select store terms) IsAddingTo group t columns None
+      → AllZip (IsGroupMemoOf select store terms (group ++ t ∷ [])) columns new × IsTuple (IsArgumentOn select store terms) (IsAddingTo terms.mode) group t columns None
   cells_ok group t [] [] [] first i few h k = (tt, refl)
   cells_ok group t [] [] (d ∷ new) first i few h k = absurd h
   cells_ok group t [] (c ∷ old) new first i few h k = absurd k
@@ -75,7 +75,7 @@ module _ (select : TypedSelectParts) (store : Store) (terms : Terms) where
       let rest = cells_ok group t columns old new first i few h.1 k.1 in
       (((h.0.column ∙ k.0.0, here.0), rest.0), inr (here.1, rest.1))
 
-  pub cells_err : (group : List (List ℕ)) (t : List ℕ) (columns : List AnswerColumn) (old : List GroupMemo) (first : Bool) (f : PlacedFormula) → first ≡ is_none (first_of group) → length group + 1 < 2 ^ 62 → FailsInMemos (scene store select.from t terms) first old f → AllZip (IsGroupMemoOf select store terms group) columns old → IsTuple (IsArgumentOn select store terms) IsAddingTo group t columns (Some f)
+  pub cells_err : (group : List (List ℕ)) (t : List ℕ) (columns : List AnswerColumn) (old : List GroupMemo) (first : Bool) (f : PlacedFormula) → first ≡ is_none (first_of group) → length group + 1 < 2 ^ 62 → FailsInMemos (scene store select.from t terms) first old f → AllZip (IsGroupMemoOf select store terms group) columns old → IsTuple (IsArgumentOn select store terms) (IsAddingTo terms.mode) group t columns (Some f)
   cells_err group t [] [] first f i few h k = absurd h
   cells_err group t [] (c ∷ old) first f i few h k = absurd k
   cells_err group t (column ∷ columns) [] first f i few h k = absurd k

@@ -1,15 +1,15 @@
 -- The answer of a grouped query.
 use Rattle.std.{specs.Prelude.{◌≡◌, ◌+◌, ℕ, List, [], ◌∷◌, Bool, Option, Some, None, Result, Ok, Err, map, option_map, option_and_then, slice_get}, specs.List.{AllZip}}
 use Rattle.mob_operators.{specs.declared.aggregate.AggKind.{AggKind}, specs.declared.aggregate.AggKind.TheVariants.{CountAll}}
-use Rattle.mob_slice.specs.declared.formula.Formula.{Formula}
+use Rattle.mob_slice.{specs.declared.formula.Formula.{Formula}, specs.declared.mode.Mode.{Mode}}
 use Rattle.mob_typed.{specs.declared.typed.Agg.{Agg}, specs.Trees.{TypedTree}, specs.Selects.{Output, TypedSelectParts}}
 use Rattle.mob_value.{specs.declared.value.Value.{Value}, specs.declared.value.Value.TheVariants.{Null}, specs.declared.store.Store.{Store}, specs.Null.{value_or_null}}
 use Rattle.mob_literal.specs.Fields.{field_text}
-use Rattle.mob_meaning.{specs.Scene.{Scene, scene}, specs.Evaluation.{PlacedFormula, TreeEvaluatesTo}}
+use Rattle.mob_meaning.{specs.Scene.{Scene, scene}, specs.Modes.{Sums, mode_for}, specs.Evaluation.{PlacedFormula, TreeEvaluatesTo}}
 use Rattle.mob_eval.specs.QueryFaults.{TupleFault}
 use Rattle.mob_tagg.specs.Rows.{IsRowFault, Adds}
 use Rattle.mob_arrange.{specs.Keyed.{Keyed}, specs.Rows.{AreArranged}}
-use Rattle.mob_tail.{specs.Aggregated.{IsAggregated, IsAdding}, specs.Groups.{same_group, groups_on, first_value}}
+use Rattle.mob_tail.{specs.Aggregated.{IsAggregated, IsAddingIn}, specs.Groups.{same_group, groups_on, first_value}}
 use Rattle.mob_meaning.specs.declared.terms.Terms.{Terms}
 
 -- a column of the answer: its expression, and the aggregate over it, if it is one
@@ -40,9 +40,9 @@ IsArgument s (e, Some agg) r = IsArgumentOf agg.kind s e r
 
 -- the fault of adding a value to those before it in a column, at the place of the aggregate; or
 -- none
-abbrev pub IsAddingTo : AnswerColumn → List Value → Value → Option PlacedFormula → Type 0
-IsAddingTo (e, None) before v f = f ≡ None
-IsAddingTo (e, Some agg) before v f = (g : Option Formula) × IsAdding agg before v g × (f ≡ option_map (λ formula. (agg.place, formula)) g)
+abbrev pub IsAddingTo : Mode → AnswerColumn → List Value → Value → Option PlacedFormula → Type 0
+IsAddingTo mode (e, None) before v f = f ≡ None
+IsAddingTo mode (e, Some agg) before v f = (g : Option Formula) × IsAddingIn (mode_for Sums mode) agg before v g × (f ≡ option_map (λ formula. (agg.place, formula)) g)
 
 -- the argument of a column on a tuple
 abbrev pub IsArgumentOn : TypedSelectParts → Store → Terms → List ℕ → AnswerColumn → Result Value PlacedFormula → Type 0
@@ -51,12 +51,12 @@ IsArgumentOn select store terms tuple column r = IsArgument (scene store select.
 -- The first fault on the kept tuples, or none. On each tuple, column by column, the argument comes
 -- first, then adding its value to the aggregate over the earlier tuples of the group.
 abbrev pub IsGroupedFault : TypedSelectParts → Store → Terms → List (List ℕ) → Option TupleFault → Type 0
-IsGroupedFault select store terms kept f = IsRowFault (IsArgumentOn select store terms) IsAddingTo (same_group select store terms) (columns_of select) [] kept f
+IsGroupedFault select store terms kept f = IsRowFault (IsArgumentOn select store terms) (IsAddingTo terms.mode) (same_group select store terms) (columns_of select) [] kept f
 
 -- Adding the value of a column on this tuple, after these, overflows, whether or not it is the
 -- first fault.
 abbrev pub AddingFails : TypedSelectParts → Store → Terms → List (List ℕ) → List ℕ → AnswerColumn → PlacedFormula → Type 0
-AddingFails select store terms before tuple column f = Adds (IsArgumentOn select store terms) IsAddingTo (same_group select store terms) before tuple column f
+AddingFails select store terms before tuple column f = Adds (IsArgumentOn select store terms) (IsAddingTo terms.mode) (same_group select store terms) before tuple column f
 
 -- The value of a column for a group: the aggregate of its argument over the tuples of the group in
 -- order, or the value of a column of GROUP BY on the first tuple.
