@@ -7,8 +7,8 @@ use mob_eval::eval;
 use mob_frac::Frac;
 use mob_list::items::Items;
 use mob_list::text::Text;
-use mob_operators::Op;
 use mob_meaning::Terms;
+use mob_operators::Op;
 use mob_scalar::Epoch;
 use mob_slice::Mode;
 use mob_typed::TExpr;
@@ -78,10 +78,7 @@ fn is_nothing(alloc: Global, store: &Store, e: &TExpr) -> bool {
         epoch: Epoch::standard(),
         mode: Mode::Narrow,
     };
-    matches!(
-        &eval(alloc, e, store, &[0], &[1], &terms),
-        Ok(Value::Null)
-    )
+    matches!(&eval(alloc, e, store, &[0], &[1], &terms), Ok(Value::Null))
 }
 
 fn is_null(alloc: Global, store: &Store, op: Op, operands: &[u32]) -> bool {
