@@ -97,6 +97,16 @@ CASES = [
         "             ^\n"
         "F7: An expanded box does not fit. Give fewer decimal places.\n" + MORE,
     ),
+    (
+        "status 8 with --wide",
+        b"SELECT 1;\nSELECT 3 * 3;\nSELECT 2;\n",
+        "statement 2, rows -, byte 19: the value passes 62 bits\n",
+        0,
+        "script.sql:2:10\n"
+        "    SELECT 3 * 3;\n"
+        "             ^\n"
+        "value: The number that is given does not fit. Give fewer decimal places.\n" + MORE,
+    ),
     # The name is after 7 + 100 characters. Two dots and the last 58 of them are shown, which are 5
     # terms and 8 characters. Of the rest 30 are shown, and two dots.
     (

@@ -30,7 +30,8 @@ NOTES = {
     3: rb"read fault: .+\n",
     6: rb".+: record \d+, field \d+: refusal \d+ \(\w+\)\n",
     7: rb"statement \d+, byte \d+: refusal \d+ \(\w+\)\n",
-    8: rb"statement \d+, rows (-|\d+( \d+)*), byte \d+: formula F[1-7] passes 62 bits\n",
+    8: rb"statement \d+, rows (-|\d+( \d+)*), byte \d+: "
+       rb"(formula F[1-7]|the value) passes 62 bits\n",
 }
 SILENT = (2, 3, 6, 7)
 LARGE = (
@@ -119,7 +120,7 @@ def spoilt(chance, known):
     workers = ["--workers", str(chance.randint(1, 64))]
     epoch = ["--epoch", chance.choice(("2026-05-04", "0001-01-01", "2001-02-29"))]
     demo = ["--demo", chance.choice(("0", "1", "7", "1001"))]
-    return script, files, chance.choice(([], [], [], workers, epoch, demo))
+    return script, files, chance.choice(([], [], [], workers, epoch, demo, ["--wide"]))
 
 
 def run(program, script, files, words):

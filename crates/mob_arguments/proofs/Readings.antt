@@ -1,10 +1,11 @@
 -- The value of an option has one meaning.
-use Rattle.std.{specs.Prelude.{◌≢◌, Result, true, false}, proofs.Common.{arith, ◌≡◌, ◌∙◌, ◌≤◌, ap, subst, sym, true≢false, ℕ, ℤ, Option, Some, None, Ok, Err}, proofs.lemmas.Fmt.{decimal_injective}}
+use Rattle.std.{specs.Prelude.{◌≢◌, Bool, Result, true, false}, proofs.Common.{arith, ◌≡◌, ◌∙◌, ◌≤◌, ap, refl, subst, sym, true≢false, ℕ, ℤ, Option, Some, None, Ok, Err}}
+use Rattle.std.proofs.lemmas.Fmt.{decimal_injective}
 use Rattle.clap.specs.Words.{Text}
 use Rattle.mob_ratio.{specs.Ratio.{Ratio}, specs.Order.{before}, specs.Sign.{nil}}
 use Rattle.mob_numeral.{specs.Numbers.{numbers}, specs.Verdict.{Lit}, specs.declared.fault.ReadText.{ReadText}, specs.declared.fault.ReadText.TheVariants.{NoMemory}}
 use Rattle.mob_scalar.proofs.OneReadings.{one_epoch, one_number}
-use Rattle.mob_arguments.specs.Arguments.{IsCount, IsDistance, IsEpoch, IsOptional, IsRequired, IsWorkers}
+use Rattle.mob_arguments.specs.Arguments.{IsCount, IsDistance, IsEpoch, IsFlag, IsOptional, IsRequired, IsWorkers}
 
 -- ---- required options, and optional ones
 
@@ -17,7 +18,12 @@ module _ {A : Type 0} (Says : Text → A → Type 0) (one : (text : Text) (a b :
   one_optional None a b h k = h ∙ sym k
   one_optional (Some text) a b h k = h.1 ∙ ap Some (one text h.0 k.0 h.2 k.2) ∙ sym k.1
 
--- ---- counts and days
+-- ---- flags, counts and days
+
+pub one_flag : (value : Option Text) (a b : Bool) → IsFlag value a → IsFlag value b → a ≡ b
+one_flag value true b h k = sym (k.0 (h.1 refl))
+one_flag value a true h k = h.0 (k.1 refl)
+one_flag value false false h k = refl
 
 pub one_count : (most : ℕ) (text : Text) (m n : ℕ) → most ≤ 1000 → IsCount most text m → IsCount most text n → m ≡ n
 one_count most text m n few h k =

@@ -1,7 +1,7 @@
--- Arguments of the programs, whose options each take one value: which arguments a command takes,
--- and what values mean.
-use Rattle.std.specs.Prelude.{◌≡◌, ◌≤◌, ℕ, ℤ, List, [], Option, Some, None, Ok, decimal, map, true}
-use Rattle.clap.specs.Words.{App, Rule, Text, fault_of, first_of, matches_of, new_app, new_rule}
+-- Arguments of the programs, whose options each take one value or none: which arguments a command
+-- takes, and what values mean.
+use Rattle.std.specs.Prelude.{◌≡◌, ◌≤◌, ◌++◌, ◌↔◌, ℕ, ℤ, Bool, List, [], Option, Some, None, Ok, codes, decimal, map, true}
+use Rattle.clap.{specs.Words.{App, Rule, Text, fault_of, first_of, matches_of, new_app, new_rule}, specs.declared.builder.action.ArgAction.TheVariants.{SetTrue}}
 use Rattle.mob_ratio.{specs.Ratio.{Ratio}, specs.Order.{up_to}, specs.Sign.{nil}}
 use Rattle.mob_numeral.{specs.Numbers.{numbers}, specs.Verdict.{Lit}}
 use Rattle.mob_scalar.{specs.Calendar.{standard_day}, specs.Epochs.{epochs}}
@@ -12,19 +12,25 @@ use Rattle.mob_scalar.{specs.Calendar.{standard_day}, specs.Epochs.{epochs}}
 abbrev pub option : Text → Rule
 option name = record (new_rule name) { long = Some name }
 
+-- the flag `--NAME`: an option without a value
+abbrev pub flag : Text → Rule
+flag name = record (option name) { action = Some SetTrue }
+
 -- the command without the two options that `clap` adds itself
 abbrev pub without_flags : App → App
 without_flags a = record a { top = record a.top { disable_help_flag = true; disable_version_flag = true } }
 
--- the command of this name with these options and no others; each takes one value
-unfoldable pub command_of : Text → List Text → App
-command_of name options = let bare = without_flags (new_app name) in record bare { top = record bare.top { rules = map option options } }
+-- the command of this name with these options, which take one value each, these flags, and no
+-- others
+unfoldable pub command_of : Text → List Text → List Text → App
+command_of name options flags = let bare = without_flags (new_app name) in record bare { top = record bare.top { rules = map option options ++ map flag flags } }
 
 -- the command takes these arguments, the program's name first
 unfoldable pub Takes : App → List Text → Type 0
 Takes command words = fault_of command words ≡ []
 
--- the value that the arguments give to an option of the command
+-- the value that the arguments give to an option of the command; a flag has the value `true` if it
+-- is given, else `false`
 unfoldable pub option_value : App → Text → List Text → Option Text
 option_value command name words = first_of name (matches_of command words)
 
@@ -41,6 +47,10 @@ module _ {A : Type 0} where
   abbrev pub IsOptional : (Text → A → Type 0) → Option Text → Option A → Type 0
   IsOptional Says None o = o ≡ None
   IsOptional Says (Some text) o = (said : A) × (o ≡ Some said) × Says text said
+
+-- whether a flag is given
+abbrev pub IsFlag : Option Text → Bool → Type 0
+IsFlag value given = (value ≡ Some (codes "true")) ↔ (given ≡ true)
 
 -- a whole number from 1 to the greatest allowed, in decimal digits, without a sign or a leading
 -- zero

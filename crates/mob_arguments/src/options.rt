@@ -12,4 +12,7 @@ pub struct Settings {
     /// How many ships the demo has, from 1 to 1000; `None` for a run over the script and the files
     /// that are handed in.
     pub demo: Option<u32>,
+    /// Whether the numbers between an operator's operands and its result have any size; by default
+    /// they fit into 62 bits.
+    pub wide: bool,
 }

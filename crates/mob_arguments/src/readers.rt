@@ -1,7 +1,7 @@
 //! The values of options.
 ghost use Rattle.std.specs.Prelude.{ℕ, ℤ, IfSome, IsNone, option_map};
 ghost use Rattle.mob_ratio.specs.Ratio.{Ratio};
-ghost use Rattle.mob_arguments.specs.Arguments.{IsCount, IsDistance, IsEpoch, IsRequired, IsWorkers};
+ghost use Rattle.mob_arguments.specs.Arguments.{IsCount, IsDistance, IsEpoch, IsFlag, IsRequired, IsWorkers};
 
 use itoa::Buffer;
 use mob_frac::Frac;
@@ -45,6 +45,16 @@ pub fn workers_of(value: Option<&str>) -> Option<u32>
     match value {
         None => Some(1),
         Some(text) => count_in(text, MOST_WORKERS),
+    }
+}
+
+/// Whether a flag is given, from its value.
+pub fn flag_of(value: Option<&str>) -> bool
+    ensures flag { IsFlag (option_map (λ s. s.now) value.entry) result }
+{
+    match value {
+        None => false,
+        Some(text) => text == "true",
     }
 }
 

@@ -4,7 +4,7 @@ ghost use Rattle.mob_arguments.specs.CommandLine.{IsDemo, WordsSay};
 ghost use Rattle.mob_arguments.specs.declared.options.Settings.{Settings as SettingsSeen};
 
 use crate::options::Settings;
-use crate::readers::{count_in, epoch_of, workers_of};
+use crate::readers::{count_in, epoch_of, flag_of, workers_of};
 use crate::values::values_in;
 use std::alloc::{AllocError, Global};
 
@@ -28,11 +28,12 @@ fn demo_of(value: Option<&str>) -> Option<Option<u32>>
 
 /// The settings that the arguments give, the first of which is the program's name. `--workers N`
 /// has a whole number from 1 to 64 in decimal digits, `--epoch DATE` an existing date `YYYY-MM-DD`
-/// of the years 0001 to 9999, and `--demo N` a whole number from 1 to 1000. Each option may be
-/// omitted, and may be given once; `--workers=N` is the same as the two arguments.
+/// of the years 0001 to 9999, and `--demo N` a whole number from 1 to 1000. `--wide` has no value.
+/// Each option may be omitted, and may be given once; `--workers=N` is the same as the two
+/// arguments.
 ///
 /// `None` exactly if the arguments are not accepted: another argument, an option given twice or
-/// without its value, or an invalid value. Which arguments this command takes is specified by
+/// without its value, `--wide` with a value, or an invalid value. Which arguments this command takes is specified by
 /// `clap`. The only error is a failed allocation.
 pub fn settings(alloc: Global, words: &[String]) -> Result<Option<Settings>, AllocError>
     ensures said { IfOk result (λ o. IfSome o (WordsSay (map string_bytes words.now))) }
@@ -54,5 +55,6 @@ pub fn settings(alloc: Global, words: &[String]) -> Result<Option<Settings>, All
         workers,
         epoch,
         demo,
+        wide: flag_of(values.wide),
     }))
 }

@@ -4,3 +4,4 @@ pub mod Factors
 pub mod Arithmetic
 pub mod Lifting
 pub mod Entries
+pub mod Wide

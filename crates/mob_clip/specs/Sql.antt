@@ -2,3 +2,4 @@
 pub mod Boxes
 pub mod Polygons
 pub mod Entries
+pub mod Wide

@@ -2,3 +2,4 @@
 pub mod Signs
 pub mod TrueTimes
 pub mod Entries
+pub mod Wide

@@ -1,7 +1,7 @@
 -- The status of an ending, and the line that it leaves in the notes.
 use Rattle.std.{specs.Prelude.{◌+◌, ◌++◌, ◌∷◌, ◌==◌, ℕ, List, [], Option, Some, None, codes, decimal, map, if◌then◌else◌}, specs.List.{concat}}
 use Rattle.mob_ast.{specs.Kinds.{name_of, number_of}, specs.declared.refusal.Kind.{Kind}, specs.declared.refusal.Refusal.{Refusal}}
-use Rattle.mob_slice.{specs.declared.formula.Formula.{Formula}, specs.declared.formula.Formula.TheVariants.{F1, F2, F3, F4, F5, F6, F7}}
+use Rattle.mob_slice.{specs.declared.formula.Formula.{Formula}, specs.declared.formula.Formula.TheVariants.{F1, F2, F3, F4, F5, F6, F7, Given}}
 use Rattle.mob_tuples.specs.Tuples.{no_row}
 use Rattle.mob_ending.{specs.declared.ending.Ending.{Ending}, specs.declared.ending.Ending.TheVariants.{Done, Usage, ReadFault, WriteFault, NoMemory, TableRefused, ScriptRefused, Overflow}}
 
@@ -45,23 +45,24 @@ abbrev pub rows_text : List ℕ → List ℕ
 rows_text [] = codes "-"
 rows_text (row ∷ rows) = decimal (row_number row) ++ concat (map further_row rows)
 
--- the name of a formula
-abbrev pub formula_name : Formula → List ℕ
-formula_name F1 = codes "F1"
-formula_name F2 = codes "F2"
-formula_name F3 = codes "F3"
-formula_name F4 = codes "F4"
-formula_name F5 = codes "F5"
-formula_name F6 = codes "F6"
-formula_name F7 = codes "F7"
+-- what does not fit: a part of a formula, or a number that an operator gives
+abbrev pub what_passes : Formula → List ℕ
+what_passes F1 = codes "formula F1"
+what_passes F2 = codes "formula F2"
+what_passes F3 = codes "formula F3"
+what_passes F4 = codes "formula F4"
+what_passes F5 = codes "formula F5"
+what_passes F6 = codes "formula F6"
+what_passes F7 = codes "formula F7"
+what_passes Given = codes "the value"
 
 abbrev pub statement_text : ℕ → List ℕ
 statement_text statement = codes "statement " ++ (decimal statement ++ codes ", rows ")
 
 abbrev pub passes_text : ℕ → Formula → List ℕ
-passes_text place formula = codes ", byte " ++ (decimal place ++ (codes ": formula " ++ (formula_name formula ++ codes " passes 62 bits\n")))
+passes_text place formula = codes ", byte " ++ (decimal place ++ (codes ": " ++ (what_passes formula ++ codes " passes 62 bits\n")))
 
--- the line of a part of a formula that does not fit
+-- the line of a number that does not fit
 abbrev pub overflow_line : ℕ → List ℕ → ℕ → Formula → List ℕ
 overflow_line statement rows place formula = statement_text statement ++ (rows_text rows ++ passes_text place formula)
 
@@ -77,7 +78,7 @@ read_line (Some file) = fault_line file
 -- the line that an ending leaves in the notes
 abbrev pub note_line : Ending → List ℕ
 note_line Done = []
-note_line Usage = codes "usage: mobsql [--workers N] [--epoch DATE] [--demo N] < script.sql\n"
+note_line Usage = codes "usage: mobsql [--workers N] [--epoch DATE] [--demo N] [--wide] < script.sql\n"
 note_line (ReadFault file) = read_line file
 note_line WriteFault = codes "write fault\n"
 note_line NoMemory = codes "no memory\n"

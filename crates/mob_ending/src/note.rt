@@ -6,14 +6,15 @@ ghost use Rattle.mob_ending.specs.Lines.{fault_line, note_line, overflow_line, p
 ghost use Rattle.mob_outside.specs.Streams.{Puts, PutsPart};
 
 use crate::Ending;
-use crate::pieces::{formula_name, put_record, put_rows};
+use crate::pieces::{put_record, put_rows, what_passes};
 use itoa::Buffer;
 use mob_ast::{Kind, Refusal};
 use mob_list::text::Text;
 use mob_outside::{Failed, Sink, put_all, put_pieces};
 use mob_slice::Formula;
 
-const USAGE: &[u8] = b"usage: mobsql [--workers N] [--epoch DATE] [--demo N] < script.sql\n";
+const USAGE: &[u8] =
+    b"usage: mobsql [--workers N] [--epoch DATE] [--demo N] [--wide] < script.sql\n";
 
 // The line of a refusal of the script.
 fn put_refusal<E: Sink>(notes: &mut E, refusal: Refusal) -> Result<(), Failed>
@@ -65,7 +66,7 @@ fn put_statement<E: Sink>(notes: &mut E, statement: u32) -> Result<(), Failed>
     put_pieces(notes, &pieces)
 }
 
-// The place and the formula, after the rows.
+// The place, and what does not fit, after the rows.
 fn put_passes<E: Sink>(notes: &mut E, place: u32, formula: Formula) -> Result<(), Failed>
     ensures puts { Puts (passes_text place formula) (E.held notes.old) (E.held notes.new) (E.faults notes.old) (E.faults notes.new) }
 {
@@ -73,14 +74,14 @@ fn put_passes<E: Sink>(notes: &mut E, place: u32, formula: Formula) -> Result<()
     let pieces = [
         b", byte ".as_slice(),
         number.format(place).as_bytes(),
-        b": formula ".as_slice(),
-        formula_name(formula).as_bytes(),
+        b": ".as_slice(),
+        what_passes(formula).as_bytes(),
         b" passes 62 bits\n".as_slice(),
     ];
     put_pieces(notes, &pieces)
 }
 
-// The line of a part of a formula that does not fit.
+// The line of a number that does not fit.
 fn put_overflow<E: Sink>(
     notes: &mut E,
     statement: u32,

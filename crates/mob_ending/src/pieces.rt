@@ -3,7 +3,7 @@ ghost use Rattle.std.specs.Prelude.{◌≡◌, map, OnOk, OnErr};
 ghost use Rattle.std.specs.List.{concat};
 ghost use Rattle.std.specs.Io.KnownBytes.{Appends};
 ghost use Rattle.mob_outside.specs.Faults.{HasCause};
-ghost use Rattle.mob_ending.specs.Lines.{formula_name, further_row, record_text, row_number, rows_text};
+ghost use Rattle.mob_ending.specs.Lines.{further_row, record_text, row_number, rows_text, what_passes};
 ghost use Rattle.mob_outside.specs.Streams.{Puts, PutsPart};
 
 use itoa::Buffer;
@@ -82,17 +82,18 @@ pub fn put_rows<E: Sink>(notes: &mut E, rows: &[u32]) -> Result<(), Failed>
     put_further_rows(notes, further)
 }
 
-/// The name of a formula, `F1` to `F7`.
-pub fn formula_name(formula: Formula) -> &'static str
-    ensures name { result.now ≡ formula_name formula }
+/// What does not fit into 62 bits: `formula F1` to `formula F7`, or `the value`.
+pub fn what_passes(formula: Formula) -> &'static str
+    ensures what { result.now ≡ what_passes formula }
 {
     match formula {
-        Formula::F1 => "F1",
-        Formula::F2 => "F2",
-        Formula::F3 => "F3",
-        Formula::F4 => "F4",
-        Formula::F5 => "F5",
-        Formula::F6 => "F6",
-        Formula::F7 => "F7",
+        Formula::F1 => "formula F1",
+        Formula::F2 => "formula F2",
+        Formula::F3 => "formula F3",
+        Formula::F4 => "formula F4",
+        Formula::F5 => "formula F5",
+        Formula::F6 => "formula F6",
+        Formula::F7 => "formula F7",
+        Formula::Given => "the value",
     }
 }

@@ -27,6 +27,8 @@ use Rattle.mob_shell.specs.StoredTypes.{QueriesAreTyped}
 use Rattle.mob_laws.specs.AggregateValues.{AggregateRowsHaveMeanings, ArgumentsHaveMeaning, ColumnHasMeaning, HasMeaningOn, IsNullDue, IsResult, IsThereBy, TakesValue, RunColumnsHaveMeanings}
 use Rattle.mob_laws.{specs.AggregateValues.{TypedColumnsHaveMeanings}, specs.ExpressionTypes.{HasItsType, TypedExpressionsHaveTheirTypes}, proofs.ExpressionTypes.{leaf_of_type, null_of}}
 use Rattle.mob_ast.specs.declared.types.SqlType.TheVariants as sql
+use Rattle.mob_meaning.specs.declared.terms.Terms.{Terms}
+use Rattle.mob_shell.specs.Terms.{terms_of}
 
 -- ---- lists of values
 -- what holds for each value that is not NULL holds for those that are left
@@ -332,53 +334,53 @@ module _ (Q : AnswerColumn → Type 0) (P : Output → Type 0) (R : Output → O
       (subst (λ x. Q (o.0, x)) (sym here) (means o a h.0 r.0), each_column (n + 1) items aggs (λ k. let next : n + 1 + k ≡ n + suc k = omega arith in ap (slice_get all) next ∙ at (suc k)) h.1 r.1)
 
 module _ (evaluated : EvaluatesToItsValue) (typed_expressions : TypedExpressionsHaveTheirTypes) where
-  module _ (c : Catalogue) (q : TypedSelectParts) (day : ℤ) (h : IsTypedFor c q) (group : List (List ℕ)) where
+  module _ (c : Catalogue) (q : TypedSelectParts) (terms : Terms) (h : IsTypedFor c q) (group : List (List ℕ)) where
     abbrev HasTypes : Output → Type 0
-    HasTypes o = HasStoredTypes c q.from o.0 × ((tuple : List ℕ) → HasItsType (scene c.store q.from tuple day) o.0)
+    HasTypes o = HasStoredTypes c q.from o.0 × ((tuple : List ℕ) → HasItsType (scene c.store q.from tuple terms) o.0)
 
-    both_all : (items : List Output) → AllByRecursion (λ o. HasStoredTypes c q.from o.0) items → AllByRecursion (λ o. (tuple : List ℕ) → HasItsType (scene c.store q.from tuple day) o.0) items → AllByRecursion HasTypes items
+    both_all : (items : List Output) → AllByRecursion (λ o. HasStoredTypes c q.from o.0) items → AllByRecursion (λ o. (tuple : List ℕ) → HasItsType (scene c.store q.from tuple terms) o.0) items → AllByRecursion HasTypes items
     both_all [] s k = tt
     both_all (o ∷ items) s k = ((s.0, k.0), both_all items s.1 k.1)
 
     items_typed : AllByRecursion HasTypes q.items
-    items_typed = both_all q.items h.items (each_tuple (λ tuple e. HasItsType (scene c.store q.from tuple day) e) q.items (λ tuple. (each_parts (HasItsType (scene c.store q.from tuple day)) (map (λ o. o.0) q.items) (flat_map condition_alone q.joins ++ (condition_alone q.cond ++ (q.groups ++ map (λ k. k.0) q.keys))) (typed_expressions c q day tuple h)).0))
+    items_typed = both_all q.items h.items (each_tuple (λ tuple e. HasItsType (scene c.store q.from tuple terms) e) q.items (λ tuple. (each_parts (HasItsType (scene c.store q.from tuple terms)) (map (λ o. o.0) q.items) (flat_map condition_alone q.joins ++ (condition_alone q.cond ++ (q.groups ++ map (λ k. k.0) q.keys))) (typed_expressions c q terms tuple h)).0))
 
     -- the argument of an aggregate on a tuple
     argument_own : (kind : AggKind) (s : Scene) (e : TypedTree) (w : Value) → HasItsType s e → IsArgumentOf kind s e (Ok w) → IsValueOf (type_of e) w
     argument_own CountAll s e w k is = let null : w ≡ Null = cc in subst (IsValueOf (type_of e)) (sym null) (null_of (type_of e))
     argument_own _ s e w k is = k w (evaluated s e w is)
 
-    arguments_own : (e : TypedTree) (agg : Agg) (tuples : List (List ℕ)) (vs : List Value) → ((tuple : List ℕ) → HasItsType (scene c.store q.from tuple day) e) → AllZip (λ t w. IsArgumentOn q c.store day t (e, Some agg) (Ok w)) tuples vs → AllByRecursion (IsValueOf (type_of e)) vs
+    arguments_own : (e : TypedTree) (agg : Agg) (tuples : List (List ℕ)) (vs : List Value) → ((tuple : List ℕ) → HasItsType (scene c.store q.from tuple terms) e) → AllZip (λ t w. IsArgumentOn q c.store terms t (e, Some agg) (Ok w)) tuples vs → AllByRecursion (IsValueOf (type_of e)) vs
     arguments_own e agg [] [] k is = tt
     arguments_own e agg [] (w ∷ vs) k is = absurd is
     arguments_own e agg (t ∷ tuples) [] k is = absurd is
-    arguments_own e agg (t ∷ tuples) (w ∷ vs) k is = (argument_own agg.kind (scene c.store q.from t day) e w (k t) is.0, arguments_own e agg tuples vs k is.1)
+    arguments_own e agg (t ∷ tuples) (w ∷ vs) k is = (argument_own agg.kind (scene c.store q.from t terms) e w (k t) is.0, arguments_own e agg tuples vs k is.1)
 
     -- the value of a column of GROUP BY
-    first_own : (e : TypedTree) (tuples : List (List ℕ)) → HasStoredTypes c q.from e → IsValueOf (type_of e) (first_value q c.store day tuples e)
+    first_own : (e : TypedTree) (tuples : List (List ℕ)) → HasStoredTypes c q.from e → IsValueOf (type_of e) (first_value q c.store terms tuples e)
     first_own e [] s = null_of (type_of e)
-    first_own (typed o ty place none) (t ∷ tuples) s = leaf_of_type c h.rows q.from t day o ty s.0
+    first_own (typed o ty place none) (t ∷ tuples) s = leaf_of_type c h.rows q.from t terms o ty s.0
     first_own (typed o ty place (more a args)) (t ∷ tuples) s = null_of ty
 
-    argument_meant : (o : Output) (a : Option Agg) → HasTypes o → IsTypedItem q.grouped q.groups o a → (agg : Agg) (vs : List Value) → a ≡ Some agg → AllZip (λ t w. IsArgumentOn q c.store day t (o.0, a) (Ok w)) group vs → ArgumentsHaveMeaning o.0 agg vs
+    argument_meant : (o : Output) (a : Option Agg) → HasTypes o → IsTypedItem q.grouped q.groups o a → (agg : Agg) (vs : List Value) → a ≡ Some agg → AllZip (λ t w. IsArgumentOn q c.store terms t (o.0, a) (Ok w)) group vs → ArgumentsHaveMeaning o.0 agg vs
     argument_meant o None k item agg vs e is = absurd (cc)
     argument_meant o (Some b) k item agg vs e is =
         let same_agg : b ≡ agg = cc in
         let own = arguments_own o.0 b group vs k.1 is in
         subst (λ x. ArgumentsHaveMeaning o.0 x vs) same_agg (record { own = own; meant = aggregate_rows o.0 b vs item.1 own })
 
-    value_own : (o : Output) (a : Option Agg) → HasTypes o → IsTypedItem q.grouped q.groups o a → (v : Value) → IsColumnValue q c.store day group (o.0, a) v → IsValueOf (value_type o.0 a) v
+    value_own : (o : Output) (a : Option Agg) → HasTypes o → IsTypedItem q.grouped q.groups o a → (v : Value) → IsColumnValue q c.store terms group (o.0, a) v → IsValueOf (value_type o.0 a) v
     value_own o None k item v is = subst (IsValueOf (type_of o.0)) (sym is) (first_own o.0 group k.0)
     value_own o (Some agg) k item v is = ((argument_meant o (Some agg) k item agg is.0 refl is.1).meant.result v is.2).own
 
-    column_meant : (o : Output) (a : Option Agg) → HasTypes o → IsTypedItem q.grouped q.groups o a → ColumnHasMeaning c q day group (o.0, a)
+    column_meant : (o : Output) (a : Option Agg) → HasTypes o → IsTypedItem q.grouped q.groups o a → ColumnHasMeaning c q terms group (o.0, a)
     column_meant o a k item = record { own = value_own o a k item; arguments = argument_meant o a k item }
 
-    columns_meant : AllByRecursion (ColumnHasMeaning c q day group) (columns_of q)
-    columns_meant = each_column (ColumnHasMeaning c q day group) HasTypes (IsTypedItem q.grouped q.groups) q.aggs column_meant 0 q.items q.aggs (λ k. let same : 0 + k ≡ k = omega arith in ap (slice_get q.aggs) same) items_typed h.aggs
+    columns_meant : AllByRecursion (ColumnHasMeaning c q terms group) (columns_of q)
+    columns_meant = each_column (ColumnHasMeaning c q terms group) HasTypes (IsTypedItem q.grouped q.groups) q.aggs column_meant 0 q.items q.aggs (λ k. let same : 0 + k ≡ k = omega arith in ap (slice_get q.aggs) same) items_typed h.aggs
 
   pub typed_columns : TypedColumnsHaveMeanings
-  typed_columns c q day group h = columns_meant c q day h group
+  typed_columns c q terms group h = columns_meant c q terms h group
 
   pub run_columns : QueriesAreTyped → RunColumnsHaveMeanings
-  run_columns fit settings input count text run q group next = typed_columns run.stands.catalogue q settings.epoch group (fit settings input count text run (query q) next)
+  run_columns fit settings input count text run q group next = typed_columns run.stands.catalogue q (terms_of settings) group (fit settings input count text run (query q) next)

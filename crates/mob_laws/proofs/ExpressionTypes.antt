@@ -2,7 +2,7 @@
 -- value of it, and each operator has its row of the table.
 use Rattle.std.{specs.Prelude.{◌≢◌, ◌==◌, ◌++◌, IfSome, IsTrue, pos, option_map, option_and_then, slice_get}, specs.List.{AllByRecursion, AllZip, flat_map, list_all}, specs.Option.{option_or}}
 use Rattle.std.specs.Str.{bytes_eq}
-use Rattle.std.proofs.Common.{◌≡◌, ◌∙◌, arith, nat_abs, refl, sym, ap, subst, inl, inr, true≢false, ℕ, ℤ, zero, suc, List, [], ◌∷◌, map, Bool, true, false, cond, Option, Some, None}
+use Rattle.std.proofs.Common.{◌≡◌, ◌∙◌, arith, nat_abs, refl, sym, ap, subst, inl, inr, true≢false, ℕ, zero, suc, List, [], ◌∷◌, map, Bool, true, false, cond, Option, Some, None}
 use Rattle.mob_list.proofs.Each.{each_both, each_map, each_on}
 use Rattle.mob_ratio.{specs.GcdLaws.{gcd_one_right}, specs.LowestLaws.{lowest_in}, specs.Order.{same}, specs.Ratio.{Ratio, whole, ◌+ℚ◌, neg_ℚ}, proofs.Clear.{whole-over}}
 use Rattle.mob_ratio.{proofs.Field.{add_zero, sub_self}, proofs.Order.{same_exact}, proofs.RatioLemmas.{over-lowest}}
@@ -30,6 +30,8 @@ use Rattle.mob_shell.specs.StoredTypes.{QueriesAreTyped}
 use Rattle.mob_laws.specs.ExpressionTypes.{HasItsType, RunExpressionsHaveTheirTypes, TypedExpressionsHaveTheirTypes}
 use Rattle.mob_ast.specs.declared.types.SqlType.TheVariants as sql
 use Rattle.mob_operators.specs.declared.operator.Op.TheVariants as op
+use Rattle.mob_meaning.specs.declared.terms.Terms.{Terms}
+use Rattle.mob_shell.specs.Terms.{terms_of}
 
 -- ---- the line that answers
 -- what holds for each operator of each line, on the types that the line takes, holds for the
@@ -199,10 +201,10 @@ module _ (k : ℕ) (ty : SqlType) where
   in_place heads tables (Some t) o h is = in_tables heads tables t o h is
 
 -- a leaf, on any tuple
-module _ (c : Catalogue) (typed_rows : HoldsTypedTables c) (from tuple : List ℕ) (day : ℤ) where
-  pub leaf_of_type : (o : Op) (ty : SqlType) → HasStoredType c from o ty → IsValueOf ty (leaf_value (scene c.store from tuple day) o ty)
+module _ (c : Catalogue) (typed_rows : HoldsTypedTables c) (from tuple : List ℕ) (terms : Terms) where
+  pub leaf_of_type : (o : Op) (ty : SqlType) → HasStoredType c from o ty → IsValueOf ty (leaf_value (scene c.store from tuple terms) o ty)
   leaf_of_type (op.Const k) ty h = stored_of ty (slice_get c.store.consts k) (λ v e. let value : h.0 ≡ v = cc (sym h.1 ∙ e) in subst (IsValueOf ty) value h.2)
-  leaf_of_type (op.Column f k) ty h = stored_of ty (column_value (scene c.store from tuple day) f k) (in_place k ty c.heads c.store.tables (slice_get from f) (slice_get tuple f) typed_rows h)
+  leaf_of_type (op.Column f k) ty h = stored_of ty (column_value (scene c.store from tuple terms) f k) (in_place k ty c.heads c.store.tables (slice_get from f) (slice_get tuple f) typed_rows h)
   leaf_of_type _ ty h = null_of ty
 
 -- ---- expressions
@@ -213,9 +215,9 @@ module _ (rows : RowsHaveMeanings) (casts : CastsHaveMeanings) (settled : Settle
   row_settles : (consts : List ConstText) (o : Op) (ty : SqlType) (args : TypedTrees) → HasOperatorRow consts o ty args → settles_bools o ty (arg_types args) ≡ true
   row_settles consts o ty args h = found_settles h.form h.name (arg_types args) (is_division o) o ty h.row
 
-  module _ (consts : List ConstText) (c : Catalogue) (typed_rows : HoldsTypedTables c) (from tuple : List ℕ) (day : ℤ) where
+  module _ (consts : List ConstText) (c : Catalogue) (typed_rows : HoldsTypedTables c) (from tuple : List ℕ) (terms : Terms) where
     abbrev here : Scene
-    here = scene c.store from tuple day
+    here = scene c.store from tuple terms
 
     leaf_alone : (o : Op) (ty : SqlType) (args : TypedTrees) (vs : List Value) (v : Value) → args ≡ none → OperandsHaveValues here (stop_of o) args vs → OperatorGives here o ty (arg_types args) vs v → v ≡ leaf_value here o ty
     leaf_alone o ty args vs v e has gives =
@@ -299,8 +301,8 @@ module _ (rows : RowsHaveMeanings) (casts : CastsHaveMeanings) (settled : Settle
 
     node_given : (o : Op) (ty : SqlType) (args : TypedTrees) → FitsArguments consts o ty args → (is_division o ≡ true → DividesByNumber c args) → HasStoredType c from o ty → AllHaveTheirTypes args
         → (vs : List Value) (v : Value) → OperandsHaveValues here (stop_of o) args vs → OperatorGives here o ty (arg_types args) vs v → IsValueOf ty v
-    node_given (op.Const k) ty args fits d stored all vs v has gives = subst (IsValueOf ty) (sym (leaf_alone (op.Const k) ty args vs v fits has gives)) (leaf_of_type c typed_rows from tuple day (op.Const k) ty stored)
-    node_given (op.Column f k) ty args fits d stored all vs v has gives = subst (IsValueOf ty) (sym (leaf_alone (op.Column f k) ty args vs v fits has gives)) (leaf_of_type c typed_rows from tuple day (op.Column f k) ty stored)
+    node_given (op.Const k) ty args fits d stored all vs v has gives = subst (IsValueOf ty) (sym (leaf_alone (op.Const k) ty args vs v fits has gives)) (leaf_of_type c typed_rows from tuple terms (op.Const k) ty stored)
+    node_given (op.Column f k) ty args fits d stored all vs v has gives = subst (IsValueOf ty) (sym (leaf_alone (op.Column f k) ty args vs v fits has gives)) (leaf_of_type c typed_rows from tuple terms (op.Column f k) ty stored)
     node_given op.Null ty args fits d stored all vs v has gives = subst (IsValueOf ty) (sym (leaf_alone op.Null ty args vs v fits.1 has gives)) (null_of ty)
     node_given op.Cast ty args fits d stored all vs v has gives = cast_given ty args fits all vs v has gives
     node_given op.And ty args fits d stored all vs v has gives = and_given ty args fits all vs v has gives
@@ -317,7 +319,7 @@ module _ (rows : RowsHaveMeanings) (casts : CastsHaveMeanings) (settled : Settle
       trees_given (more t ts) h d s = (tree_given t h.0 d.0 s.0, trees_given ts h.1 d.1 s.1)
 
   -- ---- the expressions of a query
-  module _ (c : Catalogue) (q : TypedSelectParts) (day : ℤ) (h : IsTypedFor c q) where
+  module _ (c : Catalogue) (q : TypedSelectParts) (terms : Terms) (h : IsTypedFor c q) where
     abbrev Stored : TypedTree → Type 0
     Stored t = HasStoredTypes c q.from t
 
@@ -341,15 +343,15 @@ module _ (rows : RowsHaveMeanings) (casts : CastsHaveMeanings) (settled : Settle
         (each_both Stored (condition_alone q.cond) (q.groups ++ map (λ k. k.0) q.keys) from_condition
         (each_both Stored q.groups (map (λ k. k.0) q.keys) from_groups from_keys)))
 
-    all_given : (tuple : List ℕ) (ts : List TypedTree) → AllByRecursion (IsOperated h.texts) ts → AllByRecursion (HasDivisors c) ts → AllByRecursion Stored ts → AllByRecursion (HasItsType (scene c.store q.from tuple day)) ts
+    all_given : (tuple : List ℕ) (ts : List TypedTree) → AllByRecursion (IsOperated h.texts) ts → AllByRecursion (HasDivisors c) ts → AllByRecursion Stored ts → AllByRecursion (HasItsType (scene c.store q.from tuple terms)) ts
     all_given tuple [] o d s = tt
-    all_given tuple (t ∷ ts) o d s = (tree_given h.texts c h.rows q.from tuple day t o.0 d.0 s.0, all_given tuple ts o.1 d.1 s.1)
+    all_given tuple (t ∷ ts) o d s = (tree_given h.texts c h.rows q.from tuple terms t o.0 d.0 s.0, all_given tuple ts o.1 d.1 s.1)
 
   pub typed_expressions : TypedExpressionsHaveTheirTypes
-  typed_expressions c q day tuple h = all_given c q day h tuple (expressions_of q) h.operated h.divisors (all_stored c q day h)
+  typed_expressions c q terms tuple h = all_given c q terms h tuple (expressions_of q) h.operated h.divisors (all_stored c q terms h)
 
   pub run_expressions : QueriesAreTyped → RunExpressionsHaveTheirTypes
   run_expressions fit settings input count text run q tuple next = elim next [
-    | inl is ↦ typed_expressions run.stands.catalogue q settings.epoch tuple (fit settings input count text run (query q) is)
-    | inr is ↦ typed_expressions run.stands.catalogue q settings.epoch tuple (fit settings input count text run (deletion q) is).0
+    | inl is ↦ typed_expressions run.stands.catalogue q (terms_of settings) tuple (fit settings input count text run (query q) is)
+    | inr is ↦ typed_expressions run.stands.catalogue q (terms_of settings) tuple (fit settings input count text run (deletion q) is).0
   ]

@@ -10,30 +10,32 @@ use Rattle.mob_statements.specs.Statements.{Ran}
 use Rattle.mob_shell.specs.Runs.{RunState, RunsStatement, StatementWrites, begin}
 use Rattle.mob_laws.specs.IndexScripts.{Answered, DifferInIndexStatements, HasNoExplain, IndexesChangeNoAnswer, IndexesWriteTheSame, IsNoExplain, WrittenIsAnswered, answer_in, unplaced_literal}
 use Rattle.mob_laws.{specs.IndexScripts.{without_indexes}, proofs.BareLoads.{program_alike}, proofs.BareRuns.{answered_alike}}
+use Rattle.mob_meaning.specs.declared.terms.Terms.{Terms}
+use Rattle.mob_shell.{specs.Terms.{terms_of}, proofs.SameAnswers.{same_terms}}
 
 -- ---- the answers in the text
 
 -- the text of a statement that is not an EXPLAIN
-written_in : (day : ℤ) (s : RunState) (x : StatementOut) (text : List ℕ) → IsNoExplain x → StatementWrites day s x text → (rest : List (List ℕ)) → text ++ concat rest ≡ concat (answer_in x text ++ rest)
-written_in day s (query q) text none h rest = refl
-written_in day s (plan_of q) text none h rest = absurd none
-written_in day s (deletion q) text none h rest = ap (λ (t : List ℕ). t ++ concat rest) h
-written_in day s _ text none h rest = ap (λ (t : List ℕ). t ++ concat rest) h
+written_in : (terms : Terms) (s : RunState) (x : StatementOut) (text : List ℕ) → IsNoExplain x → StatementWrites terms s x text → (rest : List (List ℕ)) → text ++ concat rest ≡ concat (answer_in x text ++ rest)
+written_in terms s (query q) text none h rest = refl
+written_in terms s (plan_of q) text none h rest = absurd none
+written_in terms s (deletion q) text none h rest = ap (λ (t : List ℕ). t ++ concat rest) h
+written_in terms s _ text none h rest = ap (λ (t : List ℕ). t ++ concat rest) h
 
 -- the answers of statements that ran, and their text if none of them is an EXPLAIN
-record HasAnswers (day : ℤ) (s : RunState) (xs : List StatementOut) (text : List ℕ) : Type 0 where
+record HasAnswers (terms : Terms) (s : RunState) (xs : List StatementOut) (text : List ℕ) : Type 0 where
   answers : List (List ℕ)
-  answered : Answered day s xs answers
+  answered : Answered terms s xs answers
   whole : AllByRecursion IsNoExplain xs → text ≡ concat answers
 
-answers_of : (day : ℤ) (xs : List StatementOut) (s t : RunState) (text : List ℕ) → Ran (RunsStatement day) s xs t text → HasAnswers day s xs text
-answers_of day [] s t text h = record { answers = []; answered = refl; whole = λ none. h.1 }
-answers_of day (x ∷ xs) s t text h =
-    let rest : HasAnswers day h.0 xs h.2 = answers_of day xs h.0 t h.2 h.4 in
+answers_of : (terms : Terms) (xs : List StatementOut) (s t : RunState) (text : List ℕ) → Ran (RunsStatement terms) s xs t text → HasAnswers terms s xs text
+answers_of terms [] s t text h = record { answers = []; answered = refl; whole = λ none. h.1 }
+answers_of terms (x ∷ xs) s t text h =
+    let rest : HasAnswers terms h.0 xs h.2 = answers_of terms xs h.0 t h.2 h.4 in
     record {
       answers = answer_in x h.1 ++ rest.answers;
       answered = (h.0, h.1, rest.answers, h.3, rest.answered, refl);
-      whole = λ none. h.5 ∙ ap (λ (r : List ℕ). h.1 ++ r) (rest.whole none.1) ∙ written_in day s x h.1 none.0 h.3.writes rest.answers;
+      whole = λ none. h.5 ∙ ap (λ (r : List ℕ). h.1 ++ r) (rest.whole none.1) ∙ written_in terms s x h.1 none.0 h.3.writes rest.answers;
     }
 
 -- without EXPLAIN, also for other CREATE INDEX statements
@@ -57,19 +59,19 @@ module _ (script : HasOneScript) where
 
   pub written_answered : WrittenIsAnswered
   written_answered settings input text h =
-      let a : HasAnswers settings.epoch (begin h.program) h.out.statements text = answers_of settings.epoch h.out.statements (begin h.program) h.stands text h.ran in (
+      let a : HasAnswers (terms_of settings) (begin h.program) h.out.statements text = answers_of (terms_of settings) h.out.statements (begin h.program) h.stands text h.ran in (
         a.answers,
         record { out = h.out; program = h.program; is = h.is; answered = a.answered },
         λ none. a.whole (no_explain input.script h.out h.is.script none),
       )
 
   module _ (meaning : ConstantsHaveOneMeaning) (read : LoadedIsRead) (values : ProgramHasValues) (loading : HasOneLoading) (one : HasOneQueryAnswer) where
-    -- for one day, accepted scripts and the same files
-    scripts_alike : (day : ℤ) (files : Contents) (out others : ScriptOut) (p q : Program) (a b : List (List ℕ)) → DifferInIndexStatements out others → LoadsScript day files out (Ok p) → LoadsScript day files others (Ok q) → Answered day (begin p) out.statements a → Answered day (begin q) others.statements b → a ≡ b
-    scripts_alike day files out others p q a b differ loads loaded h k =
-        let same : p ≡ q = program_alike meaning read values loading day files out others p q differ loads loaded in
-        let there : Answered day (begin p) others.statements b = subst (λ (r : Program). Answered day (begin r) others.statements b) (sym same) k in
-        answered_alike one day out.statements others.statements (begin p) a b differ.statements h there
+    -- for the same terms, accepted scripts and the same files
+    scripts_alike : (terms : Terms) (files : Contents) (out others : ScriptOut) (p q : Program) (a b : List (List ℕ)) → DifferInIndexStatements out others → LoadsScript terms.epoch files out (Ok p) → LoadsScript terms.epoch files others (Ok q) → Answered terms (begin p) out.statements a → Answered terms (begin q) others.statements b → a ≡ b
+    scripts_alike terms files out others p q a b differ loads loaded h k =
+        let same : p ≡ q = program_alike meaning read values loading terms.epoch files out others p q differ loads loaded in
+        let there : Answered terms (begin p) others.statements b = subst (λ (r : Program). Answered terms (begin r) others.statements b) (sym same) k in
+        answered_alike one terms out.statements others.statements (begin p) a b differ.statements h there
 
     pub change_no_answer : IndexesChangeNoAnswer
     change_no_answer settings others workers one other differ a b h k =
@@ -80,8 +82,8 @@ module _ (script : HasOneScript) where
           literals = ap (λ (o : ScriptOut). map unplaced_literal o.consts) out ∙ differ.scripts.literals ∙ sym (ap (λ (o : ScriptOut). map unplaced_literal o.consts) second);
         } in
         let loads : LoadsScript settings.epoch one.files k.out (Ok k.program) = subst (λ (day : ℤ). LoadsScript day one.files k.out (Ok k.program)) (sym workers.epoch) (subst (λ (files : Contents). LoadsScript others.epoch files k.out (Ok k.program)) (sym differ.files) k.is.loads) in
-        let there : Answered settings.epoch (begin k.program) k.out.statements b = subst (λ (day : ℤ). Answered day (begin k.program) k.out.statements b) (sym workers.epoch) k.answered in
-        scripts_alike settings.epoch one.files h.out k.out h.program k.program a b scripts h.is.loads loads h.answered there
+        let there : Answered (terms_of settings) (begin k.program) k.out.statements b = subst (λ (terms : Terms). Answered terms (begin k.program) k.out.statements b) (sym (same_terms settings others workers)) k.answered in
+        scripts_alike (terms_of settings) one.files h.out k.out h.program k.program a b scripts h.is.loads loads h.answered there
 
     pub write_the_same : IndexesWriteTheSame
     write_the_same settings others workers one other differ none text more h k =

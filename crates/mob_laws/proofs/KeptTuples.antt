@@ -1,11 +1,12 @@
 -- Kept tuples consist of live rows.
-use Rattle.std.{specs.Prelude.{Option, is_some}, proofs.Common.{◌≡◌, ◌+◌, arith, inl, inr, refl, subst, suc, ℕ, ℤ, Bool, true, false, List, [], ◌∷◌, Some, length, slice_get}}
+use Rattle.std.{specs.Prelude.{Option, is_some}, proofs.Common.{◌≡◌, ◌+◌, arith, inl, inr, refl, subst, suc, ℕ, Bool, true, false, List, [], ◌∷◌, Some, length, slice_get}}
 use Rattle.mob_list.proofs.Entries.{all_by_each}
 use Rattle.mob_typed.{specs.Selects.{TypedSelectParts, on_of}, specs.Trees.{TypedTree}}
 use Rattle.mob_catalog.specs.Catalogue.{Catalogue, live_rows}
 use Rattle.mob_join.{specs.KeptTuples.{IsEntryOf}, specs.Query.{IsTupleOf}}
 use Rattle.mob_shell.specs.ReadAsStored.{AreLiveRows, IsLiveRow, IsLiveTuple}
 use Rattle.mob_laws.specs.KeptTuples.{KeptTuplesAreLive}
+use Rattle.mob_meaning.specs.declared.terms.Terms.{Terms}
 
 -- an entry of a tuple is a live row, or no row of a left-joined table
 entry_live : (c : Catalogue) (joins : List (Option TypedTree)) (place table entry : ℕ) (OnIsTrue : ℕ → Type 0) → IsEntryOf (is_some (on_of joins place)) OnIsTrue (live_rows c table) entry → IsLiveRow c joins place table entry
@@ -32,11 +33,11 @@ rows_live c joins first (t ∷ tables) (e ∷ entries) n h = (
     behind : (place : ℕ) → first + suc place ≡ (first + 1) + place
     behind place = omega arith
 
-tuple_live : (q : TypedSelectParts) (c : Catalogue) (day : ℤ) (tuple : List ℕ) → IsTupleOf q c day tuple → IsLiveTuple c q.joins q.from tuple
-tuple_live q c day tuple h = rows_live c q.joins 0 q.from tuple h.count (λ place table entry at is. subst (λ k. IsLiveRow c q.joins k table entry) (counted place) (entry_live c q.joins place table entry _ (h.entries place table entry at is)))
+tuple_live : (q : TypedSelectParts) (c : Catalogue) (terms : Terms) (tuple : List ℕ) → IsTupleOf q c terms tuple → IsLiveTuple c q.joins q.from tuple
+tuple_live q c terms tuple h = rows_live c q.joins 0 q.from tuple h.count (λ place table entry at is. subst (λ k. IsLiveRow c q.joins k table entry) (counted place) (entry_live c q.joins place table entry _ (h.entries place table entry at is)))
   where
     counted : (place : ℕ) → place ≡ 0 + place
     counted place = omega arith
 
 pub kept_live : KeptTuplesAreLive
-kept_live q c day kept h = all_by_each (IsLiveTuple c q.joins q.from) kept (λ tuple among. tuple_live q c day tuple ((h.1.tuples tuple).0 among).0)
+kept_live q c terms kept h = all_by_each (IsLiveTuple c q.joins q.from) kept (λ tuple among. tuple_live q c terms tuple ((h.1.tuples tuple).0 among).0)

@@ -10,3 +10,5 @@ mod IndexExamples
 mod KeptTuples
 mod KeptExamples
 mod BlankedScripts
+mod WideQueries
+mod WideAnswers

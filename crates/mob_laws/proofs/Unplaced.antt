@@ -1,6 +1,6 @@
 -- Places change no value of an expression, and none of the tuples that a query keeps.
 use Rattle.std.specs.Prelude.{is_some, option_and_then, option_map, slice_get}
-use Rattle.std.proofs.Common.{◌≡◌, ◌∙◌, ◌⊎◌, refl, sym, ap, ap₂, subst, ℕ, zero, suc, ℤ, Bool, true, false, List, [], ◌∷◌, map, Option, Some, None, Ok}
+use Rattle.std.proofs.Common.{◌≡◌, ◌∙◌, ◌⊎◌, refl, sym, ap, ap₂, subst, ℕ, zero, suc, Bool, true, false, List, [], ◌∷◌, map, Option, Some, None, Ok}
 use Rattle.mob_ast.specs.declared.types.SqlType.{SqlType}
 use Rattle.mob_typed.{specs.Trees.{TypedTree, typed, TypedTrees, none, more, arg_types, type_of}, specs.Selects.{TypedSelectParts, on_of}}
 use Rattle.mob_value.{specs.declared.value.Value.{Value}, specs.declared.value.Value.TheVariants.{Bool as Truth}, specs.declared.store.Store.{Store}}
@@ -12,6 +12,7 @@ use Rattle.mob_join.{specs.KeptTuples.{AreThoseThatMeet}, specs.Query.{IsKept, I
 use Rattle.mob_shell.specs.SameAnswers.{DifferInIndexes}
 use Rattle.mob_laws.specs.IndexScripts.{all_unplaced, unplaced, unplaced_select}
 use mathlib.Core.Path.{transport}
+use Rattle.mob_meaning.specs.declared.terms.Terms.{Terms}
 
 -- ---- expressions
 
@@ -33,7 +34,7 @@ mutual
 
 mutual
   pub evaluated_same : (s : Scene) (e : TypedTree) (v : Value) → TreeEvaluatesTo s e (Ok v) ≡ TreeEvaluatesTo s (unplaced e) (Ok v)
-  evaluated_same s (typed o ty place args) v = λ i. (vs : List Value) × operands_same s (stop_of o) args vs i × IsFirstFormula o ty (types_same args i) vs None × OperatorGives s o ty (types_same args i) vs v
+  evaluated_same s (typed o ty place args) v = λ i. (vs : List Value) × operands_same s (stop_of o) args vs i × IsFirstFormula s.terms.mode o ty (types_same args i) vs None × OperatorGives s o ty (types_same args i) vs v
 
   operands_same : (s : Scene) (stop : Option Bool) (es : TypedTrees) (vs : List Value) → OperandsEvaluateTo s stop es (Ok vs) ≡ OperandsEvaluateTo s stop (all_unplaced es) (Ok vs)
   operands_same s stop none vs = refl
@@ -72,31 +73,31 @@ conditions_same q = λ i. record { joined = λ place. joined_same q place i; fil
 -- ---- the kept tuples
 
 -- the visits for which the condition is true, on a store
-abbrev meets : TypedSelectParts → Store → ℤ → Meeting
-meets q store day visit = IsMet (condition_at q visit.on) (scene store q.from visit.tuple day)
+abbrev meets : TypedSelectParts → Store → Terms → Meeting
+meets q store terms visit = IsMet (condition_at q visit.on) (scene store q.from visit.tuple terms)
 
-meets_same : (q : TypedSelectParts) (store : Store) (day : ℤ) (visit : Visit) → meets q store day visit ≡ meets (unplaced_select q) store day visit
-meets_same q store day visit =
-    let s : Scene = scene store q.from visit.tuple day in
+meets_same : (q : TypedSelectParts) (store : Store) (terms : Terms) (visit : Visit) → meets q store terms visit ≡ meets (unplaced_select q) store terms visit
+meets_same q store terms visit =
+    let s : Scene = scene store q.from visit.tuple terms in
     met_same (condition_at q visit.on) s ∙ ap (λ (e : Option TypedTree). IsMet e s) (condition_same q visit.on)
 
 -- the tuples for which WHERE is true, by the live rows of the tables
 abbrev MeetBy : Conditions → Meeting → List ℕ → List TableHead → List (List ℕ) → Type 0
 MeetBy c M from heads kept = AreThoseThatMeet c M (live_of heads) from kept
 
-abbrev MeetOn : ℤ → List (List ℕ) → TypedSelectParts → Store → List TableHead → Type 0
-MeetOn day kept q store heads = MeetBy (conditions q) (meets q store day) q.from heads kept
+abbrev MeetOn : Terms → List (List ℕ) → TypedSelectParts → Store → List TableHead → Type 0
+MeetOn terms kept q store heads = MeetBy (conditions q) (meets q store terms) q.from heads kept
 
-kept_same : (day : ℤ) (kept : List (List ℕ)) (q : TypedSelectParts) (store : Store) (heads : List TableHead) → MeetOn day kept q store heads ≡ MeetOn day kept (unplaced_select q) store heads
-kept_same day kept q store heads = λ i. MeetBy (conditions_same q i) (λ visit. meets_same q store day visit i) q.from heads kept
+kept_same : (terms : Terms) (kept : List (List ℕ)) (q : TypedSelectParts) (store : Store) (heads : List TableHead) → MeetOn terms kept q store heads ≡ MeetOn terms kept (unplaced_select q) store heads
+kept_same terms kept q store heads = λ i. MeetBy (conditions_same q i) (λ visit. meets_same q store terms visit i) q.from heads kept
 
 -- queries that differ in places, over catalogues that differ in indexes, keep the same tuples if
 -- neither has a fault
-pub kept_alike : (day : ℤ) (p q : TypedSelectParts) (c d : Catalogue) (kept others : List (List ℕ)) → unplaced_select p ≡ unplaced_select q → DifferInIndexes c d → IsKept p c day (Ok kept) → IsKept q d day (Ok others) → kept ≡ others
-kept_alike day p q c d kept others same differ h k =
-    let bare : MeetOn day others (unplaced_select q) d.store d.heads = transport (kept_same day others q d.store d.heads) k.1 in
-    let placed : MeetOn day others (unplaced_select p) d.store d.heads = subst (λ (r : TypedSelectParts). MeetOn day others r d.store d.heads) (sym same) bare in
-    let own : MeetOn day others p d.store d.heads = transport (sym (kept_same day others p d.store d.heads)) placed in
-    let stored : MeetOn day others p c.store d.heads = subst (λ (store : Store). MeetOn day others p store d.heads) (sym differ.store) own in
-    let there : MeetOn day others p c.store c.heads = subst (λ (heads : List TableHead). MeetOn day others p c.store heads) (sym differ.heads) stored in
-    those_once (conditions p) (meets p c.store day) (live_of c.heads) p.from kept others h.1 there
+pub kept_alike : (terms : Terms) (p q : TypedSelectParts) (c d : Catalogue) (kept others : List (List ℕ)) → unplaced_select p ≡ unplaced_select q → DifferInIndexes c d → IsKept p c terms (Ok kept) → IsKept q d terms (Ok others) → kept ≡ others
+kept_alike terms p q c d kept others same differ h k =
+    let bare : MeetOn terms others (unplaced_select q) d.store d.heads = transport (kept_same terms others q d.store d.heads) k.1 in
+    let placed : MeetOn terms others (unplaced_select p) d.store d.heads = subst (λ (r : TypedSelectParts). MeetOn terms others r d.store d.heads) (sym same) bare in
+    let own : MeetOn terms others p d.store d.heads = transport (sym (kept_same terms others p d.store d.heads)) placed in
+    let stored : MeetOn terms others p c.store d.heads = subst (λ (store : Store). MeetOn terms others p store d.heads) (sym differ.store) own in
+    let there : MeetOn terms others p c.store c.heads = subst (λ (heads : List TableHead). MeetOn terms others p c.store heads) (sym differ.heads) stored in
+    those_once (conditions p) (meets p c.store terms) (live_of c.heads) p.from kept others h.1 there

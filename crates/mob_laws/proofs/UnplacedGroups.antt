@@ -1,5 +1,5 @@
 -- Places change no group, and no value of an aggregate.
-use Rattle.std.{specs.Prelude.{Result, option_map}, specs.List.{AllZip}, proofs.Common.{◌≡◌, ◌∙◌, inl, inr, refl, subst, not, ℕ, ◌+◌, ℤ, Bool, List, [], ◌∷◌, ◌++◌, map, Option, Some, None, Ok}}
+use Rattle.std.{specs.Prelude.{Result, option_map}, specs.List.{AllZip}, proofs.Common.{◌≡◌, ◌∙◌, inl, inr, refl, subst, not, ℕ, ◌+◌, Bool, List, [], ◌∷◌, ◌++◌, map, Option, Some, None, Ok}}
 use Rattle.mob_operators.{specs.declared.aggregate.AggKind.{AggKind}, specs.declared.aggregate.AggKind.TheVariants.{CountAll}}
 use Rattle.mob_slice.specs.declared.formula.Formula.{Formula}
 use Rattle.mob_typed.{specs.declared.typed.Agg.{Agg}, specs.Trees.{TypedTree, typed, none, more}, specs.Selects.{Output, TypedSelectParts}}
@@ -12,6 +12,8 @@ use Rattle.mob_arrange.specs.Keyed.{Keyed}
 use Rattle.mob_tail.specs.GroupedAnswers.{AnswerColumn, IsAddingTo, IsArgumentOf, IsArgumentOn, IsColumnValue, IsGroupRow, IsGroupedFault, columns_from, columns_of, answer_key, keys_from, answer_item}
 use Rattle.mob_tail.specs.Groups.{column_on, first_value, group_fields, groups_on, is_bare_column, same_group, same_texts}
 use Rattle.mob_laws.{specs.IndexScripts.{unplaced, unplaced_aggregate, unplaced_key, unplaced_output, unplaced_select}, proofs.Unplaced.{evaluated_bare, picked_same}}
+use Rattle.mob_meaning.specs.declared.terms.Terms.{Terms}
+use Rattle.mob_slice.specs.declared.mode.Mode.{Mode}
 
 -- ---- lists, one by one
 
@@ -73,70 +75,70 @@ no_fault : (place : ℕ) (g : Option Formula) → None ≡ option_map (at_place 
 no_fault place None h = refl
 no_fault place (Some x) h = absurd cc
 
-added_bare : (c : AnswerColumn) (vs : List Value) (v : Value) → IsAddingTo c vs v None → IsAddingTo (unplaced_column c) vs v None
-added_bare (e, None) vs v h = h
-added_bare (e, Some agg) vs v h = (h.0, h.1, no_fault agg.place h.0 h.2)
+added_bare : (mode : Mode) (c : AnswerColumn) (vs : List Value) (v : Value) → IsAddingTo mode c vs v None → IsAddingTo mode (unplaced_column c) vs v None
+added_bare mode (e, None) vs v h = h
+added_bare mode (e, Some agg) vs v h = (h.0, h.1, no_fault agg.place h.0 h.2)
 
-module _ (q : TypedSelectParts) (store : Store) (day : ℤ) where
+module _ (q : TypedSelectParts) (store : Store) (terms : Terms) where
   abbrev bare : TypedSelectParts
   bare = unplaced_select q
 
-  argument_bare : (t : List ℕ) (c : AnswerColumn) (v : Value) → IsArgumentOn q store day t c (Ok v) → IsArgumentOn bare store day t (unplaced_column c) (Ok v)
+  argument_bare : (t : List ℕ) (c : AnswerColumn) (v : Value) → IsArgumentOn q store terms t c (Ok v) → IsArgumentOn bare store terms t (unplaced_column c) (Ok v)
   argument_bare t (e, None) v h = h
-  argument_bare t (e, Some agg) v h = argument_kind agg.kind (scene store q.from t day) e v h
+  argument_bare t (e, Some agg) v h = argument_kind agg.kind (scene store q.from t terms) e v h
 
   -- ---- groups
 
-  texts_same : (s : Scene) (gs : List TypedTree) → map (λ g. field_text day (column_on s g)) gs ≡ map (λ g. field_text day (column_on s g)) (map unplaced gs)
+  texts_same : (s : Scene) (gs : List TypedTree) → map (λ g. field_text terms.epoch (column_on s g)) gs ≡ map (λ g. field_text terms.epoch (column_on s g)) (map unplaced gs)
   texts_same s [] = refl
-  texts_same s (g ∷ gs) = λ i. field_text day (column_same s g i) ∷ texts_same s gs i
+  texts_same s (g ∷ gs) = λ i. field_text terms.epoch (column_same s g i) ∷ texts_same s gs i
 
-  fields_same : (t : List ℕ) → group_fields q store day t ≡ group_fields bare store day t
-  fields_same t = texts_same (scene store q.from t day) q.groups
+  fields_same : (t : List ℕ) → group_fields q store terms t ≡ group_fields bare store terms t
+  fields_same t = texts_same (scene store q.from t terms) q.groups
 
   empty_same : (gs : List TypedTree) → is_bare_column gs ≡ is_bare_column (map unplaced gs)
   empty_same [] = refl
   empty_same (g ∷ gs) = refl
 
-  pub groups_same : (kept : List (List ℕ)) → groups_on q store day kept ≡ groups_on bare store day kept
+  pub groups_same : (kept : List (List ℕ)) → groups_on q store terms kept ≡ groups_on bare store terms kept
   groups_same kept = λ i. groups_by (not (empty_same q.groups i)) same_texts (map (λ (t : List ℕ). (fields_same t i, t)) kept)
 
-  pub fault_bare : (kept : List (List ℕ)) → IsGroupedFault q store day kept None → IsGroupedFault bare store day kept None
+  pub fault_bare : (kept : List (List ℕ)) → IsGroupedFault q store terms kept None → IsGroupedFault bare store terms kept None
   fault_bare kept h =
-      let rows : IsRowFault (IsArgumentOn bare store day) IsAddingTo (same_group q store day) (map unplaced_column (columns_of q)) [] kept None =
-      rows_bare (IsArgumentOn q store day) IsAddingTo (IsArgumentOn bare store day) IsAddingTo unplaced_column argument_bare added_bare (same_group q store day) (columns_of q) [] kept h in
-      let columns : IsRowFault (IsArgumentOn bare store day) IsAddingTo (same_group q store day) (columns_of bare) [] kept None =
-      subst (λ (cs : List AnswerColumn). IsRowFault (IsArgumentOn bare store day) IsAddingTo (same_group q store day) cs [] kept None) (columns_same q.aggs 0 q.items) rows in
-      let groups : same_group q store day ≡ same_group bare store day = λ i t u. same_texts (fields_same t i) (fields_same u i) in
-      subst (λ (same : List ℕ → List ℕ → Bool). IsRowFault (IsArgumentOn bare store day) IsAddingTo same (columns_of bare) [] kept None) groups columns
+      let rows : IsRowFault (IsArgumentOn bare store terms) (IsAddingTo terms.mode) (same_group q store terms) (map unplaced_column (columns_of q)) [] kept None =
+      rows_bare (IsArgumentOn q store terms) (IsAddingTo terms.mode) (IsArgumentOn bare store terms) (IsAddingTo terms.mode) unplaced_column argument_bare (added_bare terms.mode) (same_group q store terms) (columns_of q) [] kept h in
+      let columns : IsRowFault (IsArgumentOn bare store terms) (IsAddingTo terms.mode) (same_group q store terms) (columns_of bare) [] kept None =
+      subst (λ (cs : List AnswerColumn). IsRowFault (IsArgumentOn bare store terms) (IsAddingTo terms.mode) (same_group q store terms) cs [] kept None) (columns_same q.aggs 0 q.items) rows in
+      let groups : same_group q store terms ≡ same_group bare store terms = λ i t u. same_texts (fields_same t i) (fields_same u i) in
+      subst (λ (same : List ℕ → List ℕ → Bool). IsRowFault (IsArgumentOn bare store terms) (IsAddingTo terms.mode) same (columns_of bare) [] kept None) groups columns
 
   -- ---- rows of groups
 
-  first_same : (group : List (List ℕ)) (e : TypedTree) → first_value q store day group e ≡ first_value bare store day group (unplaced e)
+  first_same : (group : List (List ℕ)) (e : TypedTree) → first_value q store terms group e ≡ first_value bare store terms group (unplaced e)
   first_same [] e = refl
-  first_same (t ∷ group) e = column_same (scene store q.from t day) e
+  first_same (t ∷ group) e = column_same (scene store q.from t terms) e
 
-  column_bare : (group : List (List ℕ)) (c : AnswerColumn) (v : Value) → IsColumnValue q store day group c v → IsColumnValue bare store day group (unplaced_column c) v
+  column_bare : (group : List (List ℕ)) (c : AnswerColumn) (v : Value) → IsColumnValue q store terms group c v → IsColumnValue bare store terms group (unplaced_column c) v
   column_bare group (e, None) v h = h ∙ first_same group e
   column_bare group (e, Some agg) v h = (
     h.0,
-    zip_carried (λ t w. IsArgumentOn q store day t (e, Some agg) (Ok w)) (λ t w. IsArgumentOn bare store day t (unplaced_column (e, Some agg)) (Ok w)) (λ t w. argument_bare t (e, Some agg) w) group h.0 h.1,
+    zip_carried (λ t w. IsArgumentOn q store terms t (e, Some agg) (Ok w)) (λ t w. IsArgumentOn bare store terms t (unplaced_column (e, Some agg)) (Ok w)) (λ t w. argument_bare t (e, Some agg) w) group h.0 h.1,
     h.2,
   )
 
-  key_same : (group : List (List ℕ)) (values : List Value) (e : TypedTree) (o : Option ℕ) → answer_key q store day group values e o ≡ answer_key bare store day group values (unplaced e) o
+  key_same : (group : List (List ℕ)) (values : List Value) (e : TypedTree) (o : Option ℕ) → answer_key q store terms group values e o ≡ answer_key bare store terms group values (unplaced e) o
   key_same group values e None = first_same group e
   key_same group values e (Some n) = refl
 
-  keys_same : (group : List (List ℕ)) (values : List Value) (n : ℕ) (keys : List (TypedTree × Bool)) → keys_from q store day group values n keys ≡ keys_from bare store day group values n (map unplaced_key keys)
+  keys_same : (group : List (List ℕ)) (values : List Value) (n : ℕ) (keys : List (TypedTree × Bool)) → keys_from q store terms group values n keys ≡ keys_from bare store terms group values n (map unplaced_key keys)
   keys_same group values n [] = refl
   keys_same group values n (k ∷ keys) = λ i. key_same group values k.0 (answer_item q.key_items n) i ∷ keys_same group values (n + 1) keys i
 
-  pub row_bare : (group : List (List ℕ)) (row : Keyed) → IsGroupRow q store day group row → IsGroupRow bare store day group row
+  pub row_bare : (group : List (List ℕ)) (row : Keyed) → IsGroupRow q store terms group row → IsGroupRow bare store terms group row
   row_bare group row h = record {
     values = h.values;
-    made = subst (λ (cs : List AnswerColumn). AllZip (IsColumnValue bare store day group) cs h.values) (columns_same q.aggs 0 q.items)
-        (zip_mapped (IsColumnValue q store day group) (IsColumnValue bare store day group) unplaced_column (column_bare group) (columns_of q) h.values h.made);
+    made = subst (λ (cs : List AnswerColumn). AllZip (IsColumnValue bare store terms group) cs h.values) (columns_same q.aggs 0 q.items)
+        (zip_mapped (IsColumnValue q store terms group) (IsColumnValue bare store terms group) unplaced_column (column_bare group) (columns_of q) h.values h.made);
     fields = h.fields;
     keys = h.keys ∙ keys_same group h.values 0 q.keys;
   }

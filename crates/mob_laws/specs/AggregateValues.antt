@@ -2,7 +2,7 @@
 --
 -- `IsAggregated` of `mob_tail` ignores a value of a form that it does not name, as it ignores NULL.
 -- In a typed query only NULL is such a value.
-use Rattle.std.{specs.Prelude.{◌≡◌, ◌⊎◌, ◌↔◌, ℕ, ℤ, Bool, false, List, Option, Some, Ok, is_some, map, slice_get}, specs.List.{AllByRecursion, AllZip}}
+use Rattle.std.{specs.Prelude.{◌≡◌, ◌⊎◌, ◌↔◌, ℕ, Bool, false, List, Option, Some, Ok, is_some, map, slice_get}, specs.List.{AllByRecursion, AllZip}}
 use Rattle.mob_ratio.specs.Ratio.{Ratio}
 use Rattle.mob_slice.{specs.declared.line.Line.{Line}, specs.declared.slice.Slice.{Slice}}
 use Rattle.mob_ast.specs.declared.types.SqlType.{SqlType}
@@ -19,6 +19,8 @@ use Rattle.mob_tail.specs.GroupedAnswers.{AnswerColumn, IsArgumentOn, IsColumnVa
 use Rattle.mob_arguments.specs.declared.options.Settings.{Settings}
 use Rattle.mob_shell.{specs.Inputs.{Input}, specs.Program.{WritesFirst}}
 use Rattle.mob_ast.specs.declared.types.SqlType.TheVariants as sql
+use Rattle.mob_meaning.specs.declared.terms.Terms.{Terms}
+use Rattle.mob_shell.specs.Terms.{terms_of}
 
 -- the types that an aggregate may give
 abbrev pub GivesType : AggKind → SqlType → Type 0
@@ -86,16 +88,16 @@ pub record ArgumentsHaveMeaning (e : TypedTree) (agg : Agg) (vs : List Value) : 
 
 -- A column of a grouped query has a meaning on a group of tuples: each value of it is NULL or of
 -- the type that typing gives it, and an aggregate has one on any values of its argument there.
-pub record ColumnHasMeaning (c : Catalogue) (q : TypedSelectParts) (day : ℤ) (group : List (List ℕ)) (column : AnswerColumn) : Type 0 where
-  pub own : (v : Value) → IsColumnValue q c.store day group column v → IsValueOf (value_type column.0 column.1) v
-  pub arguments : (agg : Agg) (vs : List Value) → column.1 ≡ Some agg → AllZip (λ t w. IsArgumentOn q c.store day t column (Ok w)) group vs → ArgumentsHaveMeaning column.0 agg vs
+pub record ColumnHasMeaning (c : Catalogue) (q : TypedSelectParts) (terms : Terms) (group : List (List ℕ)) (column : AnswerColumn) : Type 0 where
+  pub own : (v : Value) → IsColumnValue q c.store terms group column v → IsValueOf (value_type column.0 column.1) v
+  pub arguments : (agg : Agg) (vs : List Value) → column.1 ≡ Some agg → AllZip (λ t w. IsArgumentOn q c.store terms t column (Ok w)) group vs → ArgumentsHaveMeaning column.0 agg vs
 
 -- So does each column of a query that is typed for a catalogue, on any tuples. A query that is not
 -- grouped has no aggregate.
 abbrev pub TypedColumnsHaveMeanings : Type 0
-TypedColumnsHaveMeanings = (c : Catalogue) (q : TypedSelectParts) (day : ℤ) (group : List (List ℕ)) → IsTypedFor c q → AllByRecursion (ColumnHasMeaning c q day group) (columns_of q)
+TypedColumnsHaveMeanings = (c : Catalogue) (q : TypedSelectParts) (terms : Terms) (group : List (List ℕ)) → IsTypedFor c q → AllByRecursion (ColumnHasMeaning c q terms group) (columns_of q)
 
 -- So does each column of the next query of a run.
 abbrev pub RunColumnsHaveMeanings : Type 0
 RunColumnsHaveMeanings = (settings : Settings) (input : Input) (count : ℕ) (text : List ℕ) (run : WritesFirst settings input count text) (q : TypedSelectParts) (group : List (List ℕ))
-    → slice_get run.out.statements count ≡ Some (query q) → AllByRecursion (ColumnHasMeaning run.stands.catalogue q settings.epoch group) (columns_of q)
+    → slice_get run.out.statements count ≡ Some (query q) → AllByRecursion (ColumnHasMeaning run.stands.catalogue q (terms_of settings) group) (columns_of q)

@@ -1,11 +1,13 @@
 -- Scripts that differ in CREATE INDEX statements, and their answers.
-use Rattle.std.{specs.Prelude.{◌≡◌, ℕ, ℤ, List, [], ◌∷◌, ◌++◌, Bool, map, option_map}, specs.List.{AllByRecursion, concat, flat_map}}
+use Rattle.std.{specs.Prelude.{◌≡◌, ℕ, List, [], ◌∷◌, ◌++◌, Bool, map, option_map}, specs.List.{AllByRecursion, concat, flat_map}}
 use Rattle.mob_typed.{specs.declared.typed.Agg.{Agg}, specs.declared.typed.ConstText.{ConstText}, specs.Trees.{TypedTree, typed, TypedTrees, none, more}, specs.Selects.{Output, TypedSelectParts}}
 use Rattle.mob_typed.specs.Statements.{ScriptOut, StatementOut, nothing, new_table, new_index, new_rows, rows_from, deletion, query, plan_of}
 use Rattle.mob_arguments.specs.declared.options.Settings.{Settings}
 use Rattle.mob_accept.specs.Accepts.{IsAccepted}
 use Rattle.mob_load.specs.declared.program.Program.{Program}
 use Rattle.mob_shell.{specs.Inputs.{Input}, specs.Program.{IsProgram, ProgramWrites}, specs.Runs.{RunState, RunsStatement, begin}, specs.SameAnswers.{DifferInWorkers}}
+use Rattle.mob_meaning.specs.declared.terms.Terms.{Terms}
+use Rattle.mob_shell.specs.Terms.{terms_of}
 
 -- ---- without places
 
@@ -100,16 +102,16 @@ answer_in _ text = []
 
 -- The statements run one after another from the state of a run, and these are the texts of the
 -- answers of their SELECTs, in order.
-abbrev pub Answered : ℤ → RunState → List StatementOut → List (List ℕ) → Type 0
-Answered day s [] answers = answers ≡ []
-Answered day s (x ∷ xs) answers = (t : RunState) × (text : List ℕ) × (rest : List (List ℕ)) × RunsStatement day s x t text × Answered day t xs rest × (answers ≡ answer_in x text ++ rest)
+abbrev pub Answered : Terms → RunState → List StatementOut → List (List ℕ) → Type 0
+Answered terms s [] answers = answers ≡ []
+Answered terms s (x ∷ xs) answers = (t : RunState) × (text : List ℕ) × (rest : List (List ℕ)) × RunsStatement terms s x t text × Answered terms t xs rest × (answers ≡ answer_in x text ++ rest)
 
 -- All statements of a program run, and these are the answers of its SELECTs.
 pub record ProgramAnswers (settings : Settings) (input : Input) (answers : List (List ℕ)) : Type 0 where
   pub out : ScriptOut
   pub program : Program
   pub is : IsProgram settings input out program
-  pub answered : Answered settings.epoch (begin program) out.statements answers
+  pub answered : Answered (terms_of settings) (begin program) out.statements answers
 
 -- a statement that is not an EXPLAIN
 abbrev pub IsNoExplain : StatementOut → Type 0

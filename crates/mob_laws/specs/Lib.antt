@@ -3,3 +3,4 @@ pub mod ExpressionTypes
 pub mod IndexScripts
 pub mod KeptTuples
 pub mod BlankedScripts
+pub mod WideAnswers

@@ -4,3 +4,4 @@
 pub mod aggregates;
 pub mod indexes;
 pub mod kept;
+pub mod wide;

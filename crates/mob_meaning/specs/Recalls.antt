@@ -18,10 +18,10 @@ abbrev mutual
   pub TreeRecalls : Scene → Recall → TypedTree → Result Value PlacedFormula → Type 0
   TreeRecalls s recall (typed o ty place args) (Ok v) =
       (recall (typed o ty place args) ≡ Some (Ok v))
-      ⊎ ((recall (typed o ty place args) ≡ None) × ((vs : List Value) × OperandsRecall s recall (stop_of o) args (Ok vs) × IsFirstFormula o ty (arg_types args) vs None × OperatorGives s o ty (arg_types args) vs v))
+      ⊎ ((recall (typed o ty place args) ≡ None) × ((vs : List Value) × OperandsRecall s recall (stop_of o) args (Ok vs) × IsFirstFormula s.terms.mode o ty (arg_types args) vs None × OperatorGives s o ty (arg_types args) vs v))
   TreeRecalls s recall (typed o ty place args) (Err f) =
       (recall (typed o ty place args) ≡ Some (Err f))
-      ⊎ ((recall (typed o ty place args) ≡ None) × (OperandsRecall s recall (stop_of o) args (Err f) ⊎ ((vs : List Value) × OperandsRecall s recall (stop_of o) args (Ok vs) × IsFirstFormula o ty (arg_types args) vs (Some f.1) × (f.0 ≡ place))))
+      ⊎ ((recall (typed o ty place args) ≡ None) × (OperandsRecall s recall (stop_of o) args (Err f) ⊎ ((vs : List Value) × OperandsRecall s recall (stop_of o) args (Ok vs) × IsFirstFormula s.terms.mode o ty (arg_types args) vs (Some f.1) × (f.0 ≡ place))))
 
   pub OperandsRecall : Scene → Recall → Option Bool → TypedTrees → Result (List Value) PlacedFormula → Type 0
   OperandsRecall s recall stop none (Ok vs) = vs ≡ []

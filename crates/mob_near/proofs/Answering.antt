@@ -53,7 +53,7 @@ module _ (d : Ratio) (left right : Ratio → Option Point) where
   )
 
   -- two points are within a distance exactly if their squares compare that way
-  pub within_by_squares : (s : Ratio) (r : Result (Option Bool) Formula) → before d nil ≡ false → s ≡ d *ℚ d → IfOk r (IsEver (λ x y. up_to (distance_squared x y) s) left right) → IfOk r (IsEver (are_within d) left right)
+  pub within_by_squares : {E : Type 0} (s : Ratio) (r : Result (Option Bool) E) → before d nil ≡ false → s ≡ d *ℚ d → IfOk r (IsEver (λ x y. up_to (distance_squared x y) s) left right) → IfOk r (IsEver (are_within d) left right)
   within_by_squares s (Ok v) h e k = ever_within_by s v h e k
   within_by_squares s (Err f) h e k = tt
 

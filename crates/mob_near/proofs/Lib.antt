@@ -2,7 +2,13 @@ pub mod Formulas
 pub mod Place
 pub mod OnPieces
 pub mod AllNearest
+pub mod Apart
+pub mod Far
+pub mod Runs
+pub mod Broadly
+pub mod Widely
 pub mod Judging
+pub mod Narrowing
 pub mod Answering
 pub mod OneApproach
 pub mod Examples

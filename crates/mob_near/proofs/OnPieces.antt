@@ -30,7 +30,7 @@ short_square g r t h = rw (line_at-short g.x0 g.x1 r.lower r.upper t h, line_at-
 abbrev pub IsReachedOn : Ratio → PointPiece → Type 0
 IsReachedOn D p = (piece_reaches D p ≡ true) ↔ ((t : Ratio) × (has p.span t ≡ true) × (up_to (square_on p t) D ≡ true))
 
-reached_by : (D : Ratio) (p : PointPiece) → nil ≤ℚ D → IsHeld p → has_instant p.span ≡ true → (b : Bool) → before p.span.lower p.span.upper ≡ b → IsReachedOn D p
+pub reached_by : (D : Ratio) (p : PointPiece) → nil ≤ℚ D → IsHeld p → has_instant p.span ≡ true → (b : Bool) → before p.span.lower p.span.upper ≡ b → IsReachedOn D p
 reached_by D p hd held some true e =
     let f = reached (leg_of p) p.span D e hd in (
       (λ h. let m = f.0 (subst (λ b. cond b (leg_reaches D p.span.lower_inc p.span.upper_inc (leg_of p)) (up_to (squares_of (leg_of p)).first D) ≡ true) e h) in (m.0, m.1, ap (λ z. up_to z D) (along_leg p held some m.0 m.1) ∙ m.2)),
@@ -52,7 +52,7 @@ pub record IsNearestOn (p : PointPiece) (m : Ratio) : Type 0 where
   pub lower : (t : Ratio) → has p.span t ≡ true → up_to m (square_on p t) ≡ true
   pub greatest : (n : Ratio) → before m n ≡ true → (t : Ratio) × (has p.span t ≡ true) × (before (square_on p t) n ≡ true)
 
-nearest_by : (p : PointPiece) → IsHeld p → has_instant p.span ≡ true → (b : Bool) → before p.span.lower p.span.upper ≡ b → IsNearestOn p (cond b (leg_approach (leg_of p)) (squares_of (leg_of p)).first)
+pub nearest_by : (p : PointPiece) → IsHeld p → has_instant p.span ≡ true → (b : Bool) → before p.span.lower p.span.upper ≡ b → IsNearestOn p (cond b (leg_approach (leg_of p)) (squares_of (leg_of p)).first)
 nearest_by p held some true e =
     let f = approached (leg_of p) p.span e in
     record {

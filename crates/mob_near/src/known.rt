@@ -243,8 +243,8 @@ fn squared_again(squared: &Option<Squared>, x: &Frac, y: &Frac) -> Option<Frac>
     }
 }
 
-// The squared length of a vector.
-fn square_of(x: &Frac, y: &Frac) -> Result<Frac, Overflow>
+/// The squared length of a vector. It is `Overflow` exactly if a part of F6 does not fit.
+pub fn square_of(x: &Frac, y: &Frac) -> Result<Frac, Overflow>
     ensures value { IsFormula (square_parts x.now y.now) (length_squared x.now y.now) result }
 {
     let east = x.mul(x)?;

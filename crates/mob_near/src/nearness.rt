@@ -22,8 +22,8 @@ use mob_plane::smaller;
 use mob_slice::{Formula, Operand, PlaneLine};
 use std::alloc::Global;
 
-// Whether some instant is common.
-fn share_time(a: Operand<'_, PlaneLine>, b: Operand<'_, PlaneLine>) -> bool
+/// Whether some instant is common.
+pub fn share_time(a: Operand<'_, PlaneLine>, b: Operand<'_, PlaneLine>) -> bool
     requires moving { (has_slices (operand_of a) || has_slices (operand_of b)) ≡ true }
     ensures common { IsTrue result ↔ HaveCommon (given_at plane_value_of (operand_of a.entry)) (given_at plane_value_of (operand_of b.entry)) }
     ensures value { result ≡ are_some (pieces (operand_of a.entry) (operand_of b.entry)) }
@@ -32,8 +32,8 @@ fn share_time(a: Operand<'_, PlaneLine>, b: Operand<'_, PlaneLine>) -> bool
     pieces.next().is_some()
 }
 
-// `false`, if some instant is common.
-fn never(shared: bool) -> Option<bool>
+/// `false`, if some instant is common.
+pub fn never(shared: bool) -> Option<bool>
     ensures value { result ≡ cond shared (Some false) None }
 {
     if shared {

@@ -11,7 +11,7 @@ use Rattle.mob_value.specs.declared.value.Value.TheVariants as value
 
 -- `mobnear --k K --to TEXT [--epoch DATE]`
 abbrev pub near_command : App
-near_command = command_of (codes "mobnear") (codes "k" ∷ codes "to" ∷ codes "epoch" ∷ [])
+near_command = command_of (codes "mobnear") (codes "k" ∷ codes "to" ∷ codes "epoch" ∷ []) []
 
 -- a text with an `@` is read as a tgeompoint, every other one as a point
 abbrev pub target_type : Text → SqlType

@@ -24,7 +24,7 @@ pub fn values_in<'a>(alloc: Global, words: &'a [String]) -> Result<Option<Values
     ensures epoch { IfOk result (λ o. IfSome o (λ v. option_map (λ s. s.now) v.epoch ≡ option_value near_command (codes "epoch") (map string_bytes words.entry.now))) }
     ensures to { IfOk result (λ o. IfSome o (λ v. option_map (λ s. s.now) v.to ≡ option_value near_command (codes "to") (map string_bytes words.entry.now))) }
 {
-    let Some(matches) = given(alloc, "mobnear", &["k", "to", "epoch"], words)? else {
+    let Some(matches) = given(alloc, "mobnear", &["k", "to", "epoch"], &[], words)? else {
         return Ok(None);
     };
     Ok(Some(Values {

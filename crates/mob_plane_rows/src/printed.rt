@@ -18,6 +18,7 @@ fn name(formula: Formula) -> &'static str {
         Formula::F5 => "F5",
         Formula::F6 => "F6",
         Formula::F7 => "F7",
+        Formula::Given => "given",
     }
 }
 

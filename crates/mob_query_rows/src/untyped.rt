@@ -7,8 +7,10 @@ use mob_eval::eval;
 use mob_frac::Frac;
 use mob_list::items::Items;
 use mob_list::text::Text;
+use mob_meaning::Terms;
 use mob_operators::Op;
 use mob_scalar::Epoch;
+use mob_slice::Mode;
 use mob_typed::TExpr;
 use mob_value::{Store, Value};
 use std::alloc::{AllocError, Global};
@@ -72,10 +74,11 @@ static UNTYPED: [(Op, &[u32]); 13] = [
 ];
 
 fn is_nothing(alloc: Global, store: &Store, e: &TExpr) -> bool {
-    matches!(
-        &eval(alloc, e, store, &[0], &[1], &Epoch::standard()),
-        Ok(Value::Null)
-    )
+    let terms = Terms {
+        epoch: Epoch::standard(),
+        mode: Mode::Narrow,
+    };
+    matches!(&eval(alloc, e, store, &[0], &[1], &terms), Ok(Value::Null))
 }
 
 fn is_null(alloc: Global, store: &Store, op: Op, operands: &[u32]) -> bool {

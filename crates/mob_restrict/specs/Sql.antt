@@ -3,3 +3,4 @@ pub mod Times
 pub mod ByValue
 pub mod Coordinates
 pub mod Entries
+pub mod Wide

@@ -15,8 +15,13 @@ use Rattle.mob_shell.{specs.Program.{IsHalted, IsProgram, ProgramWrites, StopsWi
 use Rattle.mob_shell.specs.SameAnswers.{DifferInWorkers, IndexesAnswerTheSame, IndexesDeleteTheSame, IndexesKeepTheSame, WorkersEndTheSame, WorkersReadTheSame, WorkersWriteTheSame}
 use Rattle.mob_shell.specs.StepOutcomes.{OneAnswer}
 use Rattle.mob_statements.specs.Statements.{Ran}
+use Rattle.mob_meaning.specs.declared.terms.Terms.{Terms}
+use Rattle.mob_shell.specs.Terms.{mode_of, terms_of}
 
 -- ---- workers
+
+pub same_terms : (one other : Settings) → DifferInWorkers one other → terms_of one ≡ terms_of other
+same_terms one other differ = λ i. record { epoch = differ.epoch i; mode = mode_of (differ.wide i) }
 
 pub read_the_same : WorkersReadTheSame
 read_the_same one other differ s input h = record {
@@ -37,7 +42,7 @@ module _ (one other : Settings) (differ : DifferInWorkers one other) (input : In
     program = h.program;
     is = other_program h.out h.program h.is;
     stands = h.stands;
-    ran = subst (λ (d : ℤ). Ran (RunsStatement d) (begin h.program) h.out.statements h.stands text) differ.epoch h.ran;
+    ran = subst (λ (d : Terms). Ran (RunsStatement d) (begin h.program) h.out.statements h.stands text) (same_terms one other differ) h.ran;
   }
 
   other_stop : (text : List ℕ) (number : ℕ) (f : TupleFault) → StopsWith one input text number f → StopsWith other input text number f
@@ -48,10 +53,10 @@ module _ (one other : Settings) (differ : DifferInWorkers one other) (input : In
     before = h.before;
     counts = h.counts;
     stands = h.stands;
-    ran = subst (λ (d : ℤ). Ran (RunsStatement d) (begin h.program) (take h.before h.out.statements) h.stands text) differ.epoch h.ran;
+    ran = subst (λ (d : Terms). Ran (RunsStatement d) (begin h.program) (take h.before h.out.statements) h.stands text) (same_terms one other differ) h.ran;
     statement = h.statement;
     there = h.there;
-    stops = subst (λ (d : ℤ). Stops d h.stands h.statement f) differ.epoch h.stops;
+    stops = subst (λ (d : Terms). Stops d h.stands h.statement f) (same_terms one other differ) h.stops;
   }
 
   other_due : (ending : Ending) → IsDue one input ending → IsDue other input ending
@@ -75,19 +80,19 @@ write_the_same one other differ input text h = other_text one other differ input
 -- ---- indexes
 
 -- the tuples on which WHERE is true, by the store and the live rows
-abbrev MeetOn : TypedSelectParts → ℤ → List (List ℕ) → Store → List TableHead → Type 0
-MeetOn select day kept store heads = AreThoseThatMeet (conditions select) (λ visit. IsMet (condition_at select visit.on) (scene store select.from visit.tuple day)) (live_of heads) select.from kept
+abbrev MeetOn : TypedSelectParts → Terms → List (List ℕ) → Store → List TableHead → Type 0
+MeetOn select terms kept store heads = AreThoseThatMeet (conditions select) (λ visit. IsMet (condition_at select visit.on) (scene store select.from visit.tuple terms)) (live_of heads) select.from kept
 
 pub keep_the_same : IndexesKeepTheSame
-keep_the_same select one other day kept others differ h k =
-    let there : MeetOn select day others other.store other.heads = k.1 in
-    let here : MeetOn select day others one.store one.heads =
-    subst (λ (heads : List TableHead). MeetOn select day others one.store heads) (sym differ.heads) (subst (λ (store : Store). MeetOn select day others store other.heads) (sym differ.store) there) in
-    those_once (conditions select) (IsMetAt select one day) (live_rows one) select.from kept others h.1 here
+keep_the_same select one other terms kept others differ h k =
+    let there : MeetOn select terms others other.store other.heads = k.1 in
+    let here : MeetOn select terms others one.store one.heads =
+    subst (λ (heads : List TableHead). MeetOn select terms others one.store heads) (sym differ.heads) (subst (λ (store : Store). MeetOn select terms others store other.heads) (sym differ.store) there) in
+    those_once (conditions select) (IsMetAt select one terms) (live_rows one) select.from kept others h.1 here
 
 pub delete_the_same : IndexesKeepTheSame → IndexesDeleteTheSame
-delete_the_same keeps select one other day left others differ h k =
-    let kept : h.0 ≡ k.0 = keeps select one other day h.0 k.0 differ h.1 k.1 in
+delete_the_same keeps select one other terms left others differ h k =
+    let kept : h.0 ≡ k.0 = keeps select one other terms h.0 k.0 differ h.1 k.1 in
     let heads : (with_deleted (deleted_table select) (first_rows h.0) one).heads ≡ (with_deleted (deleted_table select) (first_rows k.0) other).heads =
     ap (λ (heads : List TableHead). with_changed (deleted_table select) (without_rows (first_rows h.0)) heads) differ.heads
     ∙ ap (λ (rows : List (List ℕ)). with_changed (deleted_table select) (without_rows (first_rows rows)) other.heads) kept in
@@ -97,11 +102,11 @@ delete_the_same keeps select one other day left others differ h k =
     }
 
 pub answer_the_same : OneAnswer → IndexesAnswerTheSame
-answer_the_same once select one other day rows others differ h k =
-    let here : QueryAnswers select one day (Ok others) = (
+answer_the_same once select one other terms rows others differ h k =
+    let here : QueryAnswers select one terms (Ok others) = (
       k.0,
-      subst (λ kept. IsKept select one day (Ok kept)) (keep_the_same select one other day h.0 k.0 differ h.1 k.1) h.1,
-      subst (λ (store : Store). IsAnswerOnKept select store day k.0 (Ok others)) (sym differ.store) k.2,
+      subst (λ kept. IsKept select one terms (Ok kept)) (keep_the_same select one other terms h.0 k.0 differ h.1 k.1) h.1,
+      subst (λ (store : Store). IsAnswerOnKept select store terms k.0 (Ok others)) (sym differ.store) k.2,
     ) in
-    let e = once select one day (Ok rows) (Ok others) h here in
+    let e = once select one terms (Ok rows) (Ok others) h here in
     cc e

@@ -2,6 +2,7 @@ pub mod Bisection
 pub mod Cuts
 pub mod Examples
 pub mod Firsts
+pub mod Narrowing
 pub mod LookUps
 pub mod OneAt
 pub mod Orders

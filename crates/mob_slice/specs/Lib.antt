@@ -11,6 +11,8 @@ pub mod Operands
 pub mod Computed
 pub mod Comparison
 pub mod Entries
+pub mod Modes
+pub mod Numbers
 pub mod Cut
 pub mod Instants
 pub mod Sides

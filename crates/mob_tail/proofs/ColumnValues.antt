@@ -16,7 +16,7 @@ module _ (s : Scene) (o : Op) (ty : SqlType) (place : ℕ) where
 
   leaf_fits : (f : PlacedFormula) → TreeEvaluatesTo s (typed o ty place none) (Err f) → ⊥
   leaf_fits f (inl h) = h
-  leaf_fits f (inr h) = let k : Some f.1 ≡ None = subst (λ z. IsFirstFormula o ty [] z (Some f.1)) h.1 h.2 in absurd cc
+  leaf_fits f (inr h) = let k : Some f.1 ≡ None = subst (λ z. IsFirstFormula s.terms.mode o ty [] z (Some f.1)) h.1 h.2 in absurd cc
 
 -- an expression without operands
 bare : (e : TExpr) → is_bare_column (out-TExpr e).args.items ≡ true → typed_of e ≡ typed (out-TExpr e).op (out-TExpr e).ty (out-TExpr e).place none

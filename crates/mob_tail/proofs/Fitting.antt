@@ -1,10 +1,11 @@
 -- The select list and the keys of a query fit what is remembered of them.
-use Rattle.std.{specs.List.{AllByRecursion}, proofs.Common.{◌≡◌, ◌<◌, ◌++◌, ℕ, zero, suc, ℤ, List, [], ◌∷◌, length, get_or, map, take, drop, sym, ap, subst, ◌∙◌, arith}}
+use Rattle.std.{specs.List.{AllByRecursion}, proofs.Common.{◌≡◌, ◌<◌, ◌++◌, ℕ, zero, suc, List, [], ◌∷◌, length, get_or, map, take, drop, sym, ap, subst, ◌∙◌, arith}}
 use Rattle.std.{proofs.lemmas.List.{length-map, map-append}, proofs.Math.Seq.{take-append_seam, drop-append_seam}}
 use Rattle.mob_typed.specs.Selects.{TypedSelectParts}
 use Rattle.mob_value.specs.declared.store.Store.{Store}
 use Rattle.mob_eval.proofs.Fitting.{roots_fit}
 use Rattle.mob_tail.specs.Recalling.{AnswerFits, answer_recollection, item_trees, order_trees}
+use Rattle.mob_meaning.specs.declared.terms.Terms.{Terms}
 
 module _ {X : Type 0} (P : X → Type 0) where
   -- at the place i of a list
@@ -22,5 +23,5 @@ halves see ws front back xs ys parts count seen =
       sym (drop-append_seam (map see front) (map see back)) ∙ (λ i. drop (n i) (both i)) ∙ drop-append_seam xs ys,
     )
 
-pub answer_fits : (select : TypedSelectParts) (store : Store) (day : ℤ) → AnswerFits (answer_recollection select store day) select store day
-answer_fits select store day tuple = roots_fit store select.from tuple day (item_trees select ++ order_trees select)
+pub answer_fits : (select : TypedSelectParts) (store : Store) (terms : Terms) → AnswerFits (answer_recollection select store terms) select store terms
+answer_fits select store terms tuple = roots_fit store select.from tuple terms (item_trees select ++ order_trees select)

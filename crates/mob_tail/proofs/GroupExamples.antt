@@ -6,6 +6,7 @@ use Rattle.mob_value.{specs.declared.value.Value.TheVariants.{Null, Bool as Trut
 use Rattle.mob_tail.{specs.Aggregated.{counted_values, IsAggregated, AddingPasses}, specs.Groups.{groups_on}}
 use Rattle.mob_ast.specs.declared.types.SqlType.TheVariants as sql
 use Rattle.mob_operators.specs.declared.operator.Op.TheVariants as op
+use Rattle.mob_slice.specs.declared.mode.Mode.TheVariants.{Narrow}
 
 -- count(*) counts NULL, count does not, and the sum of no numbers is NULL
 rows_counted : IsAggregated CountAll sql.Int (Null ∷ Null ∷ []) (counted_values 2)
@@ -38,15 +39,15 @@ abbrev of_all : TypedSelectParts
 of_all = record { distinct = false; items = []; from = 0 ∷ []; names = []; joins = None ∷ []; cond = None; grouped = true; groups = []; aggs = []; keys = []; key_items = []; limit = None }
 
 -- groups come in the order of their first tuple, and NULL is a group of its own
-two_groups : groups_on by_column store (pos 10957) ((0 ∷ []) ∷ (1 ∷ []) ∷ (2 ∷ []) ∷ []) ≡ ((0 ∷ []) ∷ (2 ∷ []) ∷ []) ∷ ((1 ∷ []) ∷ []) ∷ []
+two_groups : groups_on by_column store (record { epoch = pos 10957; mode = Narrow }) ((0 ∷ []) ∷ (1 ∷ []) ∷ (2 ∷ []) ∷ []) ≡ ((0 ∷ []) ∷ (2 ∷ []) ∷ []) ∷ ((1 ∷ []) ∷ []) ∷ []
 two_groups = refl
 
 -- without GROUP BY there is one group, even of no tuples
-one_group : groups_on of_all store (pos 10957) ((0 ∷ []) ∷ (1 ∷ []) ∷ []) ≡ ((0 ∷ []) ∷ (1 ∷ []) ∷ []) ∷ []
+one_group : groups_on of_all store (record { epoch = pos 10957; mode = Narrow }) ((0 ∷ []) ∷ (1 ∷ []) ∷ []) ≡ ((0 ∷ []) ∷ (1 ∷ []) ∷ []) ∷ []
 one_group = refl
 
-empty_group : groups_on of_all store (pos 10957) [] ≡ [] ∷ []
+empty_group : groups_on of_all store (record { epoch = pos 10957; mode = Narrow }) [] ≡ [] ∷ []
 empty_group = refl
 
-no_group : groups_on by_column store (pos 10957) [] ≡ []
+no_group : groups_on by_column store (record { epoch = pos 10957; mode = Narrow }) [] ≡ []
 no_group = refl

@@ -1,5 +1,5 @@
 -- The groups of tuples by their fields, tuple by tuple.
-use Rattle.std.specs.Prelude.{◌≡◌, Bool, true, false, cond, not, ◌||◌, ℕ, zero, suc, ◌+◌, ◌<◌, ℤ, refl, List, [], ◌∷◌, ◌++◌, map, filter, length, get_or, set}
+use Rattle.std.specs.Prelude.{◌≡◌, Bool, true, false, cond, not, ◌||◌, ℕ, zero, suc, ◌+◌, ◌<◌, refl, List, [], ◌∷◌, ◌++◌, map, filter, length, get_or, set}
 use Rattle.std.{specs.List.{AllZip, list_any, position_or_len}, specs.Cmp.{IsEquivalence}, specs.Cmp.Lexicographic.{lists_equiv, nat_list_eq_equiv}}
 use Rattle.std.proofs.Common.{ap, ap₂, sym, ◌∙◌, subst, arith, true≢false}
 use Rattle.mob_typed.{specs.Selects.{TypedSelectParts}, specs.Trees.{TypedTree}}
@@ -9,6 +9,7 @@ use Rattle.mob_value.specs.declared.store.Store.{Store}
 use Rattle.mob_groups.specs.Groups.{first_keys, members}
 use Rattle.mob_tagg.specs.Rows.{earlier}
 use Rattle.mob_tail.{specs.declared.group_memos.Group.{Group}, specs.Groups.{is_bare_column, column_on, group_fields, same_texts, same_group, under_fields, has_groups}}
+use Rattle.mob_meaning.specs.declared.terms.Terms.{Terms}
 
 -- any two keys differ
 abbrev pub AreApart : {K : Type 0} → (K → K → Bool) → List K → Type 0
@@ -77,13 +78,13 @@ module _ {K : Type 0} (same : K → K → Bool) (equal : IsEquivalence same) whe
 pub texts_equal : IsEquivalence same_texts
 texts_equal = lists_equiv nat_list_eq_equiv
 
-module _ (select : TypedSelectParts) (store : Store) (day : ℤ) where
+module _ (select : TypedSelectParts) (store : Store) (terms : Terms) where
   abbrev Fields : List ℕ → List (List ℕ)
-  Fields t = group_fields select store day t
+  Fields t = group_fields select store terms t
 
   -- the tuples with these fields
   abbrev pub With : List (List ℕ) → List (List ℕ) → List (List ℕ)
-  With k ts = members same_texts k (under_fields select store day ts)
+  With k ts = members same_texts k (under_fields select store terms ts)
 
   abbrev second : List (List ℕ) × List ℕ → List ℕ
   second e = e.1
@@ -97,7 +98,7 @@ module _ (select : TypedSelectParts) (store : Store) (day : ℤ) where
   with_more k (u ∷ ts) t = by (same_texts k (Fields u)) (with_more k ts t)
     where
       by : (b : Bool) → With k (ts ++ t ∷ []) ≡ With k ts ++ cond (same_texts k (Fields t)) (t ∷ []) []
-          → map second (cond b ((Fields u, u) ∷ filter (λ e. same_texts k e.0) (under_fields select store day (ts ++ t ∷ []))) (filter (λ e. same_texts k e.0) (under_fields select store day (ts ++ t ∷ [])))) ≡ map second (cond b ((Fields u, u) ∷ filter (λ e. same_texts k e.0) (under_fields select store day ts)) (filter (λ e. same_texts k e.0) (under_fields select store day ts))) ++ cond (same_texts k (Fields t)) (t ∷ []) []
+          → map second (cond b ((Fields u, u) ∷ filter (λ e. same_texts k e.0) (under_fields select store terms (ts ++ t ∷ []))) (filter (λ e. same_texts k e.0) (under_fields select store terms (ts ++ t ∷ [])))) ≡ map second (cond b ((Fields u, u) ∷ filter (λ e. same_texts k e.0) (under_fields select store terms ts)) (filter (λ e. same_texts k e.0) (under_fields select store terms ts))) ++ cond (same_texts k (Fields t)) (t ∷ []) []
       by true e = ap (λ z. u ∷ z) e
       by false e = e
 
@@ -112,12 +113,12 @@ module _ (select : TypedSelectParts) (store : Store) (day : ℤ) where
   with_no k ts t h = with_more k ts t ∙ ap (λ b. With k ts ++ cond b (t ∷ []) []) (texts_equal.symm k (Fields t) ∙ h) ∙ nothing_behind (With k ts)
 
   -- the tuples with the fields of t are those of its group
-  pub with_earlier : (k : List (List ℕ)) (ts : List (List ℕ)) (t : List ℕ) → same_texts (Fields t) k ≡ true → With k ts ≡ earlier (same_group select store day) ts t
+  pub with_earlier : (k : List (List ℕ)) (ts : List (List ℕ)) (t : List ℕ) → same_texts (Fields t) k ≡ true → With k ts ≡ earlier (same_group select store terms) ts t
   with_earlier k [] t h = refl
   with_earlier k (u ∷ ts) t h = by (same_texts k (Fields u)) (same_texts (Fields t) (Fields u)) (sym (texts_equal.congr (Fields t) k (Fields u) h)) (with_earlier k ts t h)
     where
-      by : (a b : Bool) → a ≡ b → With k ts ≡ earlier (same_group select store day) ts t
-          → map second (cond a ((Fields u, u) ∷ filter (λ e. same_texts k e.0) (under_fields select store day ts)) (filter (λ e. same_texts k e.0) (under_fields select store day ts))) ≡ cond b (u ∷ earlier (same_group select store day) ts t) (earlier (same_group select store day) ts t)
+      by : (a b : Bool) → a ≡ b → With k ts ≡ earlier (same_group select store terms) ts t
+          → map second (cond a ((Fields u, u) ∷ filter (λ e. same_texts k e.0) (under_fields select store terms ts)) (filter (λ e. same_texts k e.0) (under_fields select store terms ts))) ≡ cond b (u ∷ earlier (same_group select store terms) ts t) (earlier (same_group select store terms) ts t)
       by true true e f = ap (λ z. u ∷ z) f
       by true false e f = absurd (true≢false e)
       by false true e f = absurd (true≢false (sym e))
@@ -183,6 +184,6 @@ module _ (select : TypedSelectParts) (store : Store) (day : ℤ) where
   pub no_fields : has_groups select ≡ false → (t : List ℕ) → Fields t ≡ []
   no_fields h t = by select.groups h
     where
-      by : (gs : List TypedTree) → not (is_bare_column gs) ≡ false → map (λ g. field_text day (column_on (scene store select.from t day) g)) gs ≡ []
+      by : (gs : List TypedTree) → not (is_bare_column gs) ≡ false → map (λ g. field_text terms.epoch (column_on (scene store select.from t terms) g)) gs ≡ []
       by [] h = refl
       by (g ∷ gs) h = absurd (true≢false h)

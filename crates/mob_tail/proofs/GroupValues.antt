@@ -17,6 +17,7 @@ use Rattle.mob_catalog.specs.OwnTypes.{IsReadAs}
 use Rattle.mob_tail.{specs.Groups.{column_on, group_fields}, specs.GroupLaws.{GroupsAreOfValues, HasSameValue, IsKeyOn, IsStoredAs}, proofs.FieldsTell.{fields_tell}}
 use Rattle.mob_ast.specs.declared.types.SqlType.TheVariants as sql
 use Rattle.mob_value.specs.declared.value.Value.TheVariants as value
+use Rattle.mob_meaning.specs.declared.terms.Terms.{Terms}
 
 -- ---- moments, also those outside the years 0001 to 9999
 
@@ -121,22 +122,22 @@ key_told type day v w k h j e = absurd (true≢false (sym k))
 
 -- ---- tuples
 
-module _ (select : TypedSelectParts) (store : Store) (day : ℤ) (t u : List ℕ) where
+module _ (select : TypedSelectParts) (store : Store) (terms : Terms) (t u : List ℕ) where
   abbrev fields_on : List ℕ → List TypedTree → List (List ℕ)
-  fields_on tuple columns = map (λ g. field_text day (column_on (scene store select.from tuple day) g)) columns
+  fields_on tuple columns = map (λ g. field_text terms.epoch (column_on (scene store select.from tuple terms) g)) columns
 
-  values_by : (columns : List TypedTree) → AllByRecursion (IsKeyOn select store day t) columns → AllByRecursion (IsKeyOn select store day u) columns → fields_on t columns ≡ fields_on u columns → AllByRecursion (HasSameValue select store day t u) columns
+  values_by : (columns : List TypedTree) → AllByRecursion (IsKeyOn select store terms t) columns → AllByRecursion (IsKeyOn select store terms u) columns → fields_on t columns ≡ fields_on u columns → AllByRecursion (HasSameValue select store terms t u) columns
   values_by [] h j e = tt
   values_by (g ∷ columns) h j e =
-      let first : field_text day (column_on (scene store select.from t day) g) ≡ field_text day (column_on (scene store select.from u day) g) = cc e in
+      let first : field_text terms.epoch (column_on (scene store select.from t terms) g) ≡ field_text terms.epoch (column_on (scene store select.from u terms) g) = cc e in
       let rest : fields_on t columns ≡ fields_on u columns = cc e in
-      (key_told (type_of g) day _ _ h.0.0 h.0.1 j.0.1 first, values_by columns h.1 j.1 rest)
+      (key_told (type_of g) terms.epoch _ _ h.0.0 h.0.1 j.0.1 first, values_by columns h.1 j.1 rest)
 
-  fields_by : (columns : List TypedTree) → AllByRecursion (HasSameValue select store day t u) columns → fields_on t columns ≡ fields_on u columns
+  fields_by : (columns : List TypedTree) → AllByRecursion (HasSameValue select store terms t u) columns → fields_on t columns ≡ fields_on u columns
   fields_by [] h = refl
-  fields_by (g ∷ columns) h = ap₂ (λ (x : List ℕ) (xs : List (List ℕ)). x ∷ xs) (ap (field_text day) h.0) (fields_by columns h.1)
+  fields_by (g ∷ columns) h = ap₂ (λ (x : List ℕ) (xs : List (List ℕ)). x ∷ xs) (ap (field_text terms.epoch) h.0) (fields_by columns h.1)
 
 pub groups_are_of_values : GroupsAreOfValues
-groups_are_of_values select store day t u h j =
-    let tells = pointwise_decides bytes_decides (group_fields select store day t) (group_fields select store day u) in
-    (λ same. values_by select store day t u select.groups h j (tells.0 same), λ same. tells.1 (fields_by select store day t u select.groups same))
+groups_are_of_values select store terms t u h j =
+    let tells = pointwise_decides bytes_decides (group_fields select store terms t) (group_fields select store terms u) in
+    (λ same. values_by select store terms t u select.groups h j (tells.0 same), λ same. tells.1 (fields_by select store terms t u select.groups same))

@@ -1,5 +1,5 @@
 -- Kept tuples have one answer.
-use Rattle.std.{specs.Ordering.{is_lt}, proofs.Common.{◌≡◌, inl, inr, ℤ, ℕ, Bool, true, false, List, [], ◌∷◌, ◌++◌, Option, Some, None, Result, Ok, Err, sym, ap, ap₂, subst, ◌∙◌, map}}
+use Rattle.std.{specs.Ordering.{is_lt}, proofs.Common.{◌≡◌, inl, inr, ℕ, Bool, true, false, List, [], ◌∷◌, ◌++◌, Option, Some, None, Result, Ok, Err, sym, ap, ap₂, subst, ◌∙◌, map}}
 use Rattle.mob_typed.{specs.Trees.{TypedTree}, specs.Selects.{TypedSelectParts}}
 use Rattle.mob_value.specs.declared.store.Store.{Store}
 use Rattle.mob_literal.specs.Fields.{field_text}
@@ -8,6 +8,7 @@ use Rattle.mob_arrange.{specs.Keyed.{Keyed}, specs.Order.{IsOrderedByKeys, compa
 use Rattle.mob_arrange.proofs.OneOrder.{one_order}
 use Rattle.mob_tail.{specs.IsMadeOfEach.{IsMadeOfEach}, specs.Answers.{IsField, IsKey, IsRowOf, IsTupleRow, IsPlainAnswer, IsAnswerBy, IsAnswerOnKept}, specs.GroupedAnswers.{IsGroupedAnswer}}
 use Rattle.mob_tail.{specs.Groups.{groups_on}, proofs.OneGroup.{fault_once, rows_once}}
+use Rattle.mob_meaning.specs.declared.terms.Terms.{Terms}
 
 module _ {X Y F : Type 0} (R : X → Result Y F → Type 0) (once : (x : X) → IsOne (R x)) where
   one_value : (x : X) (y z : Y) → R x (Ok y) → R x (Ok z) → y ≡ z
@@ -57,7 +58,7 @@ module _ (one : HasOneOutcome) where
   field_once : (s : Scene) (item : TypedTree × List ℕ) → IsOne (IsField s item)
   field_once s item (Ok a) (Ok b) h k =
       let same : h.0 ≡ k.0 = let v = one s item.0 (Ok h.0) (Ok k.0) h.1 k.1 in cc v in
-      ap Ok (h.2 ∙ ap (field_text s.day) same ∙ sym k.2)
+      ap Ok (h.2 ∙ ap (field_text s.terms.epoch) same ∙ sym k.2)
   field_once s item (Ok a) (Err g) h k = let v = one s item.0 (Ok h.0) (Err g) h.1 k in absurd (cc v)
   field_once s item (Err f) (Ok b) h k = let v = one s item.0 (Err f) (Ok k.0) h k.1 in absurd (cc v)
   field_once s item (Err f) (Err g) h k = let v = one s item.0 (Err f) (Err g) h k in let same : f ≡ g = cc v in ap Err same
@@ -82,37 +83,37 @@ module _ (one : HasOneOutcome) where
     row_fault f g (inr h) (inl k) = absurd (each_told (IsField s) (field_once s) select.items h.0 g h.1 k)
     row_fault f g (inr h) (inr k) = each_fault_one (IsKey s) (key_once s) select.keys f g h.2 k.2
 
-  module _ (select : TypedSelectParts) (store : Store) (day : ℤ) where
-    row_once : (tuple : List ℕ) → IsOne (IsTupleRow select store day tuple)
-    row_once tuple (Ok a) (Ok b) h k = ap Ok (row_value select (scene store select.from tuple day) a b h k)
-    row_once tuple (Ok a) (Err g) h k = absurd (row_told select (scene store select.from tuple day) a g.1 h k.1)
-    row_once tuple (Err f) (Ok b) h k = absurd (row_told select (scene store select.from tuple day) b f.1 k h.1)
+  module _ (select : TypedSelectParts) (store : Store) (terms : Terms) where
+    row_once : (tuple : List ℕ) → IsOne (IsTupleRow select store terms tuple)
+    row_once tuple (Ok a) (Ok b) h k = ap Ok (row_value select (scene store select.from tuple terms) a b h k)
+    row_once tuple (Ok a) (Err g) h k = absurd (row_told select (scene store select.from tuple terms) a g.1 h k.1)
+    row_once tuple (Err f) (Ok b) h k = absurd (row_told select (scene store select.from tuple terms) b f.1 k h.1)
     row_once tuple (Err f) (Err g) h k =
         let there : f.0 ≡ g.0 = h.0 ∙ sym k.0 in
-        let fault : f.1 ≡ g.1 = row_fault select (scene store select.from tuple day) f.1 g.1 h.1 k.1 in
+        let fault : f.1 ≡ g.1 = row_fault select (scene store select.from tuple terms) f.1 g.1 h.1 k.1 in
         λ i. Err (there i, fault i)
 
-    plain_once : (kept : List (List ℕ)) → IsOne (IsPlainAnswer select store day kept)
+    plain_once : (kept : List (List ℕ)) → IsOne (IsPlainAnswer select store terms kept)
     plain_once kept (Ok a) (Ok b) h k =
-        let rows : h.0 ≡ k.0 = each_value (IsTupleRow select store day) row_once kept h.0 k.0 h.1 k.1 in
+        let rows : h.0 ≡ k.0 = each_value (IsTupleRow select store terms) row_once kept h.0 k.0 h.1 k.1 in
         let falls = map (λ key. key.1) select.keys in
         ap Ok (one_arranged falls select.distinct select.limit k.0 a b (subst (λ z. AreArranged falls select.distinct select.limit z a) rows h.2) k.2)
-    plain_once kept (Ok a) (Err g) h k = absurd (each_told (IsTupleRow select store day) row_once kept h.0 g h.1 k)
-    plain_once kept (Err f) (Ok b) h k = absurd (each_told (IsTupleRow select store day) row_once kept k.0 f k.1 h)
-    plain_once kept (Err f) (Err g) h k = ap Err (each_fault_one (IsTupleRow select store day) row_once kept f g h k)
+    plain_once kept (Ok a) (Err g) h k = absurd (each_told (IsTupleRow select store terms) row_once kept h.0 g h.1 k)
+    plain_once kept (Err f) (Ok b) h k = absurd (each_told (IsTupleRow select store terms) row_once kept k.0 f k.1 h)
+    plain_once kept (Err f) (Err g) h k = ap Err (each_fault_one (IsTupleRow select store terms) row_once kept f g h k)
 
-    grouped_once : (kept : List (List ℕ)) → IsOne (IsGroupedAnswer select store day kept)
+    grouped_once : (kept : List (List ℕ)) → IsOne (IsGroupedAnswer select store terms kept)
     grouped_once kept (Ok a) (Ok b) h k =
-        let rows : h.1.0 ≡ k.1.0 = rows_once one select store day (groups_on select store day kept) h.1.0 k.1.0 h.1.1 k.1.1 in
+        let rows : h.1.0 ≡ k.1.0 = rows_once one select store terms (groups_on select store terms kept) h.1.0 k.1.0 h.1.1 k.1.1 in
         let falls = map (λ key. key.1) select.keys in
         ap Ok (one_arranged falls select.distinct select.limit k.1.0 a b (subst (λ z. AreArranged falls select.distinct select.limit z a) rows h.1.2) k.1.2)
-    grouped_once kept (Ok a) (Err g) h k = let e : None ≡ Some g = fault_once one select store day kept None (Some g) h.0 k in absurd cc
-    grouped_once kept (Err f) (Ok b) h k = let e : Some f ≡ None = fault_once one select store day kept (Some f) None h k.0 in absurd cc
-    grouped_once kept (Err f) (Err g) h k = let e : Some f ≡ Some g = fault_once one select store day kept (Some f) (Some g) h k in let same : f ≡ g = cc in ap Err same
+    grouped_once kept (Ok a) (Err g) h k = let e : None ≡ Some g = fault_once one select store terms kept None (Some g) h.0 k in absurd cc
+    grouped_once kept (Err f) (Ok b) h k = let e : Some f ≡ None = fault_once one select store terms kept (Some f) None h k.0 in absurd cc
+    grouped_once kept (Err f) (Err g) h k = let e : Some f ≡ Some g = fault_once one select store terms kept (Some f) (Some g) h k in let same : f ≡ g = cc in ap Err same
 
-    pub answer_once : (kept : List (List ℕ)) → IsOne (IsAnswerOnKept select store day kept)
+    pub answer_once : (kept : List (List ℕ)) → IsOne (IsAnswerOnKept select store terms kept)
     answer_once kept = by select.grouped
       where
-        by : (b : Bool) → IsOne (IsAnswerBy b select store day kept)
+        by : (b : Bool) → IsOne (IsAnswerBy b select store terms kept)
         by false = plain_once kept
         by true = grouped_once kept

@@ -1,5 +1,5 @@
 -- A grouped query has one first fault or none, and one row for each group.
-use Rattle.std.{specs.Prelude.{option_map}, specs.List.{AllZip}, proofs.Common.{◌≡◌, ℕ, ℤ, Bool, true, false, List, [], ◌∷◌, Option, Some, None, Ok, refl, sym, ap, ap₂, subst, ◌∙◌, map}}
+use Rattle.std.{specs.Prelude.{option_map}, specs.List.{AllZip}, proofs.Common.{◌≡◌, ℕ, Bool, true, false, List, [], ◌∷◌, Option, Some, None, Ok, refl, sym, ap, ap₂, subst, ◌∙◌, map}}
 use Rattle.mob_ratio.{specs.Ratio.{Ratio}, specs.Order.{same}, proofs.Order.{same_exact}}
 use Rattle.mob_span.specs.Flags.{same_bool, same_bool_exact}
 use Rattle.mob_slice.{specs.CourseOf.{CourseOf, steady_course, line_course}, specs.Entries.{IsFirst}, specs.declared.slice.Slice.{Slice}, specs.declared.formula.Formula.{Formula}}
@@ -17,6 +17,8 @@ use Rattle.mob_arrange.specs.Keyed.{Keyed}
 use Rattle.mob_tail.{specs.Aggregated.{IsOverTime, IsAggregated, leaves_out, adding_entries, AddingPasses, one_there, step_there, line_there, truth_there}, specs.Groups.{same_group}}
 use Rattle.mob_tail.specs.GroupedAnswers.{AnswerColumn, columns_of, IsArgumentOf, IsArgument, IsArgumentOn, IsAddingTo, IsColumnValue, keys_from, IsGroupRow, IsGroupedFault}
 use Rattle.mob_ast.specs.declared.types.SqlType.TheVariants as sql
+use Rattle.mob_meaning.specs.declared.terms.Terms.{Terms}
+use Rattle.mob_slice.specs.declared.mode.Mode.{Mode}
 
 over_once : {C B Z : Type 0} (course : CourseOf C Z) (one : OneList course) (make : List (Slice C) → Value) (f : List B → Z) (there : Value → Ratio → Option B) (vs : List Value) (v w : Value) → IsOverTime course make f there vs v → IsOverTime course make f there vs w → v ≡ w
 over_once course one make f there vs v w h k =
@@ -55,9 +57,9 @@ passes_once false kind ty vs v f g h k =
     let a = aggregated_once kind ty (v ∷ []) h.2.0 k.2.0 h.2.1 k.2.1 in
     one_first (adding_entries kind ty k.0 k.2.0) f g (subst (λ z. IsFirst (adding_entries kind ty z k.2.0) f) r (subst (λ z. IsFirst (adding_entries kind ty h.0 z) f) a h.2.2)) k.2.2
 
-adding_once : (c : AnswerColumn) (vs : List Value) (v : Value) (f g : Option PlacedFormula) → IsAddingTo c vs v f → IsAddingTo c vs v g → f ≡ g
-adding_once (e, None) vs v f g h k = h ∙ sym k
-adding_once (e, Some agg) vs v f g h k = h.2 ∙ ap (option_map (λ formula. (agg.place, formula))) (passes_once (leaves_out agg.kind v) agg.kind agg.ty vs v h.0 k.0 h.1 k.1) ∙ sym k.2
+adding_once : (mode : Mode) (c : AnswerColumn) (vs : List Value) (v : Value) (f g : Option PlacedFormula) → IsAddingTo mode c vs v f → IsAddingTo mode c vs v g → f ≡ g
+adding_once mode (e, None) vs v f g h k = h ∙ sym k
+adding_once mode (e, Some agg) vs v f g h k = h.2 ∙ ap (option_map (λ formula. (agg.place, formula))) (passes_once (leaves_out agg.kind v) agg.kind agg.ty vs v h.0 k.0 h.1 k.1) ∙ sym k.2
 
 module _ (one : HasOneOutcome) where
   argument_of_once : (kind : AggKind) (s : Scene) (e : TypedTree) → IsOne (IsArgumentOf kind s e)
@@ -73,23 +75,23 @@ module _ (one : HasOneOutcome) where
   argument_once s (e, None) r q h k = h ∙ sym k
   argument_once s (e, Some agg) r q h k = argument_of_once agg.kind s e r q h k
 
-  module _ (select : TypedSelectParts) (store : Store) (day : ℤ) where
-    pub fault_once : (kept : List (List ℕ)) (f g : Option TupleFault) → IsGroupedFault select store day kept f → IsGroupedFault select store day kept g → f ≡ g
-    fault_once kept f g h k = one_row_fault (IsArgumentOn select store day) IsAddingTo (λ t c r q h k. argument_once (scene store select.from t day) c r q h k) adding_once (same_group select store day) (columns_of select) [] kept f g h k
+  module _ (select : TypedSelectParts) (store : Store) (terms : Terms) where
+    pub fault_once : (kept : List (List ℕ)) (f g : Option TupleFault) → IsGroupedFault select store terms kept f → IsGroupedFault select store terms kept g → f ≡ g
+    fault_once kept f g h k = one_row_fault (IsArgumentOn select store terms) (IsAddingTo terms.mode) (λ t c r q h k. argument_once (scene store select.from t terms) c r q h k) (adding_once terms.mode) (same_group select store terms) (columns_of select) [] kept f g h k
 
-    arguments_once : (c : AnswerColumn) (ts : List (List ℕ)) (vs ws : List Value) → AllZip (λ t w. IsArgumentOn select store day t c (Ok w)) ts vs → AllZip (λ t w. IsArgumentOn select store day t c (Ok w)) ts ws → vs ≡ ws
+    arguments_once : (c : AnswerColumn) (ts : List (List ℕ)) (vs ws : List Value) → AllZip (λ t w. IsArgumentOn select store terms t c (Ok w)) ts vs → AllZip (λ t w. IsArgumentOn select store terms t c (Ok w)) ts ws → vs ≡ ws
     arguments_once c [] [] [] h k = refl
     arguments_once c [] [] (w ∷ ws) h k = absurd k
     arguments_once c [] (v ∷ vs) ws h k = absurd h
     arguments_once c (t ∷ ts) [] ws h k = absurd h
     arguments_once c (t ∷ ts) (v ∷ vs) [] h k = absurd k
-    arguments_once c (t ∷ ts) (v ∷ vs) (w ∷ ws) h k = let e = argument_once (scene store select.from t day) c (Ok v) (Ok w) h.0 k.0 in let same : v ≡ w = cc e in ap₂ (λ a b. a ∷ b) same (arguments_once c ts vs ws h.1 k.1)
+    arguments_once c (t ∷ ts) (v ∷ vs) (w ∷ ws) h k = let e = argument_once (scene store select.from t terms) c (Ok v) (Ok w) h.0 k.0 in let same : v ≡ w = cc e in ap₂ (λ a b. a ∷ b) same (arguments_once c ts vs ws h.1 k.1)
 
-    value_once : (group : List (List ℕ)) (c : AnswerColumn) (v w : Value) → IsColumnValue select store day group c v → IsColumnValue select store day group c w → v ≡ w
+    value_once : (group : List (List ℕ)) (c : AnswerColumn) (v w : Value) → IsColumnValue select store terms group c v → IsColumnValue select store terms group c w → v ≡ w
     value_once group (e, None) v w h k = h ∙ sym k
     value_once group (e, Some agg) v w h k = aggregated_once agg.kind agg.ty k.0 v w (subst (λ z. IsAggregated agg.kind agg.ty z v) (arguments_once (e, Some agg) group h.0 k.0 h.1 k.1) h.2) k.2
 
-    values_once : (group : List (List ℕ)) (cs : List AnswerColumn) (vs ws : List Value) → AllZip (IsColumnValue select store day group) cs vs → AllZip (IsColumnValue select store day group) cs ws → vs ≡ ws
+    values_once : (group : List (List ℕ)) (cs : List AnswerColumn) (vs ws : List Value) → AllZip (IsColumnValue select store terms group) cs vs → AllZip (IsColumnValue select store terms group) cs ws → vs ≡ ws
     values_once group [] [] [] h k = refl
     values_once group [] [] (w ∷ ws) h k = absurd k
     values_once group [] (v ∷ vs) ws h k = absurd h
@@ -97,14 +99,14 @@ module _ (one : HasOneOutcome) where
     values_once group (c ∷ cs) (v ∷ vs) [] h k = absurd k
     values_once group (c ∷ cs) (v ∷ vs) (w ∷ ws) h k = ap₂ (λ a b. a ∷ b) (value_once group c v w h.0 k.0) (values_once group cs vs ws h.1 k.1)
 
-    row_once : (group : List (List ℕ)) (a b : Keyed) → IsGroupRow select store day group a → IsGroupRow select store day group b → a ≡ b
+    row_once : (group : List (List ℕ)) (a b : Keyed) → IsGroupRow select store terms group a → IsGroupRow select store terms group b → a ≡ b
     row_once group a b h k =
         let values : h.values ≡ k.values = values_once group (columns_of select) h.values k.values h.made k.made in
-        let fields : a.fields ≡ b.fields = h.fields ∙ ap (map (field_text day)) values ∙ sym k.fields in
-        let keys : a.keys ≡ b.keys = h.keys ∙ ap (λ z. keys_from select store day group z 0 select.keys) values ∙ sym k.keys in
+        let fields : a.fields ≡ b.fields = h.fields ∙ ap (map (field_text terms.epoch)) values ∙ sym k.fields in
+        let keys : a.keys ≡ b.keys = h.keys ∙ ap (λ z. keys_from select store terms group z 0 select.keys) values ∙ sym k.keys in
         λ i. record { fields = fields i; keys = keys i }
 
-    pub rows_once : (groups : List (List (List ℕ))) (a b : List Keyed) → AllZip (IsGroupRow select store day) groups a → AllZip (IsGroupRow select store day) groups b → a ≡ b
+    pub rows_once : (groups : List (List (List ℕ))) (a b : List Keyed) → AllZip (IsGroupRow select store terms) groups a → AllZip (IsGroupRow select store terms) groups b → a ≡ b
     rows_once [] [] [] h k = refl
     rows_once [] [] (y ∷ b) h k = absurd k
     rows_once [] (x ∷ a) b h k = absurd h

@@ -1,16 +1,16 @@
 -- The aggregate of the values of an argument in a group, and the overflow of adding one more value.
-use Rattle.std.specs.Prelude.{◌≡◌, not, Bool, true, false, ℕ, pos, List, [], ◌∷◌, ◌++◌, filter, length, Option, Some, None, option_map, Result, Ok, Err}
+use Rattle.std.{specs.Prelude.{◌≡◌, not, Bool, true, false, ℕ, pos, List, [], ◌∷◌, ◌++◌, filter, length, Option, Some, None, option_map, Result, Ok, Err}, specs.List.{flat_map}}
 use Rattle.mob_ratio.{specs.Ratio.{Ratio, whole}, specs.Order.{same}}
 use Rattle.mob_span.specs.Flags.{same_bool}
 use Rattle.mob_slice.{specs.CourseOf.{CourseOf, steady_course, line_course}, specs.Entries.{Entry, IsFirst}, specs.Lines.{line_value_of}, specs.Operands.{steady_value}, specs.Slices.{value_at}}
-use Rattle.mob_slice.{specs.declared.slice.Slice.{Slice}, specs.declared.formula.Formula.{Formula}, specs.declared.line.Line.{Line}}
+use Rattle.mob_slice.{specs.Modes.{entry_given}, specs.declared.slice.Slice.{Slice}, specs.declared.formula.Formula.{Formula}, specs.declared.line.Line.{Line}, specs.declared.mode.Mode.{Mode}, specs.declared.mode.Mode.TheVariants.{Narrow, Wide}}
 use Rattle.mob_list.{specs.declared.fault.Fault.{Fault}, specs.declared.fault.Fault.TheVariants.{Because, NoMemory}}
 use Rattle.mob_ast.specs.declared.types.SqlType.{SqlType}
 use Rattle.mob_operators.{specs.declared.aggregate.AggKind.{AggKind}, specs.declared.aggregate.AggKind.TheVariants.{CountAll, Count, Sum, TCount, TSum, TAnd, TOr}}
 use Rattle.mob_typed.specs.declared.typed.Agg.{Agg}
 use Rattle.mob_value.{specs.declared.value.Value.{Value}, specs.declared.value.Value.TheVariants.{Null, Number, MovingBool, MovingInt, MovingFrac, MovingText, MovingPoint}}
 use Rattle.mob_value.specs.Moving.{AreNormalBy, SteadySlices, or_nothing, step_function, line_function, plane_function}
-use Rattle.mob_arith.{specs.declared.sql.calculation.Calculation.TheVariants.{Sum as Added}, specs.Sql.Entries.{arithmetic_entries}}
+use Rattle.mob_arith.{specs.declared.sql.calculation.Calculation.TheVariants.{Sum as Added}, specs.Sql.Entries.{arithmetic_entries}, specs.Sql.Wide.{wide_arithmetic_entries}}
 use Rattle.mob_ordinary.specs.Ordinary.{is_null}
 use Rattle.mob_tagg.{specs.United.{AreUnited}, specs.Aggregates.{put_there, made_of, IsAggregate, total, count, all_hold, some_holds}}
 use Rattle.mob_ast.specs.declared.types.SqlType.TheVariants as sql
@@ -122,6 +122,32 @@ AddingPasses false kind ty before v f = (r : Value) × IsAggregated kind ty befo
 
 abbrev pub IsAdding : Agg → List Value → Value → Option Formula → Type 0
 IsAdding agg before v f = AddingPasses (leaves_out agg.kind v) agg.kind agg.ty before v f
+
+-- ---- faults of adding in the wide mode
+
+-- the instants and the values that a sum over time holds
+abbrev pub held_numbers : Value → List Ratio
+held_numbers (MovingInt m) = flat_map (λ s. s.span.lower ∷ s.span.upper ∷ s.course.value ∷ []) m
+held_numbers (MovingFrac m) = flat_map (λ s. s.span.lower ∷ s.span.upper ∷ s.course.from ∷ s.course.to ∷ []) m
+held_numbers _ = []
+
+-- the entries of adding a to r, where u is the sum: those of `+`, and over time what the sum holds
+abbrev pub wide_adding_entries : AggKind → SqlType → Value → Value → Value → List Entry
+wide_adding_entries TAnd ty r a u = []
+wide_adding_entries TOr ty r a u = []
+wide_adding_entries TCount ty r a u = wide_arithmetic_entries Added sql.TInt r a ++ entry_given (held_numbers u)
+wide_adding_entries TSum ty r a u = wide_arithmetic_entries Added ty r a ++ entry_given (held_numbers u)
+wide_adding_entries kind ty r a u = wide_arithmetic_entries Added sql.Numeric r a
+
+abbrev pub AddsWidely : Bool → AggKind → SqlType → List Value → Value → Option Formula → Type 0
+AddsWidely true kind ty before v f = f ≡ None
+AddsWidely false kind ty before v f =
+    (r : Value) × IsAggregated kind ty before r × ((a : Value) × IsAggregated kind ty (v ∷ []) a × ((u : Value) × IsAggregated kind ty (before ++ v ∷ []) u × IsFirst (wide_adding_entries kind ty r a u) f))
+
+-- the first formula of adding that overflows, or none, in a mode
+abbrev pub IsAddingIn : Mode → Agg → List Value → Value → Option Formula → Type 0
+IsAddingIn Narrow agg before v f = IsAdding agg before v f
+IsAddingIn Wide agg before v f = AddsWidely (leaves_out agg.kind v) agg.kind agg.ty before v f
 
 -- ---- one more value
 

@@ -4,6 +4,7 @@ use Rattle.mob_typed.specs.Selects.{TypedSelectParts}
 use Rattle.mob_value.{specs.declared.value.Value.{Value}, specs.declared.store.Store.{Store}}
 use Rattle.mob_arrange.specs.Keyed.{Keyed, row_of_values}
 use Rattle.mob_tail.specs.GroupedAnswers.{IsGroupRow}
+use Rattle.mob_meaning.specs.declared.terms.Terms.{Terms}
 
 -- for each key, whether it is descending
 abbrev pub falls_of : TypedSelectParts → List Bool
@@ -14,5 +15,5 @@ abbrev pub answer_row : TypedSelectParts → ℤ → List Value → Keyed
 answer_row select day values = row_of_values day (length (falls_of select)) values
 
 -- the row of a group, as values
-abbrev pub IsGroupRowOf : TypedSelectParts → Store → ℤ → List (List ℕ) → List Value → Type 0
-IsGroupRowOf select store day group values = IsGroupRow select store day group (answer_row select day values)
+abbrev pub IsGroupRowOf : TypedSelectParts → Store → Terms → List (List ℕ) → List Value → Type 0
+IsGroupRowOf select store terms group values = IsGroupRow select store terms group (answer_row select terms.epoch values)

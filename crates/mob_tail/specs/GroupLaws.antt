@@ -8,6 +8,7 @@ use Rattle.mob_typed.{specs.declared.typed.Agg.{Agg}, specs.Trees.{TypedTree, ty
 use Rattle.mob_clauses.specs.Keys.{is_key}
 use Rattle.mob_catalog.specs.OwnTypes.{IsReadAs}
 use Rattle.mob_tail.{specs.Groups.{column_on, same_group}, specs.GroupedAnswers.{AddingFails}, specs.States.{is_counting}}
+use Rattle.mob_meaning.specs.declared.terms.Terms.{Terms}
 
 -- a value of a type that a text can have, or NULL
 abbrev pub IsStoredAs : SqlType → ℤ → Value → Type 0
@@ -20,20 +21,20 @@ FieldsTellValues = (type : SqlType) (day : ℤ) (v w : Value) → IsStoredAs typ
 
 -- a column has a type that GROUP BY allows, and its value on a tuple was read as one of that type,
 -- or is NULL
-abbrev pub IsKeyOn : TypedSelectParts → Store → ℤ → List ℕ → TypedTree → Type 0
-IsKeyOn select store day tuple column = (is_key (type_of column) ≡ true) × IsReadAs (type_of column) (column_on (scene store select.from tuple day) column)
+abbrev pub IsKeyOn : TypedSelectParts → Store → Terms → List ℕ → TypedTree → Type 0
+IsKeyOn select store terms tuple column = (is_key (type_of column) ≡ true) × IsReadAs (type_of column) (column_on (scene store select.from tuple terms) column)
 
 -- a column has the same value on two tuples, where NULL equals NULL
-abbrev pub HasSameValue : TypedSelectParts → Store → ℤ → List ℕ → List ℕ → TypedTree → Type 0
-HasSameValue select store day t u column = column_on (scene store select.from t day) column ≡ column_on (scene store select.from u day) column
+abbrev pub HasSameValue : TypedSelectParts → Store → Terms → List ℕ → List ℕ → TypedTree → Type 0
+HasSameValue select store terms t u column = column_on (scene store select.from t terms) column ≡ column_on (scene store select.from u terms) column
 
 -- Two tuples with such values in the columns of GROUP BY are in one group exactly if each of these
 -- columns has the same value on both.
 abbrev pub GroupsAreOfValues : Type 0
-GroupsAreOfValues = (select : TypedSelectParts) (store : Store) (day : ℤ) (t u : List ℕ) → AllByRecursion (IsKeyOn select store day t) select.groups → AllByRecursion (IsKeyOn select store day u) select.groups
-    → (same_group select store day t u ≡ true) ↔ AllByRecursion (HasSameValue select store day t u) select.groups
+GroupsAreOfValues = (select : TypedSelectParts) (store : Store) (terms : Terms) (t u : List ℕ) → AllByRecursion (IsKeyOn select store terms t) select.groups → AllByRecursion (IsKeyOn select store terms u) select.groups
+    → (same_group select store terms t u ≡ true) ↔ AllByRecursion (HasSameValue select store terms t u) select.groups
 
 -- Adding to a count of fewer than 2^62 - 1 values does not overflow. So no count over tuples that
 -- fit in memory has a fault of adding, and counts may be added in any order.
 abbrev pub NoCountPasses : Type 0
-NoCountPasses = (select : TypedSelectParts) (store : Store) (day : ℤ) (before : List (List ℕ)) (tuple : List ℕ) (e : TypedTree) (agg : Agg) (f : PlacedFormula) → is_counting agg.kind ≡ true → length before + 1 < 2 ^ 62 → AddingFails select store day before tuple (e, Some agg) f → ⊥
+NoCountPasses = (select : TypedSelectParts) (store : Store) (terms : Terms) (before : List (List ℕ)) (tuple : List ℕ) (e : TypedTree) (agg : Agg) (f : PlacedFormula) → is_counting agg.kind ≡ true → length before + 1 < 2 ^ 62 → AddingFails select store terms before tuple (e, Some agg) f → ⊥

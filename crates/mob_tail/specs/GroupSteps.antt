@@ -1,5 +1,5 @@
 -- A group with one more tuple.
-use Rattle.std.{specs.Prelude.{◌≡◌, ◌⊎◌, Bool, true, false, ℕ, ℤ, List, [], ◌∷◌, Option, Some, None, Result, Ok, Err, cond, map}, specs.List.{AllZip, position_or_len}}
+use Rattle.std.{specs.Prelude.{◌≡◌, ◌⊎◌, Bool, true, false, ℕ, List, [], ◌∷◌, Option, Some, None, Result, Ok, Err, cond, map}, specs.List.{AllZip, position_or_len}}
 use Rattle.mob_list.specs.declared.fault.Fault.TheVariants.{Because}
 use Rattle.mob_typed.{specs.declared.typed.Agg.{Agg}, specs.Selects.{TypedSelectParts}, specs.Trees.{TypedTree, typed_of}}
 use Rattle.mob_value.{specs.declared.value.Value.{Value}, specs.declared.value.Value.TheVariants.{Null}, specs.declared.store.Store.{Store}}
@@ -8,6 +8,7 @@ use Rattle.mob_groups.specs.Groups.{first_keys, members}
 use Rattle.mob_tail.{specs.declared.columns.Column.{Column as ColumnOf}, specs.declared.group_memos.GroupMemo.{GroupMemo}, specs.declared.group_memos.Group.{Group}, specs.declared.state.State.{State}}
 use Rattle.mob_tail.{specs.declared.state.State.TheVariants.{Whole}, specs.Aggregated.{leaves_out}, specs.States.{IsKeptIn, IsStartState, IsStateWith}}
 use Rattle.mob_tail.{specs.Groups.{column_on, group_fields, same_texts, has_groups, under_fields}, specs.GroupedAnswers.{AnswerColumn, columns_of, IsArgumentOf, IsColumnValue}}
+use Rattle.mob_meaning.specs.declared.terms.Terms.{Terms}
 
 -- a column of the answer in the program, as the definitions have it
 abbrev pub column_seen : ColumnOf → AnswerColumn
@@ -69,26 +70,26 @@ first_of [] = None
 first_of (t ∷ group) = Some t
 
 -- the state of a column has its value for a group
-abbrev pub IsStateOf : TypedSelectParts → Store → ℤ → List (List ℕ) → AnswerColumn → State → Type 0
-IsStateOf select store day group column x = (r : Value) × IsKeptOf column x r × IsColumnValue select store day group column r
+abbrev pub IsStateOf : TypedSelectParts → Store → Terms → List (List ℕ) → AnswerColumn → State → Type 0
+IsStateOf select store terms group column x = (r : Value) × IsKeptOf column x r × IsColumnValue select store terms group column r
 
 -- a memo holds the value of its column for a group
-abbrev pub IsGroupMemoOf : TypedSelectParts → Store → ℤ → List (List ℕ) → AnswerColumn → GroupMemo → Type 0
-IsGroupMemoOf select store day group column memo = (column_seen memo.column ≡ column) × IsStateOf select store day group column memo.state
+abbrev pub IsGroupMemoOf : TypedSelectParts → Store → Terms → List (List ℕ) → AnswerColumn → GroupMemo → Type 0
+IsGroupMemoOf select store terms group column memo = (column_seen memo.column ≡ column) × IsStateOf select store terms group column memo.state
 
 -- the program's record of a group of these tuples
-pub record IsGroupOf (select : TypedSelectParts) (store : Store) (day : ℤ) (group : List (List ℕ)) (g : Group) : Type 0 where
+pub record IsGroupOf (select : TypedSelectParts) (store : Store) (terms : Terms) (group : List (List ℕ)) (g : Group) : Type 0 where
   pub first : g.first ≡ first_of group
-  pub memos : AllZip (IsGroupMemoOf select store day group) (columns_of select) g.memos.items
+  pub memos : AllZip (IsGroupMemoOf select store terms group) (columns_of select) g.memos.items
 
 -- the fields of each group: without GROUP BY there is one group, without fields
-abbrev pub keys_on : TypedSelectParts → Store → ℤ → List (List ℕ) → List (List (List ℕ))
-keys_on select store day kept = cond (has_groups select) (first_keys same_texts (map (group_fields select store day) kept)) ([] ∷ [])
+abbrev pub keys_on : TypedSelectParts → Store → Terms → List (List ℕ) → List (List (List ℕ))
+keys_on select store terms kept = cond (has_groups select) (first_keys same_texts (map (group_fields select store terms) kept)) ([] ∷ [])
 
 -- the number of the group of a tuple
-abbrev pub number_on : TypedSelectParts → Store → ℤ → List (List ℕ) → List ℕ → ℕ
-number_on select store day kept tuple = position_or_len (same_texts (group_fields select store day tuple)) (keys_on select store day kept)
+abbrev pub number_on : TypedSelectParts → Store → Terms → List (List ℕ) → List ℕ → ℕ
+number_on select store terms kept tuple = position_or_len (same_texts (group_fields select store terms tuple)) (keys_on select store terms kept)
 
 -- the program's records of the groups of tuples that have these fields
-abbrev pub AreGroupsOf : TypedSelectParts → Store → ℤ → List (List (List ℕ)) → List (List ℕ) → List Group → Type 0
-AreGroupsOf select store day keys tuples groups = AllZip (λ k g. IsGroupOf select store day (members same_texts k (under_fields select store day tuples)) g) keys groups
+abbrev pub AreGroupsOf : TypedSelectParts → Store → Terms → List (List (List ℕ)) → List (List ℕ) → List Group → Type 0
+AreGroupsOf select store terms keys tuples groups = AllZip (λ k g. IsGroupOf select store terms (members same_texts k (under_fields select store terms tuples)) g) keys groups

@@ -18,6 +18,7 @@ use mob_eval::{Memory, QueryFault, Remembering, memory_of};
 use mob_list::fault::Fault;
 use mob_list::items::Items;
 use mob_list::text::Text;
+use mob_meaning::Terms;
 use mob_scalar::Epoch;
 use mob_tuples::Tuple;
 use mob_typed::{TExpr, TypedSelect};
@@ -77,13 +78,13 @@ fn answer_on<K: Remembering>(
     roots: &[&TExpr],
     store: &Store,
     kept: &[Tuple],
-    epoch: &Epoch,
+    terms: &Terms,
     memory: &Memory<K>,
 ) -> Result<Vec<u8>, QueryFault>
     requires roots { map root_seen roots.now ≡ item_trees (select_seen select.now) ++ order_trees (select_seen select.now) }
-    requires fits { AnswerFits K.recollection (select_seen select.now) store.now epoch.now }
-    ensures text { IfOk result (λ text. IsAnswerText (select_seen select.now) (IsPlainAnswer (select_seen select.now) store.now epoch.now kept.now) text.items) }
-    ensures fault { IfErr result (OnCause (λ f. IsPlainAnswer (select_seen select.now) store.now epoch.now kept.now (Err f))) }
+    requires fits { AnswerFits K.recollection (select_seen select.now) store.now terms.now }
+    ensures text { IfOk result (λ text. IsAnswerText (select_seen select.now) (IsPlainAnswer (select_seen select.now) store.now terms.now kept.now) text.items) }
+    ensures fault { IfErr result (OnCause (λ f. IsPlainAnswer (select_seen select.now) store.now terms.now kept.now (Err f))) }
 {
     let (items, keys) = roots.split_at(select.items.len());
     match rows_on(
@@ -93,10 +94,10 @@ fn answer_on<K: Remembering>(
         keys,
         store,
         kept,
-        epoch,
+        terms,
         memory.in_use(),
     ) {
-        Ok(rows) => Ok(text_of(alloc, select, rows, epoch)?),
+        Ok(rows) => Ok(text_of(alloc, select, rows, &terms.epoch)?),
         Err(fault) => Err(fault),
     }
 }
@@ -107,18 +108,18 @@ fn answer_with<K: Remembering>(
     select: &TypedSelect,
     store: &Store,
     kept: &[Tuple],
-    epoch: &Epoch,
+    terms: &Terms,
 ) -> Result<Vec<u8>, QueryFault>
-    requires recollection { K.recollection ≡ answer_recollection (select_seen select.now) store.now epoch.now }
-    ensures text { IfOk result (λ text. IsAnswerText (select_seen select.now) (IsPlainAnswer (select_seen select.now) store.now epoch.now kept.now) text.items) }
-    ensures fault { IfErr result (OnCause (λ f. IsPlainAnswer (select_seen select.now) store.now epoch.now kept.now (Err f))) }
+    requires recollection { K.recollection ≡ answer_recollection (select_seen select.now) store.now terms.now }
+    ensures text { IfOk result (λ text. IsAnswerText (select_seen select.now) (IsPlainAnswer (select_seen select.now) store.now terms.now kept.now) text.items) }
+    ensures fault { IfErr result (OnCause (λ f. IsPlainAnswer (select_seen select.now) store.now terms.now kept.now (Err f))) }
 {
     let Ok(all) = roots_of(alloc, select) else {
         return Err(Fault::NoMemory);
     };
     let roots = all.as_slice();
     let memory = memory_of::<K>(alloc, store, select.from.as_slice(), roots);
-    answer_on(alloc, select, roots, store, kept, epoch, &memory)
+    answer_on(alloc, select, roots, store, kept, terms, &memory)
 }
 
 // The text of a plain answer. It chooses what the memory remembers.
@@ -127,12 +128,12 @@ fn plain_answer(
     select: &TypedSelect,
     store: &Store,
     kept: &[Tuple],
-    epoch: &Epoch,
+    terms: &Terms,
 ) -> Result<Vec<u8>, QueryFault>
-    ensures text { IfOk result (λ text. IsAnswerText (select_seen select.now) (IsPlainAnswer (select_seen select.now) store.now epoch.now kept.now) text.items) }
-    ensures fault { IfErr result (OnCause (λ f. IsPlainAnswer (select_seen select.now) store.now epoch.now kept.now (Err f))) }
+    ensures text { IfOk result (λ text. IsAnswerText (select_seen select.now) (IsPlainAnswer (select_seen select.now) store.now terms.now kept.now) text.items) }
+    ensures fault { IfErr result (OnCause (λ f. IsPlainAnswer (select_seen select.now) store.now terms.now kept.now (Err f))) }
 {
-    answer_with::<Brand>(alloc, select, store, kept, epoch)
+    answer_with::<Brand>(alloc, select, store, kept, terms)
 }
 
 // The answer of a grouped query on the tuples that it keeps, or its first fault.
@@ -141,13 +142,13 @@ fn grouped_answer(
     select: &TypedSelect,
     store: &Store,
     kept: &[Tuple],
-    epoch: &Epoch,
+    terms: &Terms,
 ) -> Result<Vec<u8>, QueryFault>
-    ensures text { IfOk result (λ text. IsAnswerText (select_seen select.now) (IsGroupedAnswer (select_seen select.now) store.now epoch.now kept.now) text.items) }
-    ensures fault { IfErr result (OnCause (λ f. IsGroupedAnswer (select_seen select.now) store.now epoch.now kept.now (Err f))) }
+    ensures text { IfOk result (λ text. IsAnswerText (select_seen select.now) (IsGroupedAnswer (select_seen select.now) store.now terms.now kept.now) text.items) }
+    ensures fault { IfErr result (OnCause (λ f. IsGroupedAnswer (select_seen select.now) store.now terms.now kept.now (Err f))) }
 {
-    match grouped_rows(alloc, select, store, kept, epoch) {
-        Ok(rows) => Ok(text_of(alloc, select, rows, epoch)?),
+    match grouped_rows(alloc, select, store, kept, terms) {
+        Ok(rows) => Ok(text_of(alloc, select, rows, &terms.epoch)?),
         Err(fault) => Err(fault),
     }
 }
@@ -169,14 +170,14 @@ pub fn answered_text(
     select: &TypedSelect,
     store: &Store,
     kept: &[Tuple],
-    epoch: &Epoch,
+    terms: &Terms,
 ) -> Result<Vec<u8>, QueryFault>
-    ensures text { IfOk result (λ text. IsAnswerText (select_seen select.now) (IsAnswerOnKept (select_seen select.now) store.now epoch.now kept.now) text.items) }
-    ensures fault { IfErr result (OnCause (λ f. IsAnswerOnKept (select_seen select.now) store.now epoch.now kept.now (Err f))) }
+    ensures text { IfOk result (λ text. IsAnswerText (select_seen select.now) (IsAnswerOnKept (select_seen select.now) store.now terms.now kept.now) text.items) }
+    ensures fault { IfErr result (OnCause (λ f. IsAnswerOnKept (select_seen select.now) store.now terms.now kept.now (Err f))) }
 {
     if select.grouped {
-        grouped_answer(alloc, select, store, kept, epoch)
+        grouped_answer(alloc, select, store, kept, terms)
     } else {
-        plain_answer(alloc, select, store, kept, epoch)
+        plain_answer(alloc, select, store, kept, terms)
     }
 }

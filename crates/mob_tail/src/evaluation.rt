@@ -21,8 +21,8 @@ use mob_arrange::{Row, RowValue};
 use mob_eval::{Held, Memory, QueryFault, Remembering, View, fault_on, value_with};
 use mob_list::fault::Fault;
 use mob_list::items::Items;
+use mob_meaning::Terms;
 use mob_outcome::fault::EvalFault;
-use mob_scalar::Epoch;
 use mob_tuples::Tuple;
 use mob_typed::{TExpr, TypedSelect};
 use mob_value::Store;
@@ -122,20 +122,20 @@ fn row_of<'a, K: Remembering>(
     keys: &[&TExpr],
     store: &'a Store,
     tuple: &'a [u32],
-    epoch: &'a Epoch,
+    terms: &'a Terms,
     memory: Option<&'a Memory<K>>,
 ) -> Result<Row<'a>, EvalFault>
     requires items { map root_seen items.now ≡ item_trees (select_seen select.now) }
     requires keys { map root_seen keys.now ≡ order_trees (select_seen select.now) }
-    requires fits { SelectFits K.recollection (select_seen select.now) (scene store.now select.now.from tuple.now epoch.now) }
-    ensures row { IfOk result (λ row. IsRowOf (select_seen select.now) (scene store.now select.now.from tuple.now epoch.now) (Ok (answer_row (select_seen select.now) epoch.now row))) }
-    ensures fault { IfErr result (OnCause (λ f. IsRowOf (select_seen select.now) (scene store.now select.now.from tuple.now epoch.now) (Err f))) }
+    requires fits { SelectFits K.recollection (select_seen select.now) (scene store.now select.now.from tuple.now terms.now) }
+    ensures row { IfOk result (λ row. IsRowOf (select_seen select.now) (scene store.now select.now.from tuple.now terms.now) (Ok (answer_row (select_seen select.now) terms.now.epoch row))) }
+    ensures fault { IfErr result (OnCause (λ f. IsRowOf (select_seen select.now) (scene store.now select.now.from tuple.now terms.now) (Err f))) }
 {
     let view = View {
         store,
         from: select.from.as_slice(),
         tuple,
-        epoch,
+        terms,
     };
     row_on(alloc, items, keys, &view, memory)
 }
@@ -150,14 +150,14 @@ pub fn rows_on<'a, K: Remembering>(
     keys: &[&TExpr],
     store: &'a Store,
     kept: &'a [Tuple],
-    epoch: &'a Epoch,
+    terms: &'a Terms,
     memory: Option<&'a Memory<K>>,
 ) -> Result<Vec<Row<'a>>, QueryFault>
     requires items { map root_seen items.now ≡ item_trees (select_seen select.now) }
     requires keys { map root_seen keys.now ≡ order_trees (select_seen select.now) }
-    requires fits { AnswerFits K.recollection (select_seen select.now) store.now epoch.now }
-    ensures rows { IfOk result (λ rows. IsMadeOfEach (IsTupleRow (select_seen select.now) store.now epoch.now) kept.now (Ok (map (answer_row (select_seen select.now) epoch.now) rows.items))) }
-    ensures fault { IfErr result (OnCause (λ f. IsMadeOfEach (IsTupleRow (select_seen select.now) store.now epoch.now) kept.now (Err f))) }
+    requires fits { AnswerFits K.recollection (select_seen select.now) store.now terms.now }
+    ensures rows { IfOk result (λ rows. IsMadeOfEach (IsTupleRow (select_seen select.now) store.now terms.now) kept.now (Ok (map (answer_row (select_seen select.now) terms.now.epoch) rows.items))) }
+    ensures fault { IfErr result (OnCause (λ f. IsMadeOfEach (IsTupleRow (select_seen select.now) store.now terms.now) kept.now (Err f))) }
 {
     let Ok(mut rows) = Vec::with_capacity(alloc, kept.len()) else {
         return Err(Fault::NoMemory);
@@ -170,7 +170,7 @@ pub fn rows_on<'a, K: Remembering>(
             keys,
             store,
             tuple.as_slice(),
-            epoch,
+            terms,
             memory,
         ) {
             Ok(row) => row,

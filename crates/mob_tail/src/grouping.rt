@@ -24,6 +24,7 @@ use mob_list::fault::Fault;
 use mob_list::items::Items;
 use mob_list::text::Text;
 use mob_literal::write_field;
+use mob_meaning::Terms;
 use mob_records::bytes_of;
 use mob_scalar::Epoch;
 use mob_tuples::Tuple;
@@ -43,17 +44,17 @@ fn text_of(alloc: Global, value: &Value, epoch: &Epoch) -> Result<Text, AllocErr
 
 // The printed field of a column on a tuple.
 fn field_on(alloc: Global, column: &TExpr, view: &View<'_>) -> Result<Text, AllocError>
-    ensures field { IfOk result (λ text. text ≡ field_text view.now.epoch.now (column_on (scene_of view.now) (typed_of column.now))) }
+    ensures field { IfOk result (λ text. text ≡ field_text view.now.terms.now.epoch (column_on (scene_of view.now) (typed_of column.now))) }
 {
     let held = column_on(alloc, column, view)?;
-    let text = text_of(alloc, held.get(), view.epoch);
+    let text = text_of(alloc, held.get(), &view.terms.epoch);
     drop(held);
     text
 }
 
 // The printed fields of columns on a tuple.
 fn fields_on(alloc: Global, columns: &[TExpr], view: &View<'_>) -> Result<Items<Text>, AllocError>
-    ensures fields { IfOk result (λ fields. fields ≡ map (λ g. field_text view.now.epoch.now (column_on (scene_of view.now) g)) (map typed_of columns.now)) }
+    ensures fields { IfOk result (λ fields. fields ≡ map (λ g. field_text view.now.terms.now.epoch (column_on (scene_of view.now) g)) (map typed_of columns.now)) }
 {
     let mut fields = Vec::with_capacity(alloc, columns.len())?;
     for column in columns {
@@ -68,9 +69,9 @@ fn keys_of(
     select: &TypedSelect,
     store: &Store,
     kept: &[Tuple],
-    epoch: &Epoch,
+    terms: &Terms,
 ) -> Result<Vec<Items<Text>>, AllocError>
-    ensures keys { IfOk result (λ keys. keys.items ≡ map (group_fields (select_seen select.now) store.now epoch.now) kept.now) }
+    ensures keys { IfOk result (λ keys. keys.items ≡ map (group_fields (select_seen select.now) store.now terms.now) kept.now) }
 {
     let mut keys = Vec::with_capacity(alloc, kept.len())?;
     for tuple in kept {
@@ -78,7 +79,7 @@ fn keys_of(
             store,
             from: select.from.as_slice(),
             tuple: tuple.as_slice(),
-            epoch,
+            terms,
         };
         keys.push(fields_on(alloc, select.groups.as_slice(), &view)?)?;
     }
@@ -122,23 +123,23 @@ fn grouped_tuples(
     select: &TypedSelect,
     store: &Store,
     kept: &[Tuple],
-    epoch: &Epoch,
+    terms: &Terms,
     numbers: &[usize],
     groups: &mut Vec<Group<'_>>,
 ) -> Result<(), QueryFault>
     requires few { length kept.now < 2 ^ 62 }
-    requires numbered { numbers.now ≡ map (number_on (select_seen select.now) store.now epoch.now kept.now) kept.now }
-    requires start { AreGroupsOf (select_seen select.now) store.now epoch.now (keys_on (select_seen select.now) store.now epoch.now kept.now) [] groups.old.items }
-    ensures groups { IfOk result (λ _. AreGroupsOf (select_seen select.now) store.now epoch.now (keys_on (select_seen select.now) store.now epoch.now kept.now) kept.now groups.new.items) }
-    ensures fits { IfOk result (λ _. IsGroupedFault (select_seen select.now) store.now epoch.now kept.now None) }
-    ensures fault { IfErr result (OnCause (λ f. IsGroupedFault (select_seen select.now) store.now epoch.now kept.now (Some f))) }
+    requires numbered { numbers.now ≡ map (number_on (select_seen select.now) store.now terms.now kept.now) kept.now }
+    requires start { AreGroupsOf (select_seen select.now) store.now terms.now (keys_on (select_seen select.now) store.now terms.now kept.now) [] groups.old.items }
+    ensures groups { IfOk result (λ _. AreGroupsOf (select_seen select.now) store.now terms.now (keys_on (select_seen select.now) store.now terms.now kept.now) kept.now groups.new.items) }
+    ensures fits { IfOk result (λ _. IsGroupedFault (select_seen select.now) store.now terms.now kept.now None) }
+    ensures fault { IfErr result (OnCause (λ f. IsGroupedFault (select_seen select.now) store.now terms.now kept.now (Some f))) }
 {
     for (place, tuple) in kept.iter().enumerate() {
         let view = View {
             store,
             from: select.from.as_slice(),
             tuple: tuple.as_slice(),
-            epoch,
+            terms,
         };
         match group_with(alloc, &mut groups[numbers[place]], tuple, &view) {
             Ok(()) => {}
@@ -186,9 +187,9 @@ fn first_value(
     store: &Store,
     first: &Option<Tuple>,
     e: &TExpr,
-    epoch: &Epoch,
+    terms: &Terms,
 ) -> Result<Value, AllocError>
-    ensures value { (tuples : _) → first.now ≡ first_of tuples → IfOk result (λ v. v ≡ first_value (select_seen select.now) store.now epoch.now tuples (typed_of e.now)) }
+    ensures value { (tuples : _) → first.now ≡ first_of tuples → IfOk result (λ v. v ≡ first_value (select_seen select.now) store.now terms.now tuples (typed_of e.now)) }
 {
     let Some(tuple) = first else {
         return Ok(Value::Null);
@@ -197,7 +198,7 @@ fn first_value(
         store,
         from: select.from.as_slice(),
         tuple: tuple.as_slice(),
-        epoch,
+        terms,
     };
     column_on(alloc, e, &view)?.own(alloc)
 }
@@ -211,13 +212,13 @@ fn key_value(
     columns: &[Value],
     number: usize,
     key: &TExpr,
-    epoch: &Epoch,
+    terms: &Terms,
 ) -> Result<Value, AllocError>
-    ensures value { (tuples : _) → first.now ≡ first_of tuples → IfOk result (λ v. v ≡ answer_key (select_seen select.now) store.now epoch.now tuples columns.now (typed_of key.now) (answer_item (select_seen select.now).key_items number)) }
+    ensures value { (tuples : _) → first.now ≡ first_of tuples → IfOk result (λ v. v ≡ answer_key (select_seen select.now) store.now terms.now tuples columns.now (typed_of key.now) (answer_item (select_seen select.now).key_items number)) }
 {
     match item_of(select.key_items.as_slice(), number) {
         Some(item) => item_value(alloc, columns, item),
-        None => first_value(alloc, select, store, first, key, epoch),
+        None => first_value(alloc, select, store, first, key, terms),
     }
 }
 
@@ -228,14 +229,14 @@ fn key_values(
     store: &Store,
     first: &Option<Tuple>,
     columns: &[Value],
-    epoch: &Epoch,
+    terms: &Terms,
 ) -> Result<Items<Value>, AllocError>
-    ensures values { (tuples : _) → first.now ≡ first_of tuples → IfOk result (λ values. values ≡ keys_from (select_seen select.now) store.now epoch.now tuples columns.now 0 (select_seen select.now).keys) }
+    ensures values { (tuples : _) → first.now ≡ first_of tuples → IfOk result (λ values. values ≡ keys_from (select_seen select.now) store.now terms.now tuples columns.now 0 (select_seen select.now).keys) }
 {
     let keys = select.keys.as_slice();
     let mut values = Vec::with_capacity(alloc, keys.len())?;
     for (number, key) in keys.iter().enumerate() {
-        values.push(key_value(alloc, select, store, first, columns, number, &key.0, epoch)?)?;
+        values.push(key_value(alloc, select, store, first, columns, number, &key.0, terms)?)?;
     }
     Ok(Items::from_vec(values))
 }
@@ -247,11 +248,11 @@ fn row_with<'a>(
     store: &Store,
     first: &Option<Tuple>,
     columns: Vec<Value>,
-    epoch: &Epoch,
+    terms: &Terms,
 ) -> Result<Row<'a>, AllocError>
-    ensures row { (tuples : _) → first.now ≡ first_of tuples → AllZip (IsColumnValue (select_seen select.now) store.now epoch.now tuples) (columns_of (select_seen select.now)) columns.items → IfOk result (λ row. IsGroupRowOf (select_seen select.now) store.now epoch.now tuples row) }
+    ensures row { (tuples : _) → first.now ≡ first_of tuples → AllZip (IsColumnValue (select_seen select.now) store.now terms.now tuples) (columns_of (select_seen select.now)) columns.items → IfOk result (λ row. IsGroupRowOf (select_seen select.now) store.now terms.now tuples row) }
 {
-    let keys = key_values(alloc, select, store, first, columns.as_slice(), epoch)?;
+    let keys = key_values(alloc, select, store, first, columns.as_slice(), terms)?;
     let keys = row_values(alloc, keys.into_vec())?;
     let fields = row_values(alloc, columns)?;
     Row::new(keys, fields)
@@ -263,13 +264,13 @@ fn row_of<'a>(
     select: &TypedSelect,
     store: &Store,
     group: Group<'_>,
-    epoch: &Epoch,
+    terms: &Terms,
 ) -> Result<Row<'a>, AllocError>
-    ensures row { (tuples : _) → IsGroupOf (select_seen select.now) store.now epoch.now tuples group.entry → IfOk result (λ row. IsGroupRowOf (select_seen select.now) store.now epoch.now tuples row) }
+    ensures row { (tuples : _) → IsGroupOf (select_seen select.now) store.now terms.now tuples group.entry → IfOk result (λ row. IsGroupRowOf (select_seen select.now) store.now terms.now tuples row) }
 {
     let Group { first, memos } = group;
     let columns = values_of(alloc, memos)?;
-    row_with(alloc, select, store, &first, columns, epoch)
+    row_with(alloc, select, store, &first, columns, terms)
 }
 
 // The rows of groups in order.
@@ -278,13 +279,13 @@ fn rows_of<'a>(
     select: &TypedSelect,
     store: &Store,
     groups: Vec<Group<'_>>,
-    epoch: &Epoch,
+    terms: &Terms,
 ) -> Result<Vec<Row<'a>>, AllocError>
-    ensures rows { (all : _) → AllZip (IsGroupOf (select_seen select.now) store.now epoch.now) all groups.entry.items → IfOk result (λ rows. AllZip (IsGroupRowOf (select_seen select.now) store.now epoch.now) all rows.items) }
+    ensures rows { (all : _) → AllZip (IsGroupOf (select_seen select.now) store.now terms.now) all groups.entry.items → IfOk result (λ rows. AllZip (IsGroupRowOf (select_seen select.now) store.now terms.now) all rows.items) }
 {
     let mut rows = Vec::with_capacity(alloc, groups.len())?;
     for group in groups {
-        rows.push(row_of(alloc, select, store, group, epoch)?)?;
+        rows.push(row_of(alloc, select, store, group, terms)?)?;
     }
     Ok(rows)
 }
@@ -295,12 +296,12 @@ fn groups_of(
     select: &TypedSelect,
     store: &Store,
     kept: &[Tuple],
-    epoch: &Epoch,
+    terms: &Terms,
 ) -> Result<Groups, AllocError>
-    ensures numbers { IfOk result (λ r. r.numbers.items ≡ map (number_on (select_seen select.now) store.now epoch.now kept.now) kept.now) }
-    ensures groups { IfOk result (λ r. r.groups ≡ length (keys_on (select_seen select.now) store.now epoch.now kept.now)) }
+    ensures numbers { IfOk result (λ r. r.numbers.items ≡ map (number_on (select_seen select.now) store.now terms.now kept.now) kept.now) }
+    ensures groups { IfOk result (λ r. r.groups ≡ length (keys_on (select_seen select.now) store.now terms.now kept.now)) }
 {
-    let keys = keys_of(alloc, select, store, kept, epoch)?;
+    let keys = keys_of(alloc, select, store, kept, terms)?;
     let found = numbers_of(alloc, keys.as_slice())?;
     Ok(Groups {
         groups: count_of(select, found.groups),
@@ -314,13 +315,13 @@ fn begun<'a>(
     select: &'a TypedSelect,
     store: &Store,
     kept: &[Tuple],
-    epoch: &Epoch,
+    terms: &Terms,
 ) -> Result<(Vec<usize>, Vec<Group<'a>>), AllocError>
-    ensures numbers { IfOk result (λ r. r.0.items ≡ map (number_on (select_seen select.now) store.now epoch.now kept.now) kept.now) }
-    ensures groups { IfOk result (λ r. AreGroupsOf (select_seen select.now) store.now epoch.now (keys_on (select_seen select.now) store.now epoch.now kept.now) [] r.1.items) }
+    ensures numbers { IfOk result (λ r. r.0.items ≡ map (number_on (select_seen select.now) store.now terms.now kept.now) kept.now) }
+    ensures groups { IfOk result (λ r. AreGroupsOf (select_seen select.now) store.now terms.now (keys_on (select_seen select.now) store.now terms.now kept.now) [] r.1.items) }
 {
     let columns = columns_of(alloc, select.items.as_slice(), select.aggs.as_slice())?;
-    let found = groups_of(alloc, select, store, kept, epoch)?;
+    let found = groups_of(alloc, select, store, kept, terms)?;
     let groups = no_groups(alloc, columns.as_slice(), found.groups)?;
     Ok((found.numbers, groups))
 }
@@ -333,13 +334,13 @@ pub fn grouped_rows<'a>(
     select: &TypedSelect,
     store: &Store,
     kept: &[Tuple],
-    epoch: &Epoch,
+    terms: &Terms,
 ) -> Result<Vec<Row<'a>>, QueryFault>
-    ensures rows { IfOk result (λ rows. AllZip (IsGroupRowOf (select_seen select.now) store.now epoch.now) (groups_on (select_seen select.now) store.now epoch.now kept.now) rows.items) }
-    ensures fits { IfOk result (λ _. IsGroupedFault (select_seen select.now) store.now epoch.now kept.now None) }
-    ensures fault { IfErr result (OnCause (λ f. IsGroupedFault (select_seen select.now) store.now epoch.now kept.now (Some f))) }
+    ensures rows { IfOk result (λ rows. AllZip (IsGroupRowOf (select_seen select.now) store.now terms.now) (groups_on (select_seen select.now) store.now terms.now kept.now) rows.items) }
+    ensures fits { IfOk result (λ _. IsGroupedFault (select_seen select.now) store.now terms.now kept.now None) }
+    ensures fault { IfErr result (OnCause (λ f. IsGroupedFault (select_seen select.now) store.now terms.now kept.now (Some f))) }
 {
-    let Ok((numbers, mut groups)) = begun(alloc, select, store, kept, epoch) else {
+    let Ok((numbers, mut groups)) = begun(alloc, select, store, kept, terms) else {
         return Err(Fault::NoMemory);
     };
     grouped_tuples(
@@ -347,9 +348,9 @@ pub fn grouped_rows<'a>(
         select,
         store,
         kept,
-        epoch,
+        terms,
         numbers.as_slice(),
         &mut groups,
     )?;
-    Ok(rows_of(alloc, select, store, groups, epoch)?)
+    Ok(rows_of(alloc, select, store, groups, terms)?)
 }

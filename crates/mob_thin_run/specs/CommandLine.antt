@@ -6,7 +6,7 @@ use Rattle.mob_thin_run.specs.declared.settings.ThinSettings.{ThinSettings}
 
 -- `mobthin --within D [--epoch DATE]`
 abbrev pub thin_command : App
-thin_command = command_of (codes "mobthin") (codes "within" ∷ codes "epoch" ∷ [])
+thin_command = command_of (codes "mobthin") (codes "within" ∷ codes "epoch" ∷ []) []
 
 -- the arguments are accepted and give these settings: the distance and the day of the epoch
 pub record ThinSays (words : List Text) (settings : ThinSettings) : Type 0 where

@@ -25,7 +25,7 @@ fn values_in<'a>(alloc: Global, words: &'a [String]) -> Result<Option<Values<'a>
     ensures within { IfOk result (λ o. IfSome o (λ v. option_map (λ s. s.now) v.within ≡ option_value thin_command (codes "within") (map string_bytes words.entry.now))) }
     ensures epoch { IfOk result (λ o. IfSome o (λ v. option_map (λ s. s.now) v.epoch ≡ option_value thin_command (codes "epoch") (map string_bytes words.entry.now))) }
 {
-    let Some(matches) = given(alloc, "mobthin", &["within", "epoch"], words)? else {
+    let Some(matches) = given(alloc, "mobthin", &["within", "epoch"], &[], words)? else {
         return Ok(None);
     };
     Ok(Some(Values {

@@ -9,7 +9,7 @@ use Rattle.mob_tile_run.specs.declared.settings.TileSettings.{TileSettings}
 
 -- `mobtile --size S --width W [--near D] [--workers N] [--epoch DATE]`
 abbrev pub tile_command : App
-tile_command = command_of (codes "mobtile") (codes "size" ∷ codes "width" ∷ codes "near" ∷ codes "workers" ∷ codes "epoch" ∷ [])
+tile_command = command_of (codes "mobtile") (codes "size" ∷ codes "width" ∷ codes "near" ∷ codes "workers" ∷ codes "epoch" ∷ []) []
 
 -- a side of the tiles: a number, written like a literal of type numeric, that is positive
 abbrev pub IsSide : Text → Ratio → Type 0

@@ -31,6 +31,7 @@ pub fn values_in<'a>(alloc: Global, words: &'a [String]) -> Result<Option<Values
         alloc,
         "mobtile",
         &["size", "width", "near", "workers", "epoch"],
+        &[],
         words,
     )?
     else {

@@ -2,7 +2,7 @@
 use Rattle.std.specs.Prelude.{◌++◌, [], ℕ, List, codes}
 use Rattle.mob_ast.specs.declared.refusal.Kind.{Kind}
 use Rattle.mob_slice.specs.declared.formula.Formula.{Formula}
-use Rattle.mob_ending.specs.Lines.{formula_name, record_text, rows_text}
+use Rattle.mob_ending.specs.Lines.{record_text, rows_text, what_passes}
 use Rattle.mob_trips.specs.declared.ending.TripsEnding.{TripsEnding}
 use Rattle.mob_trips.specs.declared.ending.TripsEnding.TheVariants.{Done, Usage, ReadFault, WriteFault, NoMemory, TableRefused, RowsRefused, Overflow}
 
@@ -21,9 +21,9 @@ trips_status (Overflow rows formula) = 8
 abbrev pub rows_word : List ℕ
 rows_word = codes "rows "
 
--- the text after them: a formula that overflows, or a limit
+-- the text after them: what does not fit, or a limit
 abbrev pub formula_text : Formula → List ℕ
-formula_text formula = codes ": formula " ++ (formula_name formula ++ codes " passes 62 bits\n")
+formula_text formula = codes ": " ++ (what_passes formula ++ codes " passes 62 bits\n")
 
 abbrev pub limit_text : List ℕ
 limit_text = codes ": refusal 13 (Limit)\n"

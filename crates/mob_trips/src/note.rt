@@ -4,7 +4,7 @@ ghost use Rattle.mob_trips.specs.Lines.{formula_text, limit_line, passes_line, t
 
 use crate::TripsEnding;
 use mob_ast::Kind;
-use mob_ending::pieces::{formula_name, put_record, put_rows};
+use mob_ending::pieces::{put_record, put_rows, what_passes};
 use mob_outside::{Failed, Sink, put_all, put_pieces};
 use mob_slice::Formula;
 
@@ -16,19 +16,19 @@ fn put_refusal<E: Sink>(notes: &mut E, kind: Kind, rec: u32, field: u32) -> Resu
     put_record(notes, kind, rec, field)
 }
 
-// The formula, after the rows.
+// What does not fit, after the rows.
 fn put_passes<E: Sink>(notes: &mut E, formula: Formula) -> Result<(), Failed>
     ensures puts { Puts (formula_text formula) (E.held notes.old) (E.held notes.new) (E.faults notes.old) (E.faults notes.new) }
 {
     let pieces = [
-        b": formula ".as_slice(),
-        formula_name(formula).as_bytes(),
+        b": ".as_slice(),
+        what_passes(formula).as_bytes(),
         b" passes 62 bits\n".as_slice(),
     ];
     put_pieces(notes, &pieces)
 }
 
-// The line of a part of a formula that does not fit.
+// The line of a number that does not fit.
 fn put_overflow<E: Sink>(notes: &mut E, rows: &[u32], formula: Formula) -> Result<(), Failed>
     ensures puts { Puts (passes_line rows.now formula) (E.held notes.old) (E.held notes.new) (E.faults notes.old) (E.faults notes.new) }
 {

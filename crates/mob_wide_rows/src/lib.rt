@@ -1,4 +1,5 @@
-//! Tests of numbers of any size: sums, products, quotients, order, lines and roots beyond 62 bits.
+//! Tests of numbers of any size: sums, products, quotients, squares, order, lines and roots beyond
+//! 62 bits.
 #![tactic(auto)]
 
 #[cfg(test)]

@@ -1,7 +1,7 @@
 //! Rows of numbers, each with an answer worked out by hand.
 
 use mob_frac::Frac;
-use mob_wide::{Broad, Whole, are_opposite, line_at, root_within};
+use mob_wide::{Broad, Exact, Whole, are_opposite, line_at, root_within};
 use std::alloc::{AllocError, Global};
 use std::cmp::Ordering;
 
@@ -317,5 +317,69 @@ static ROOTS: [(Function, Option<Parts>); 4] = [
 fn functions_have_roots(rt: HostRuntime) {
     for row in &ROOTS {
         assert!(rt; has_root(rt.alloc(), row));
+    }
+}
+
+// The square of a fraction.
+fn squared(alloc: Global, parts: Parts) -> Option<Exact> {
+    if parts.1 == 0 {
+        return None;
+    }
+    match Frac::new(parts.0, parts.1) {
+        Ok(number) => Exact::square_of(alloc, &number).ok(),
+        Err(_) => None,
+    }
+}
+
+// Whether the square is a `Frac` from the first, with these parts, or is none where there are no
+// parts.
+fn squares_to(alloc: Global, row: &(Parts, Option<Parts>)) -> bool {
+    match squared(alloc, row.0) {
+        Some(square) => match square.as_frac() {
+            Some(small) => row.1 == Some((small.num(), small.den())),
+            None => row.1.is_none(),
+        },
+        None => false,
+    }
+}
+
+static SQUARES: [(Parts, Option<Parts>); 4] = [
+    ((3, 2), Some((9, 4))),
+    ((-2147483647, 1), Some((4611686014132420609, 1))),
+    // 2^62 in the numerator, and in the denominator
+    ((2147483648, 1), None),
+    ((1, 2147483648), None),
+];
+
+// A square that fits stays a `Frac`, of which no operation allocates.
+#[test]
+fn squares_that_fit_stay_small(rt: HostRuntime) {
+    for row in &SQUARES {
+        assert!(rt; squares_to(rt.alloc(), row));
+    }
+}
+
+fn is_square_below(alloc: Global, a: Parts, b: Parts) -> Option<bool> {
+    match (squared(alloc, a), squared(alloc, b)) {
+        (Some(a), Some(b)) => a.is_below(alloc, &b).ok(),
+        _ => None,
+    }
+}
+
+// Two numbers of which the square of the first is below that of the second: both small, one of them
+// and both large.
+static BELOW: [(Parts, Parts); 4] = [
+    ((1, 3), (1, 2)),
+    ((3, 1), (2147483648, 1)),
+    ((1, 2147483648), (1, 3)),
+    ((2147483648, 1), (-2147483649, 1)),
+];
+
+#[test]
+fn squares_are_in_order(rt: HostRuntime) {
+    for row in &BELOW {
+        assert!(rt; is_square_below(rt.alloc(), row.0, row.1) == Some(true));
+        assert!(rt; is_square_below(rt.alloc(), row.1, row.0) == Some(false));
+        assert!(rt; is_square_below(rt.alloc(), row.0, row.0) == Some(false));
     }
 }

@@ -1,5 +1,5 @@
 //! Each operator, on the values of its operands. The fault is its first formula with a part that
-//! does not fit, and `NoMemory` comes if an allocation fails. The named operators are those of
+//! does not fit, which depends on the mode, and `NoMemory` comes if an allocation fails. The named operators are those of
 //! the MobilityDB manual, except `nearestApproachSquared`.
 ghost use Rattle.std.specs.Prelude.{◌≡◌, IfOk};
 ghost use Rattle.mob_eval.specs.Views.{scene_of};
@@ -11,18 +11,19 @@ ghost use Rattle.mob_value.specs.Outcomes.{IsOutcome};
 ghost use Rattle.mob_eval.specs.Wanted.{wanted};
 
 mod casting;
+mod given;
 mod meeting;
 mod printed;
 
 use crate::operators::casting::cast;
+use crate::operators::given::{calculated, divided, expanded};
 use crate::operators::meeting::meeting;
 use crate::operators::printed::as_text;
 use crate::scene::View;
-use mob_arith::sql::arithmetic::{calculate, division};
 use mob_arith::sql::calculation::Calculation;
 use mob_arith::sql::lifting::{join, lifted_and, lifted_not, lifted_or};
 use mob_ast::SqlType;
-use mob_clip::sql::boxes::{box_restriction, box_value, expansion, overlap};
+use mob_clip::sql::boxes::{box_restriction, box_value, overlap};
 use mob_clip::sql::polygons::{intersects, polygon_restriction};
 use mob_compare::sql::signs::sign_test;
 use mob_compare::sql::true_times::true_time;
@@ -38,7 +39,7 @@ use mob_restrict::sql::coordinates::{east, north};
 use mob_restrict::sql::defined::defined_time;
 use mob_restrict::sql::look::look_up;
 use mob_restrict::sql::restriction::restriction;
-use mob_slice::Formula;
+use mob_slice::{Formula, Mode};
 use mob_typed::TExpr;
 use mob_value::Value;
 use mob_value::held::{Held, made};
@@ -71,7 +72,7 @@ pub fn of_one<'a>(
         Op::GetX => made(east(alloc, value)),
         Op::GetY => made(north(alloc, value)),
         Op::BoxOf => made(box_value(alloc, value)),
-        Op::AsText => made(as_text(alloc, value, view.epoch)),
+        Op::AsText => made(as_text(alloc, value, &view.terms.epoch)),
         Op::Cast => cast(alloc, ty, args, operand),
         _ => Ok(Held::Made(Value::Null)),
     }
@@ -87,22 +88,23 @@ fn wanted(op: Op) -> bool
 /// An operator on two operands, or its first formula with a part that does not fit.
 pub fn of_two(
     alloc: Global,
+    mode: Mode,
     op: Op,
     ty: SqlType,
     args: &[TExpr],
     left: &Value,
     right: &Value,
 ) -> Result<Value, Fault<Formula>>
-    ensures outcome { IsOutcome (GivesOfTwo op ty (operand_types args.now) left.now right.now) (λ first. OnEntriesOfTwo op ty (operand_types args.now) left.now right.now (λ entries. IsFirst entries first)) result }
+    ensures outcome { IsOutcome (GivesOfTwo op ty (operand_types args.now) left.now right.now) (λ first. OnEntriesOfTwo mode op ty (operand_types args.now) left.now right.now (λ entries. IsFirst entries first)) result }
 {
     match op {
         Op::And => Ok(known(conjunction(truth_of(left), truth_of(right)))),
         Op::Or => Ok(known(disjunction(truth_of(left), truth_of(right)))),
         Op::Test(sign) => Ok(test(sign, left, right)),
-        Op::Add => calculate(alloc, Calculation::Sum, ty, left, right),
-        Op::Subtract => calculate(alloc, Calculation::Difference, ty, left, right),
-        Op::Multiply => calculate(alloc, Calculation::Product, ty, left, right),
-        Op::Divide => division(alloc, ty, left, right),
+        Op::Add => calculated(alloc, mode, Calculation::Sum, ty, left, right),
+        Op::Subtract => calculated(alloc, mode, Calculation::Difference, ty, left, right),
+        Op::Multiply => calculated(alloc, mode, Calculation::Product, ty, left, right),
+        Op::Divide => divided(alloc, mode, ty, left, right),
         Op::Join => join(alloc, ty, left, right),
         Op::LiftedAnd => lifted_and(alloc, left, right),
         Op::LiftedOr => lifted_or(alloc, left, right),
@@ -113,11 +115,11 @@ pub fn of_two(
         Op::AtValues | Op::MinusValues => value_restriction(alloc, wanted(op), left, right),
         Op::ValueAtTimestamp => look_up(alloc, left, right),
         Op::Overlap => Ok(overlap(left, right)),
-        Op::ExpandSpace => expansion(alloc, left, right),
+        Op::ExpandSpace => expanded(alloc, mode, left, right),
         Op::AtStbox | Op::MinusStbox => box_restriction(alloc, wanted(op), left, right),
         Op::AtGeometry | Op::MinusGeometry => polygon_restriction(alloc, wanted(op), left, right),
         Op::EIntersects => intersects(alloc, left, right),
-        Op::NearestApproachSquared => nearest_approach(alloc, left, right),
+        Op::NearestApproachSquared => nearest_approach(alloc, mode, left, right),
         _ => Ok(Value::Null),
     }
 }
@@ -125,15 +127,16 @@ pub fn of_two(
 /// An operator on three operands, or its first formula with a part that does not fit.
 pub fn of_three(
     alloc: Global,
+    mode: Mode,
     op: Op,
     first: &Value,
     second: &Value,
     third: &Value,
 ) -> Result<Value, Fault<Formula>>
-    ensures outcome { IsOutcome (GivesOfThree op first.now second.now third.now) (IsFirst (entries_of_three op first.now second.now third.now)) result }
+    ensures outcome { IsOutcome (GivesOfThree op first.now second.now third.now) (IsFirst (entries_of_three mode op first.now second.now third.now)) result }
 {
     match op {
-        Op::EDwithin => within(alloc, first, second, third),
+        Op::EDwithin => within(alloc, mode, first, second, third),
         _ => Ok(Value::Null),
     }
 }

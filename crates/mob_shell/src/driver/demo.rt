@@ -2,6 +2,7 @@
 ghost use Rattle.std.specs.Prelude.{◌≡◌, ◌≤◌, IfOk};
 ghost use Rattle.mob_outside.specs.EndsSeen.{stream_seen};
 ghost use Rattle.mob_shell.specs.Inputs.{demo_files};
+ghost use Rattle.mob_shell.specs.Terms.{terms_of};
 ghost use Rattle.mob_shell.specs.Parts.{DemoEnds, demo_ending};
 
 use crate::driver::judge::run_text;
@@ -47,7 +48,7 @@ pub fn run_demo<R: Threads + Sync, K: Sink, G: Gate>(
     requires some { 1 ≤ settings.workers }
     requires few { settings.workers ≤ 64 }
     requires ships { ships ≤ 1000 }
-    ensures ends { DemoEnds settings.epoch ships (stream_seen K.held K.faults out.old out.new) result }
+    ensures ends { DemoEnds (terms_of settings) ships (stream_seen K.held K.faults out.old out.new) result }
     ensures later { K.faults out.old ≤ K.faults out.new }
 {
     let Ok(script) = demo_script(alloc) else {

@@ -2,8 +2,10 @@
 ghost use Rattle.std.specs.Prelude.{◌≡◌, ◌≤◌};
 ghost use Rattle.mob_outside.specs.Told.{KeepsFiles};
 ghost use Rattle.mob_outside.specs.EndsSeen.{files_seen, stream_seen};
+ghost use Rattle.mob_shell.specs.Terms.{terms_of};
 ghost use Rattle.mob_shell.specs.Parts.{IsEndingOfRefusal, TextEnds, unloaded};
 
+use crate::driver::terms::terms_of;
 use crate::statements::{Session, run_session};
 use mob_accept::accept;
 use mob_arguments::Settings;
@@ -64,7 +66,7 @@ pub fn run_text<R: Threads + Sync, F: Files, K: Sink, G: Gate>(
 ) -> Ending
     requires some { 1 ≤ settings.workers }
     requires few { settings.workers ≤ 64 }
-    ensures ends { TextEnds settings.epoch bytes.now (files_seen F.files F.asked F.faults files.old files.new) (stream_seen K.held K.faults out.old out.new) result }
+    ensures ends { TextEnds (terms_of settings) bytes.now (files_seen F.files F.asked F.faults files.old files.new) (stream_seen K.held K.faults out.old out.new) result }
     ensures files { KeepsFiles (F.files files.old) (F.files files.new) }
     ensures filed_later { F.faults files.old ≤ F.faults files.new }
     ensures put_later { K.faults out.old ≤ K.faults out.new }
@@ -81,7 +83,7 @@ pub fn run_text<R: Threads + Sync, F: Files, K: Sink, G: Gate>(
         Ok(program) => program,
         Err(end) => return unloaded(end),
     };
-    let mut session = Session::new(alloc, program, settings.epoch);
+    let mut session = Session::new(alloc, program, terms_of(&settings));
     let statements = typed.statements.as_slice();
     let workers = settings.workers as usize;
     run_session(rt, alloc, &mut session, statements, out, workers, gate)

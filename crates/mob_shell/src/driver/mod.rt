@@ -3,6 +3,7 @@
 mod decide;
 mod demo;
 mod judge;
+mod terms;
 mod top;
 
 pub use top::run;

@@ -11,8 +11,8 @@ use crate::statements::answers::kept_tuples;
 use mob_catalog::Catalog;
 use mob_eval::QueryFault;
 use mob_list::items::Items;
+use mob_meaning::Terms;
 use mob_outside::Gate;
-use mob_scalar::Epoch;
 use mob_tuples::Tuple;
 use mob_typed::TypedSelect;
 use std::alloc::{AllocError, Global};
@@ -44,13 +44,13 @@ fn take_away(
     alloc: Global,
     select: &TypedSelect,
     catalog: &mut Catalog,
-    epoch: &Epoch,
+    terms: &Terms,
     kept: Items<Tuple>,
 ) -> Result<(), AllocError>
     requires typed { IsTypedFor catalog.old (select_seen select.now) }
     requires one { length select.now.from ≡ 1 }
-    requires kept { IsKept (select_seen select.now) catalog.old epoch.now (Ok kept) }
-    ensures deleted { OnOk result (IsDeleted (select_seen select.now) catalog.old epoch.now catalog.new) }
+    requires kept { IsKept (select_seen select.now) catalog.old terms.now (Ok kept) }
+    ensures deleted { OnOk result (IsDeleted (select_seen select.now) catalog.old terms.now catalog.new) }
     ensures unchanged { OnErr result (catalog.new ≡ catalog.old) }
 {
     let rows = first_rows(alloc, kept.as_slice())?;
@@ -67,7 +67,7 @@ pub fn delete_kept<R: Threads + Sync, G: Gate>(
     alloc: Global,
     select: &TypedSelect,
     catalog: &mut Catalog,
-    epoch: &Epoch,
+    terms: &Terms,
     workers: usize,
     gate: &G,
 ) -> Result<(), QueryFault>
@@ -75,12 +75,12 @@ pub fn delete_kept<R: Threads + Sync, G: Gate>(
     requires one { length select.now.from ≡ 1 }
     requires some { 1 ≤ workers }
     requires few { workers ≤ 64 }
-    ensures deleted { OnOk result (IsDeleted (select_seen select.now) catalog.old epoch.now catalog.new) }
-    ensures fault { IfErr result (OnCause (λ f. IsKept (select_seen select.now) catalog.old epoch.now (Err f))) }
+    ensures deleted { OnOk result (IsDeleted (select_seen select.now) catalog.old terms.now catalog.new) }
+    ensures fault { IfErr result (OnCause (λ f. IsKept (select_seen select.now) catalog.old terms.now (Err f))) }
     ensures unchanged { OnErr result (catalog.new ≡ catalog.old) }
 {
-    match kept_tuples(rt, alloc, select, catalog, epoch, workers, gate) {
-        Ok(kept) => Ok(take_away(alloc, select, catalog, epoch, kept)?),
+    match kept_tuples(rt, alloc, select, catalog, terms, workers, gate) {
+        Ok(kept) => Ok(take_away(alloc, select, catalog, terms, kept)?),
         Err(fault) => Err(fault),
     }
 }

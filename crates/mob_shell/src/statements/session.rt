@@ -5,7 +5,7 @@ ghost use Rattle.mob_typed.specs.Selects.{select_seen};
 ghost use Rattle.mob_typed.specs.Statements.{deletion, plan_of, query, statement_seen};
 ghost use Rattle.mob_join.specs.TypedFor.{IsTypedFor};
 ghost use Rattle.mob_shell.specs.Runs.{Stops, StatementWrites, StatementLeaves, begin, later_files, next_rows};
-ghost use Rattle.mob_shell.specs.Session.{IsNoDelete, SessionCanRun, SessionRuns, StopsOn, session_day, session_state};
+ghost use Rattle.mob_shell.specs.Session.{IsNoDelete, SessionCanRun, SessionRuns, StopsOn, session_terms, session_state};
 
 use crate::statements::answers::{answered, explained};
 use crate::statements::deleting::delete_kept;
@@ -14,8 +14,8 @@ use mob_catalog::Catalog;
 use mob_eval::QueryFault;
 use mob_list::fault::Fault;
 use mob_load::Program;
+use mob_meaning::Terms;
 use mob_outside::Gate;
-use mob_scalar::Epoch;
 use mob_typed::{TypedSelect, TypedStatement};
 use mob_value::{Rows, Value};
 use std::alloc::{AllocError, Global};
@@ -27,21 +27,21 @@ use std::thread::Threads;
 pub struct Session {
     catalog: Catalog,
     files: VecDeque<Rows<Value>>,
-    epoch: Epoch,
+    terms: Terms,
 }
 
 impl Session {
     /// A run before its first statement: no tables, the values of the script's literals, and the
     /// rows of its files.
-    pub fn new(alloc: Global, program: Program, epoch: Epoch) -> Session
+    pub fn new(alloc: Global, program: Program, terms: Terms) -> Session
         ensures begins { session_state result ≡ begin program }
-        ensures day { session_day result ≡ epoch }
+        ensures terms { session_terms result ≡ terms }
     {
         let Program { values, files } = program;
         Session {
             catalog: Catalog::new(alloc, values),
             files: VecDeque::from_vec(files.into_vec()),
-            epoch,
+            terms,
         }
     }
 
@@ -50,7 +50,7 @@ impl Session {
         ensures rows { result ≡ next_rows self.old.files.items }
         ensures left { self.new.files.items ≡ later_files self.old.files.items }
         ensures catalog { self.new.catalog ≡ self.old.catalog }
-        ensures day { self.new.epoch ≡ self.old.epoch }
+        ensures terms { self.new.terms ≡ self.old.terms }
     {
         match self.files.pop_front() {
             Some(rows) => rows,
@@ -70,16 +70,16 @@ impl Session {
         requires typed { IsTypedFor (session_state self.now).catalogue (select_seen select.now) }
         requires some { 1 ≤ workers }
         requires few { workers ≤ 64 }
-        ensures text { IfOk result (λ text. StatementWrites (session_day self.now) (session_state self.now) (query (select_seen select.now)) text.items) }
-        ensures fault { IfErr result (OnCause (λ f. Stops (session_day self.now) (session_state self.now) (query (select_seen select.now)) f)) }
+        ensures text { IfOk result (λ text. StatementWrites (session_terms self.now) (session_state self.now) (query (select_seen select.now)) text.items) }
+        ensures fault { IfErr result (OnCause (λ f. Stops (session_terms self.now) (session_state self.now) (query (select_seen select.now)) f)) }
     {
-        answered(rt, alloc, select, &self.catalog, &self.epoch, workers, gate)
+        answered(rt, alloc, select, &self.catalog, &self.terms, workers, gate)
     }
 
     // The text of the plan of a query. It has no fault of evaluation.
     fn explain(&self, alloc: Global, select: &TypedSelect) -> Result<Vec<u8>, QueryFault>
-        ensures text { IfOk result (λ text. StatementWrites (session_day self.now) (session_state self.now) (plan_of (select_seen select.now)) text.items) }
-        ensures fault { IfErr result (OnCause (λ f. Stops (session_day self.now) (session_state self.now) (plan_of (select_seen select.now)) f)) }
+        ensures text { IfOk result (λ text. StatementWrites (session_terms self.now) (session_state self.now) (plan_of (select_seen select.now)) text.items) }
+        ensures fault { IfErr result (OnCause (λ f. Stops (session_terms self.now) (session_state self.now) (plan_of (select_seen select.now)) f)) }
     {
         Ok(explained(alloc, select, &self.catalog)?)
     }
@@ -98,10 +98,10 @@ impl Session {
         requires one { length select.now.from ≡ 1 }
         requires some { 1 ≤ workers }
         requires few { workers ≤ 64 }
-        ensures leaves { OnOk result (StatementLeaves (session_day self.old) (session_state self.old) (deletion (select_seen select.now)) (session_state self.new)) }
+        ensures leaves { OnOk result (StatementLeaves (session_terms self.old) (session_state self.old) (deletion (select_seen select.now)) (session_state self.new)) }
         ensures text { IfOk result (λ text. text.items ≡ []) }
-        ensures day { OnOk result (session_day self.new ≡ session_day self.old) }
-        ensures fault { IfErr result (OnCause (λ f. Stops (session_day self.old) (session_state self.old) (deletion (select_seen select.now)) f)) }
+        ensures terms { OnOk result (session_terms self.new ≡ session_terms self.old) }
+        ensures fault { IfErr result (OnCause (λ f. Stops (session_terms self.old) (session_state self.old) (deletion (select_seen select.now)) f)) }
         ensures unchanged { OnErr result (session_state self.new ≡ session_state self.old) }
     {
         delete_kept(
@@ -109,7 +109,7 @@ impl Session {
             alloc,
             select,
             &mut self.catalog,
-            &self.epoch,
+            &self.terms,
             workers,
             gate,
         )?;
@@ -120,8 +120,8 @@ impl Session {
     // nothing here. `delete` runs a DELETE.
     fn change(&mut self, alloc: Global, statement: &TypedStatement) -> Result<(), AllocError>
         requires other { IsNoDelete (statement_seen statement.now) }
-        ensures leaves { OnOk result (StatementLeaves (session_day self.old) (session_state self.old) (statement_seen statement.now) (session_state self.new)) }
-        ensures day { OnOk result (session_day self.new ≡ session_day self.old) }
+        ensures leaves { OnOk result (StatementLeaves (session_terms self.old) (session_state self.old) (statement_seen statement.now) (session_state self.new)) }
+        ensures terms { OnOk result (session_terms self.new ≡ session_terms self.old) }
     {
         match statement {
             TypedStatement::CreateTable { columns, .. } => {

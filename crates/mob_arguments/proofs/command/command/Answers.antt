@@ -1,9 +1,5 @@
-use Rattle.std.proofs.Common.{◌∙◌, sym}
-use Rattle.mob_arguments.proofs.Commands.{next_option, no_option}
+use Rattle.mob_arguments.proofs.Commands.{next_flag}
 use Rattle.mob_arguments.proofs.command.command.Goals as goal
 
-pub loop-option-init : goal.loop-option-init
-loop-option-init c = c.bare_command-command.ensures.bare ∙ sym (no_option c.args.name.now)
-
-pub loop-option-preserved : goal.loop-option-preserved
-loop-option-preserved c = next_option c.args.name.now c.args.options.now c.loop-option.option-index _ _ _ c.loop-option-test.true c.loop-option.invariant c.in_ok-command.ensures.added
+pub loop-flag-preserved : goal.loop-flag-preserved
+loop-flag-preserved c = next_flag c.args.name.now _ c.args.flags.now c.loop-flag.flag-index _ _ _ c.loop-flag-test.true c.loop-flag.invariant c.in_ok-command-2.ensures.added

@@ -8,7 +8,7 @@ matched-requires c = record { free = ap is_simple_and_free c.in_ok-command.ensur
 
 pub returns : goal.returns
 returns c =
-    let is : app_of c.in_ok-command.command ≡ command_of c.args.name.now (map (λ o. o.now) c.args.options.now) = c.in_ok-command.ensures.made in
+    let is : app_of c.in_ok-command.command ≡ command_of c.args.name.now (map (λ o. o.now) c.args.options.now) (map (λ f. f.now) c.args.flags.now) = c.in_ok-command.ensures.made in
     let words = map string_bytes c.args.words.now in
     record {
       taken = subst (λ (a : App). IfOk c.matched.result (λ o. IfSome o (λ m. Takes a words))) is c.matched.ensures.taken;

@@ -21,4 +21,4 @@ rows_on-requires g c =
 pub returns-in_ok-text_of-in-Ok-clause-text : goal.returns-in_ok-text_of-in-Ok-clause-text
 returns-in_ok-text_of-in-Ok-clause-text g c =
     let text = c.in_ok-text_of-in-Ok.ensures.text in
-    (text.0, (map (answer_row (select_seen c.args.select.now) c.args.epoch.now) c.in-Ok.rows.items, c.in-Ok.ensures.rows, text.1), text.2)
+    (text.0, (map (answer_row (select_seen c.args.select.now) c.args.terms.now.epoch) c.in-Ok.rows.items, c.in-Ok.ensures.rows, text.1), text.2)

@@ -11,5 +11,5 @@ pub answer_on-requires : goal.answer_on-requires
 answer_on-requires g c =
     let select = select_seen c.args.select.now in record {
       roots = ap (map root_seen) c.as_slice-roots.ensures.value ∙ c.in-Ok.ensures.roots;
-      fits = subst (λ r. AnswerFits r select c.args.store.now c.args.epoch.now) (sym c.requires.recollection) (answer_fits select c.args.store.now c.args.epoch.now);
+      fits = subst (λ r. AnswerFits r select c.args.store.now c.args.terms.now) (sym c.requires.recollection) (answer_fits select c.args.store.now c.args.terms.now);
     }

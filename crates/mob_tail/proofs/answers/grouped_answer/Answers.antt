@@ -7,8 +7,8 @@ pub returns-in_ok-text_of-in-Ok-clause-text : goal.returns-in_ok-text_of-in-Ok-c
 returns-in_ok-text_of-in-Ok-clause-text c =
     let select = select_seen c.args.select.now in
     let store = c.args.store.now in
-    let day = c.args.epoch.now in
+    let terms = c.args.terms.now in
     let rows = c.in-Ok.rows.items in
-    let all = all_seen (IsGroupRow select store day) (answer_row select day) (groups_on select store day c.args.kept.now) rows c.in-Ok.ensures.rows in
+    let all = all_seen (IsGroupRow select store terms) (answer_row select terms.epoch) (groups_on select store terms c.args.kept.now) rows c.in-Ok.ensures.rows in
     let text = c.in_ok-text_of-in-Ok.ensures.text in
-    (text.0, (c.in-Ok.ensures.fits, (map (answer_row select day) rows, all, text.1)), text.2)
+    (text.0, (c.in-Ok.ensures.fits, (map (answer_row select terms.epoch) rows, all, text.1)), text.2)

@@ -10,9 +10,9 @@ pub loop-tuple-preserved : goal.loop-tuple-preserved
 loop-tuple-preserved g c =
     let at = c.loop-tuple in
     let select = select_seen c.args.select.now in
-    let R = IsTupleRow select c.args.store.now c.args.epoch.now in
-    let there = λ (t : List ℕ). scene c.args.store.now select.from t c.args.epoch.now in
-    let see = answer_row select c.args.epoch.now in
+    let R = IsTupleRow select c.args.store.now c.args.terms.now in
+    let there = λ (t : List ℕ). scene c.args.store.now select.from t c.args.terms.now in
+    let see = answer_row select c.args.terms.now.epoch in
     let pushed : c.push.new.self.items ≡ at.rows.items ++ c.in-Ok-row_of.row ∷ [] = search rules in
     let seen : map see c.push.new.self.items ≡ map see at.rows.items ++ see c.in-Ok-row_of.row ∷ [] = ap (map see) pushed ∙ map-append see at.rows.items (c.in-Ok-row_of.row ∷ []) in
     each_next R c.args.kept.now at.tuple-index c.tuple-item.result c.loop-tuple-test.true c.tuple-item.is (map see at.rows.items) at.invariant (see c.in-Ok-row_of.row) (map see c.push.new.self.items)
@@ -22,16 +22,16 @@ pub returns-in-Err-clause-fault : goal.returns-in-Err-clause-fault
 returns-in-Err-clause-fault g c =
     let at = c.loop-tuple in
     let select = select_seen c.args.select.now in
-    let R = IsTupleRow select c.args.store.now c.args.epoch.now in
-    let there = λ (t : List ℕ). scene c.args.store.now select.from t c.args.epoch.now in
-    let step = each_fault R c.args.kept.now at.tuple-index c.tuple-item.result c.loop-tuple-test.true c.tuple-item.is (map (answer_row select c.args.epoch.now) at.rows.items) at.invariant in
+    let R = IsTupleRow select c.args.store.now c.args.terms.now in
+    let there = λ (t : List ℕ). scene c.args.store.now select.from t c.args.terms.now in
+    let step = each_fault R c.args.kept.now at.tuple-index c.tuple-item.result c.loop-tuple-test.true c.tuple-item.is (map (answer_row select c.args.terms.now.epoch) at.rows.items) at.invariant in
     on_tuple c.tuple-item.result (λ f. IsRowOf select (there c.tuple-item.result) (Err f)) (λ f. IsMadeOfEach R c.args.kept.now (Err f)) (λ f is h. step f (is, h)) c.in-Err.fault c.fault_on.result
     (subst (λ t. OnCause (λ f. IsRowOf select (there t) (Err f)) c.in-Err.fault) c.as_slice.ensures.same c.in-Err.ensures.fault)
     c.fault_on.ensures.fault
 
 pub returns-clause-rows : goal.returns-clause-rows
 returns-clause-rows g c =
-    each_all (IsTupleRow (select_seen c.args.select.now) c.args.store.now c.args.epoch.now) c.args.kept.now c.loop-tuple.tuple-index (map (answer_row (select_seen c.args.select.now) c.args.epoch.now) c.loop-tuple.rows.items) (omega arith) c.loop-tuple.invariant
+    each_all (IsTupleRow (select_seen c.args.select.now) c.args.store.now c.args.terms.now) c.args.kept.now c.loop-tuple.tuple-index (map (answer_row (select_seen c.args.select.now) c.args.terms.now.epoch) c.loop-tuple.rows.items) (omega arith) c.loop-tuple.invariant
 
 pub row_of-requires : goal.row_of-requires
 row_of-requires g c = record { items = c.requires.items; keys = c.requires.keys; fits = c.requires.fits c.as_slice.result.now }

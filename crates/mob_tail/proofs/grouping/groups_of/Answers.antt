@@ -8,4 +8,4 @@ pub returns-clause-numbers : goal.returns-clause-numbers
 returns-clause-numbers c =
     c.in_ok-found.ensures.numbers
     ∙ ap (λ z. map (group_number same_texts z) z) (c.as_slice.ensures.value ∙ c.in_ok-keys.ensures.keys)
-    ∙ numbers_on_kept (select_seen c.args.select.now) c.args.store.now c.args.epoch.now c.args.kept.now
+    ∙ numbers_on_kept (select_seen c.args.select.now) c.args.store.now c.args.terms.now c.args.kept.now

@@ -7,6 +7,6 @@ pub returns : goal.returns
 returns c = record {
   row = λ tuples h.
       let select = select_seen c.args.select.now in
-      let made = values_made select c.args.store.now c.args.epoch.now tuples c.args.group h in
-      c.row_with.ensures.row tuples h.first (subst (λ z. AllZip (IsColumnValue select c.args.store.now c.args.epoch.now tuples) (columns_of select) z) (sym (c.in_ok-columns.ensures.values made.0 made.1)) made.2);
+      let made = values_made select c.args.store.now c.args.terms.now tuples c.args.group h in
+      c.row_with.ensures.row tuples h.first (subst (λ z. AllZip (IsColumnValue select c.args.store.now c.args.terms.now tuples) (columns_of select) z) (sym (c.in_ok-columns.ensures.values made.0 made.1)) made.2);
 }

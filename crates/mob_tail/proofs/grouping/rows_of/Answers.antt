@@ -6,8 +6,8 @@ use Rattle.mob_tail.proofs.grouping.rows_of.Goals as goal
 
 pub loop-group-init : goal.loop-group-init
 loop-group-init c =
-    let R = IsGroupOf (select_seen c.args.select.now) c.args.store.now c.args.epoch.now in
-    let Q = IsGroupRowOf (select_seen c.args.select.now) c.args.store.now c.args.epoch.now in
+    let R = IsGroupOf (select_seen c.args.select.now) c.args.store.now c.args.terms.now in
+    let Q = IsGroupRowOf (select_seen c.args.select.now) c.args.store.now c.args.terms.now in
     let none : c.in_ok-rows.rows.items ≡ [] = search rules in
     let whole : into_iter_items c.into_iter-group-iterator.result ≡ c.args.groups.items = search rules in
     record {
@@ -20,8 +20,8 @@ loop-group-init c =
 pub loop-group-preserved : goal.loop-group-preserved
 loop-group-preserved c =
     let left = c.in-Some.ensures.steps.0 in
-    let R = IsGroupOf (select_seen c.args.select.now) c.args.store.now c.args.epoch.now in
-    let Q = IsGroupRowOf (select_seen c.args.select.now) c.args.store.now c.args.epoch.now in
+    let R = IsGroupOf (select_seen c.args.select.now) c.args.store.now c.args.terms.now in
+    let Q = IsGroupRowOf (select_seen c.args.select.now) c.args.store.now c.args.terms.now in
     record {
       goes = tt;
       ends = tt;
@@ -33,5 +33,5 @@ loop-group-preserved c =
 pub returns : goal.returns
 returns c = record {
   rows = λ all h.
-      made_all (IsGroupOf (select_seen c.args.select.now) c.args.store.now c.args.epoch.now) (IsGroupRowOf (select_seen c.args.select.now) c.args.store.now c.args.epoch.now) all c.loop-group.rows.items (into_iter_items c.loop-group.group-iterator) (nil_from_length _ (sym c.loop-group.invariant.counted ∙ c.in-None.ensures.steps.0)) (c.loop-group.invariant.made all h);
+      made_all (IsGroupOf (select_seen c.args.select.now) c.args.store.now c.args.terms.now) (IsGroupRowOf (select_seen c.args.select.now) c.args.store.now c.args.terms.now) all c.loop-group.rows.items (into_iter_items c.loop-group.group-iterator) (nil_from_length _ (sym c.loop-group.invariant.counted ∙ c.in-None.ensures.steps.0)) (c.loop-group.invariant.made all h);
 }

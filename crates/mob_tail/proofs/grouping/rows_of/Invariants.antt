@@ -8,5 +8,5 @@ invariant-loop-group l = record {
   goes : goal.iterator-loop-group.can_next l.group-iterator;
   ends : goal.iterator-loop-group.is_finite l.group-iterator;
   counted : into_iter_len l.group-iterator ≡ length (into_iter_items l.group-iterator);
-  made : (all : List (List (List ℕ))) → AllZip (IsGroupOf (select_seen l.select) l.store l.epoch) all l.fn.groups.items → IsMadeSoFar (IsGroupOf (select_seen l.select) l.store l.epoch) (IsGroupRowOf (select_seen l.select) l.store l.epoch) all l.rows.items (into_iter_items l.group-iterator);
+  made : (all : List (List (List ℕ))) → AllZip (IsGroupOf (select_seen l.select) l.store l.terms) all l.fn.groups.items → IsMadeSoFar (IsGroupOf (select_seen l.select) l.store l.terms) (IsGroupRowOf (select_seen l.select) l.store l.terms) all l.rows.items (into_iter_items l.group-iterator);
 }

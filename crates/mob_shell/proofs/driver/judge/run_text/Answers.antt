@@ -1,20 +1,21 @@
-use Rattle.std.proofs.Common.{rules, inl, inr}
+use Rattle.std.proofs.Common.{rules, inl, inr, ◌∙◌}
 use Rattle.mob_outside.specs.EndsSeen.{files_seen, stream_seen}
 use Rattle.mob_typed.specs.Statements.{script_seen}
 use Rattle.mob_load.specs.Loads.{IsTypedScript}
 use Rattle.mob_shell.{specs.Session.{SessionCanRun, SessionRuns}, proofs.Runnable.{script_can}, proofs.Seen.{can_all, loaded_ends, unloaded_ends}, proofs.Whole.{asks_none, keeps_all, refused_says}}
 use Rattle.mob_statements.specs.Statements.{CanAllRun}
 use Rattle.mob_shell.proofs.driver.judge.run_text.Goals as goal
+use Rattle.mob_shell.specs.Terms.{terms_of}
 
 pub run_session-requires : goal.run_session-requires
 run_session-requires g c =
     let out = script_seen c.in-Ok.typed in
-    let day = c.args.settings.epoch in
+    let terms = terms_of c.args.settings in
     let program = c.in-Ok-load.program in
     let types = c.values_have_their_types.ensures in
     let typed : IsTypedScript out = (c.in-Ok.ensures.accepted.trees, c.in-Ok.ensures.accepted.script.typed) in
-    let can = script_can c.scripts_are_well_typed.ensures.typed c.literals_have_their_values.ensures.values types.constants types.rows c.typed_queries_fit.ensures.fit day out program typed c.in-Ok-load.ensures.reads in
-    let all : CanAllRun SessionRuns SessionCanRun c.new-session.result c.as_slice-statements.result.now = rw c.as_slice-statements.ensures.same (can_all day program c.in-Ok.typed c.new-session.result c.new-session.ensures.begins c.new-session.ensures.day can) in
+    let can = script_can c.scripts_are_well_typed.ensures.typed c.literals_have_their_values.ensures.values types.constants types.rows c.typed_queries_fit.ensures.fit terms out program typed c.in-Ok-load.ensures.reads in
+    let all : CanAllRun SessionRuns SessionCanRun c.new-session.result c.as_slice-statements.result.now = rw c.as_slice-statements.ensures.same (can_all terms program c.in-Ok.typed c.new-session.result c.new-session.ensures.begins (c.new-session.ensures.terms ∙ c.terms_of.ensures.terms) can) in
     search (rules, all)
 
 pub returns-in-Err-clause-ends : goal.returns-in-Err-clause-ends
@@ -31,7 +32,7 @@ returns-in-Err-load-clause-ends g c =
     inl (record {
       script = script_seen c.in-Ok.typed;
       accepted = c.in-Ok.ensures.accepted;
-      ends = rw c.unloaded.ensures.ends (unloaded_ends c.args.settings.epoch (script_seen c.in-Ok.typed) files out c.in-Err-load.end c.in-Err-load.ensures.stopped c.in-Err-load.ensures.cause (keeps_all _));
+      ends = rw c.unloaded.ensures.ends (unloaded_ends (terms_of c.args.settings) (script_seen c.in-Ok.typed) files out c.in-Err-load.end c.in-Err-load.ensures.stopped c.in-Err-load.ensures.cause (keeps_all _));
       asks = c.load.ensures.some;
     })
 
@@ -43,6 +44,6 @@ returns-clause-ends g c =
     inl (record {
       script = script_seen c.in-Ok.typed;
       accepted = c.in-Ok.ensures.accepted;
-      ends = loaded_ends c.args.settings.epoch c.in-Ok-load.program c.in-Ok.typed c.new-session.result c.new-session.ensures.begins c.new-session.ensures.day files out _ c.run_session.result c.in-Ok-load.ensures.loaded ends;
+      ends = loaded_ends (terms_of c.args.settings) c.in-Ok-load.program c.in-Ok.typed c.new-session.result c.new-session.ensures.begins (c.new-session.ensures.terms ∙ c.terms_of.ensures.terms) files out _ c.run_session.result c.in-Ok-load.ensures.loaded ends;
       asks = c.load.ensures.some;
     })

@@ -9,7 +9,7 @@ use Rattle.mob_shell.proofs.statements.deleting.take_away.Goals as goal
 pub delete_rows-requires : goal.delete_rows-requires
 delete_rows-requires c =
     let q = select_seen c.args.select.now in
-    let can = kept_can_go q c.args.catalog.now c.args.epoch.now c.args.kept c.requires.typed c.requires.one c.requires.kept in
+    let can = kept_can_go q c.args.catalog.now c.args.terms.now c.args.kept c.requires.typed c.requires.one c.requires.kept in
     let gone : c.as_slice-3.result.now ≡ first_rows c.args.kept = c.as_slice-3.ensures.value ∙ c.in_ok-rows.ensures.rows ∙ ap first_rows c.as_slice.ensures.same in
     let table : get_or c.as_slice-2.result.now 0 0 ≡ deleted_table q = ap (λ (ts : List ℕ). get_or ts 0 0) c.as_slice-2.ensures.same in
     record {

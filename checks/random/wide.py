@@ -1,0 +1,286 @@
+#!/usr/bin/env -S python3 -B
+"""Runs random queries of nearness with `--wide`, with numbers near 62 bits.
+
+    checks/random/wide.py PROGRAM [SCRIPTS [SEED]]
+
+A script is one SELECT of one to three items: `eDwithin`, `nearestApproachSquared`, and `+`, `-` and
+`*` of numbers and of such squares. Points move in sequences with and without their ends, stay, or
+are there at instants alone. Coordinates, distances and instants are whole numbers and fractions of
+up to 62 bits.
+
+With the option the answer, or the byte of the note, must be what this trial computes with fractions
+of any size: the first operator whose value does not fit ends the run. Without the option a run that
+ends with 0 must have written the same. The trial prints how many queries have an answer in both
+modes, and in the wide mode alone, so both paths are seen. The seed is printed first, so a trial can
+be repeated. It ends with 0 where every run answered as it should.
+"""
+import random
+import re
+import sys
+from fractions import Fraction
+
+from trials import all_of, arguments, ran
+
+LIMIT = 2**62
+SECONDS = 60
+
+
+class Fault(Exception):
+    """The mark of an operator whose value does not fit."""
+
+
+def fits(number):
+    return abs(number.numerator) < LIMIT and number.denominator < LIMIT
+
+
+class Writer:
+    """Writes one script, and answers it."""
+
+    def __init__(self, chance):
+        self.chance, self.marks = chance, 0
+        # How large the numbers of this script are, in bits.
+        self.bits = chance.choice((4, 12, 30, 31, 40, 61))
+
+    def whole(self):
+        return self.chance.randrange(2 ** self.chance.choice((2, self.bits)))
+
+    def number(self):
+        """A number that fits, of either sign."""
+        below = self.chance.choice((1, 1, 1, 10, 10, 1 + self.whole()))
+        return Fraction(self.chance.choice((1, 1, -1)) * self.whole(), below)
+
+    def mark(self):
+        self.marks += 1
+        return self.marks
+
+    # ---- texts
+
+    def place(self):
+        return self.number(), self.number()
+
+    def instants(self, count):
+        """Rising instants of 2026-05-01, in seconds: whole, or with a fraction."""
+        found = set()
+        while len(found) < count:
+            second = self.chance.randrange(self.chance.choice((8, 3600, 86400)))
+            below = self.chance.choice((1, 1, 1, 10, 7, 2**20))
+            found.add(second + Fraction(self.chance.randrange(below), below))
+        return sorted(found)
+
+    def moving(self):
+        """A text of a moving point, and its pieces: two instants, two places, two flags."""
+        kind = self.chance.choice(("instant", "instants", "sequence", "sequence", "set"))
+        times = self.instants({"instant": 1, "instants": 3, "sequence": 4, "set": 6}[kind])
+        reports = [(t, self.place()) for t in times]
+        if kind in ("instant", "instants"):
+            texts = [report(it) for it in reports]
+            text = texts[0] if kind == "instant" else "{" + ", ".join(texts) + "}"
+            return text, [(t, t, p, p, True, True) for t, p in reports]
+        parts = [reports] if kind == "sequence" else [reports[:3], reports[3:]]
+        texts, pieces = [], []
+        for part in parts:
+            first, last = self.chance.random() < 0.7, self.chance.random() < 0.7
+            texts.append("[("[not first] + ", ".join(map(report, part)) + "])"[not last])
+            for k, ((t, p), (u, q)) in enumerate(zip(part, part[1:])):
+                pieces.append((t, u, p, q, first or k > 0, last or k + 2 < len(part)))
+        return texts[0] if len(texts) == 1 else "{" + ", ".join(texts) + "}", pieces
+
+    def point(self):
+        """A text of a moving or a fixed point, and its pieces, or its place."""
+        if self.chance.random() < 0.25:
+            place = self.place()
+            return f"geometry 'POINT({place[0]} {place[1]})'", place
+        text, pieces = self.moving()
+        return f"tgeompoint '{text}'", pieces
+
+    def two(self):
+        """Two points, at least one of which moves, and the pieces that they share."""
+        text, pieces = self.moving()
+        first, second = (f"tgeompoint '{text}'", pieces), self.point()
+        if self.chance.random() < 0.3:
+            first, second = second, first
+        return f"{first[0]}, {second[0]}", list(shared(first[1], second[1]))
+
+    # ---- expressions: a text with marks, and its value
+
+    def literal(self):
+        value = self.number()
+        if value >= 0 and value.denominator == 1 and self.chance.random() < 0.7:
+            return str(value), lambda: value
+        return f"numeric '{value}'", lambda: value
+
+    def square(self):
+        mark, (text, pieces) = self.mark(), self.two()
+
+        def value():
+            found = [least(it) for it in pieces]
+            return checked(min(found), mark) if found else None
+
+        return f"<{mark}>nearestApproachSquared({text})", value
+
+    def term(self, depth=0):
+        if depth == 2 or self.chance.random() < 0.5:
+            return self.literal()
+        if self.chance.random() < 0.3:
+            return self.square()
+        (left, a), (right, b) = self.term(depth + 1), self.term(depth + 1)
+        mark, sign = self.mark(), self.chance.choice("+-*")
+
+        def value():
+            one, other = a(), b()
+            if one is None or other is None:
+                return None
+            return checked({"+": one + other, "-": one - other, "*": one * other}[sign], mark)
+
+        return f"({left} <{mark}>{sign} {right})", value
+
+    def within(self):
+        (text, pieces), (distance, d) = self.two(), self.term()
+
+        def value():
+            bound = d()
+            if bound is None or not pieces:
+                return None
+            return bound >= 0 and any(reaches(it, bound * bound) for it in pieces)
+
+        return f"eDwithin({text}, {distance})", value
+
+    def script(self):
+        """The script, the place of each mark, and the answer: lines, or a mark."""
+        items, values = [], []
+        for n in range(self.chance.choice((1, 1, 2, 3))):
+            text, value = self.chance.choice((self.within, self.within, self.square, self.term))()
+            items.append(f"{text} AS v{n}")
+            values.append(value)
+        text, places = unmarked("SELECT " + ", ".join(items) + ";")
+        try:
+            row = ",".join(printed(it()) for it in values)
+        except Fault as fault:
+            return text, places, fault.args[0]
+        names = ",".join(f"v{n}" for n in range(len(values)))
+        return text, places, f"{names}\n{row}\n(1 rows)\n"
+
+
+# ---- what is computed
+
+
+def checked(number, mark):
+    if not fits(number):
+        raise Fault(mark)
+    return number
+
+
+def at(piece, t):
+    begin, end, p, q, _, _ = piece
+    part = (t - begin) / (end - begin) if begin < end else 0
+    return tuple(a + (b - a) * part for a, b in zip(p, q))
+
+
+def shared(a, b):
+    """The pieces of two points: two instants, the two differences there, and two flags."""
+    if isinstance(b, tuple):
+        b = [(t, u, b, b, True, True) for t, u, *_ in a]
+        pairs = zip(a, b)
+    elif isinstance(a, tuple):
+        a = [(t, u, a, a, True, True) for t, u, *_ in b]
+        pairs = zip(a, b)
+    else:
+        pairs = ((p, q) for p in a for q in b)
+    for p, q in pairs:
+        begin, end = max(p[0], q[0]), min(p[1], q[1])
+        first = all(it[4] or it[0] < begin for it in (p, q))
+        last = all(it[5] or end < it[1] for it in (p, q))
+        if begin < end or (begin == end and first and last):
+            gaps = [tuple(x - y for x, y in zip(at(p, t), at(q, t))) for t in (begin, end)]
+            yield begin, end, gaps[0], gaps[1], first, last
+
+
+def square_of(gap):
+    return gap[0] ** 2 + gap[1] ** 2
+
+
+def foot(piece):
+    """The square of the least difference strictly inside a piece, or None."""
+    begin, end, p, q, _, _ = piece
+    way = (q[0] - p[0], q[1] - p[1])
+    length, along = square_of(way), p[0] * way[0] + p[1] * way[1]
+    if begin == end or not (along < 0 < length + along):
+        return None
+    part = -along / length
+    return square_of((p[0] + way[0] * part, p[1] + way[1] * part))
+
+
+def least(piece):
+    inside = foot(piece)
+    return min(square_of(piece[2]), square_of(piece[3])) if inside is None else inside
+
+
+def reaches(piece, bound):
+    """Whether the square is at most the bound at an instant of the piece."""
+    inside = foot(piece)
+    if inside is not None:
+        return inside <= bound
+    first, last = square_of(piece[2]), square_of(piece[3])
+    if piece[2] == piece[3]:
+        return first <= bound
+    if first < bound or last < bound:
+        return True
+    return (piece[4] and first == bound) or (piece[5] and last == bound)
+
+
+# ---- texts
+
+
+def moment(t):
+    second, part = int(t), t - int(t)
+    text = f"2026-05-01 {second // 3600:02}:{second // 60 % 60:02}:{second % 60:02}"
+    return text + (f"({part})" if part else "")
+
+
+def report(it):
+    t, (x, y) = it
+    return f"POINT({x} {y})@{moment(t)}"
+
+
+def printed(value):
+    if value is None or isinstance(value, bool):
+        return {None: "\\N", True: "t", False: "f"}[value]
+    return str(value)
+
+
+def unmarked(text):
+    """The text without marks, and the place of each."""
+    places, parts = {}, re.split(r"<(\d+)>", text)
+    for n in range(1, len(parts), 2):
+        places[int(parts[n])] = sum(len(part) for part in parts[0:n:2])
+    return "".join(parts[0::2]), places
+
+
+def one(program, seed, number):
+    """How a script ends, and what to print where a run does not answer as it should."""
+    text, places, answer = Writer(random.Random(f"{seed} {number}")).script()
+    if isinstance(answer, str):
+        right = 0, answer.encode(), b""
+    else:
+        note = f"statement 1, rows -, byte {places[answer]}: the value passes 62 bits\n"
+        right = 8, b"", note.encode()
+    wide = ran([program, "--wide"], text.encode(), SECONDS)
+    narrow = ran([program], text.encode(), SECONDS)
+    runs = f"right: {right}\nwide: {wide}\nnarrow: {narrow}"
+    told = f"script {number} of seed {seed}:\n{text}\n{runs}"
+    if wide is None or wide != right:
+        return "a wrong answer", told
+    if narrow is None or narrow[0] not in (0, 8) or (narrow[0] == 0 and narrow != wide):
+        return "another answer without the option", told
+    if wide[0] == 8:
+        return "a fault in both modes", None
+    return f"an answer in {'both modes' if narrow[0] == 0 else 'the wide mode alone'}", None
+
+
+def main():
+    program, scripts, seed, _ = arguments(20000)
+    return all_of(lambda number: one(program, seed, number), range(scripts))
+
+
+if __name__ == "__main__":
+    sys.exit(main())

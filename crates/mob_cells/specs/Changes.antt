@@ -1,0 +1,39 @@
+-- Where a test of instants begins and ceases to hold on a span. The span is cut at the roots of
+-- linear functions, and the test holds on the whole of a cell or nowhere there.
+use Rattle.std.specs.Prelude.{Bool, cond, pos, List, [], ◌∷◌, ◌++◌, Option, Some, None}
+use Rattle.mob_ratio.specs.Ratio.{Ratio, whole, ◌+ℚ◌, ◌/ℚ◌}
+use Rattle.mob_span.{specs.Span.{SpanOf}, specs.Flags.{same_bool}}
+use Rattle.mob_cells.{specs.declared.linear.Ends.{Ends}, specs.Cells.{split_all, start_cells}, specs.Roots.{as_list, roots}}
+
+-- the cells of a span, cut at the roots of these functions
+abbrev pub cells_of : SpanOf → List Ends → List SpanOf
+cells_of s functions = split_all (roots s functions) (start_cells s)
+
+-- the instant halfway between the ends of a cell
+abbrev pub halfway : SpanOf → Ratio
+halfway c = (c.lower +ℚ c.upper) /ℚ whole (pos 2)
+
+-- the instants between the cell c, the next ones, and so on, at which the test begins or ceases to
+-- hold
+abbrev pub changes_behind : (Ratio → Bool) → SpanOf → List SpanOf → List Ratio
+changes_behind meets c [] = []
+changes_behind meets c (d ∷ cells) = cond (same_bool (meets (halfway c)) (meets (halfway d))) [] (c.upper ∷ []) ++ changes_behind meets d cells
+
+-- the instants between neighbouring cells at which it does
+abbrev pub changes : (Ratio → Bool) → List SpanOf → List Ratio
+changes meets [] = []
+changes meets (c ∷ cells) = changes_behind meets c cells
+
+-- a span with the cell behind it; without a span, the cell
+abbrev pub with_cell : Option SpanOf → SpanOf → SpanOf
+with_cell None c = c
+with_cell (Some k) c = record { lower = k.lower; upper = c.upper; lower_inc = k.lower_inc; upper_inc = c.upper_inc }
+
+-- the spans of neighbouring cells on which the test holds; the second argument is the one that the
+-- first cell may continue
+abbrev pub spans_behind : (Ratio → Bool) → Option SpanOf → List SpanOf → List SpanOf
+spans_behind meets k [] = as_list k
+spans_behind meets k (c ∷ cells) = cond (meets (halfway c)) (spans_behind meets (Some (with_cell k c)) cells) (as_list k ++ spans_behind meets None cells)
+
+abbrev pub spans_where : (Ratio → Bool) → List SpanOf → List SpanOf
+spans_where meets cells = spans_behind meets None cells

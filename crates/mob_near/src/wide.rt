@@ -1,0 +1,386 @@
+//! Nearness in numbers of any size, as with `--wide`. A piece is decided in `Frac`s, and only if a
+//! step of that overflows, in `Broad`s. Pieces that cannot matter are skipped.
+ghost use Rattle.std.specs.Prelude.{◌≡◌, ◌||◌, true, false, None, IfOk, IfSome};
+ghost use Rattle.mob_ratio.specs.Order.{before, up_to};
+ghost use Rattle.mob_ratio.specs.Ratio.{◌+ℚ◌, ◌*ℚ◌};
+ghost use Rattle.mob_ratio.specs.Sign.{nil};
+ghost use Rattle.mob_plane.specs.Corners.{smaller, greater};
+ghost use Rattle.mob_span.specs.Span.{has_instant};
+ghost use Rattle.mob_slice.specs.Entries.{IsJudged};
+ghost use Rattle.mob_slice.specs.Lines.{plane_value_of};
+ghost use Rattle.mob_slice.specs.Sides.{HoldsPiece, given_at, has_slices, operand_of, piece_of, pieces, side_of, side_start};
+ghost use Rattle.mob_slice.specs.declared.mode.Mode.TheVariants.{Wide};
+ghost use Rattle.mob_lift.specs.Sometime.{IsEver};
+ghost use Rattle.mob_near.specs.Approaches.{IsApproach};
+ghost use Rattle.mob_near.specs.Covers.{cover_gap, is_beyond, piece_covers, range_between, is_apart_on};
+ghost use Rattle.mob_near.specs.Distances.{are_within, distance_squared};
+ghost use Rattle.mob_near.specs.Legs.{nearest_of, piece_approach, piece_reaches};
+ghost use Rattle.mob_near.specs.Wide.{IsGivenOf, approach_entries_in, least_approach};
+
+use crate::broad::piece::{broad_approach, broad_reaches};
+use crate::known::{LastFound, nothing, square_of};
+use crate::nearness::{never, share_time};
+use crate::piece::{piece_approach, piece_reaches};
+use mob_frac::Frac;
+use mob_lift::either;
+use mob_lift::walks::Pieces;
+use mob_list::fault::Fault;
+use mob_plane::{Point, greater, smaller};
+use mob_slice::{Formula, Operand, Piece, PlaneLine, Side};
+use mob_wide::Exact;
+use std::alloc::{AllocError, Global};
+
+// Whether the squared distance is at most `square` at some instant of the piece, in `Broad`s.
+fn reaches_broadly(
+    alloc: Global,
+    piece: &Piece<'_, PlaneLine, PlaneLine>,
+    square: &Exact,
+) -> Result<bool, AllocError>
+    requires square { up_to nil square.now ≡ true }
+    ensures value { IfOk result (λ b. b ≡ piece_reaches square.now (piece_of piece.now)) }
+{
+    let square = square.to_broad(alloc)?;
+    let here = broad_reaches(alloc, piece, &square)?;
+    Ok(here)
+}
+
+// Whether the squared distance is at most `square` at some instant of the piece.
+fn reaches_wide(
+    alloc: Global,
+    piece: &Piece<'_, PlaneLine, PlaneLine>,
+    square: &Exact,
+    last: &mut LastFound,
+) -> Result<bool, AllocError>
+    requires holds { HoldsPiece (λ c. c.from) (λ c. c.to) (λ c. c.from) (λ c. c.to) (piece_of piece.now) }
+    requires square { up_to nil square.now ≡ true }
+    ensures value { IfOk result (λ b. b ≡ piece_reaches square.now (piece_of piece.now)) }
+{
+    let Some(small) = square.as_frac() else {
+        return reaches_broadly(alloc, piece, square);
+    };
+    match piece_reaches(alloc, piece, &small, last) {
+        Ok(here) => Ok(here),
+        Err(_) => reaches_broadly(alloc, piece, square),
+    }
+}
+
+// The greatest lower bound of the squared distance on the piece, in `Broad`s.
+fn approach_broadly(
+    alloc: Global,
+    piece: &Piece<'_, PlaneLine, PlaneLine>,
+) -> Result<Exact, AllocError>
+    ensures value { IfOk result (λ m. m ≡ piece_approach (piece_of piece.now)) }
+{
+    let least = broad_approach(alloc, piece)?;
+    Ok(Exact::large(least))
+}
+
+// The greatest lower bound of the squared distance on the piece.
+fn approach_wide_on(
+    alloc: Global,
+    piece: &Piece<'_, PlaneLine, PlaneLine>,
+    last: &mut LastFound,
+) -> Result<Exact, AllocError>
+    requires holds { HoldsPiece (λ c. c.from) (λ c. c.to) (λ c. c.from) (λ c. c.to) (piece_of piece.now) }
+    ensures value { IfOk result (λ m. m ≡ piece_approach (piece_of piece.now)) }
+{
+    match piece_approach(alloc, piece, last) {
+        Ok(least) => Ok(Exact::of(&least)),
+        Err(_) => approach_broadly(alloc, piece),
+    }
+}
+
+// The limit of a side at the lower end of its slice.
+fn start_of<'a>(side: &Side<'a, PlaneLine>) -> &'a Point
+    ensures limit { result.now ≡ side_start (λ c. c.from) (side_of side.now) }
+{
+    match *side {
+        Side::Moving(slice) => &slice.course.from,
+        Side::Fixed(point) => point,
+    }
+}
+
+// The limit of a side at the upper end of its slice.
+fn end_of<'a>(side: &Side<'a, PlaneLine>) -> &'a Point
+    ensures limit { result.now ≡ side_start (λ c. c.to) (side_of side.now) }
+{
+    match *side {
+        Side::Moving(slice) => &slice.course.to,
+        Side::Fixed(point) => point,
+    }
+}
+
+// Whether one range of coordinates ends more than `d` before another begins. If that cannot be
+// decided in `Frac`s, it is false.
+fn is_past(d: &Frac, end: &Frac, start: &Frac) -> bool
+    ensures past { result ≡ true → before (end.now +ℚ d.now) start.now ≡ true }
+{
+    if !end.is_before(start) {
+        return false;
+    }
+    let Ok(bound) = end.add(d) else {
+        return false;
+    };
+    bound.is_before(start)
+}
+
+// Whether two ranges of coordinates are more than `d` apart, each from the one number to the other,
+// in either order. If that cannot be decided in `Frac`s, it is false.
+fn is_apart_on(d: &Frac, a0: &Frac, a1: &Frac, b0: &Frac, b1: &Frac) -> bool
+    ensures apart { result ≡ true → is_apart_on d.now (smaller a0.now a1.now) (greater a0.now a1.now) (smaller b0.now b1.now) (greater b0.now b1.now) ≡ true }
+{
+    if a0.is_before(b0) {
+        return is_past(d, &greater(a0, a1), &smaller(b0, b1));
+    }
+    is_past(d, &greater(b0, b1), &smaller(a0, a1))
+}
+
+// Whether the rectangles of the two sides' slices lie beyond the distance `d` of each other. If
+// that cannot be decided in `Frac`s, it is false.
+#[tactic(auto, using(crate::proofs::Widely::by_first, crate::proofs::Widely::by_second))]
+fn is_far(piece: &Piece<'_, PlaneLine, PlaneLine>, d: &Frac) -> bool
+    ensures far { result ≡ true → is_beyond d.now (piece_covers (piece_of piece.now)).0 (piece_covers (piece_of piece.now)).1 ≡ true }
+{
+    let a0 = start_of(&piece.left);
+    let a1 = end_of(&piece.left);
+    let b0 = start_of(&piece.right);
+    let b1 = end_of(&piece.right);
+    if is_apart_on(d, &a0.x, &a1.x, &b0.x, &b1.x) {
+        return true;
+    }
+    is_apart_on(d, &a0.y, &a1.y, &b0.y, &b1.y)
+}
+
+// Whether the squared distance is at most `square`, that of `d`, at some instant of the piece.
+#[tactic(auto, using(crate::proofs::Widely::far_piece))]
+fn comes_within(
+    alloc: Global,
+    piece: &Piece<'_, PlaneLine, PlaneLine>,
+    d: &Frac,
+    square: &Exact,
+    last: &mut LastFound,
+) -> Result<bool, AllocError>
+    requires holds { HoldsPiece (λ c. c.from) (λ c. c.to) (λ c. c.from) (λ c. c.to) (piece_of piece.now) }
+    requires some { has_instant piece.now.span ≡ true }
+    requires distance { up_to nil d.now ≡ true }
+    requires square { square.now ≡ d.now *ℚ d.now }
+    ensures value { IfOk result (λ b. b ≡ piece_reaches square.now (piece_of piece.now)) }
+{
+    if is_far(piece, d) {
+        return Ok(false);
+    }
+    reaches_wide(alloc, piece, square, last)
+}
+
+// Whether the squared distance is at most `square`, that of `d`, at some common instant. The walk
+// stops at the first piece that has one.
+fn ever_comes_within(
+    alloc: Global,
+    a: Operand<'_, PlaneLine>,
+    b: Operand<'_, PlaneLine>,
+    d: &Frac,
+    square: &Exact,
+) -> Result<Option<bool>, AllocError>
+    requires moving { (has_slices (operand_of a) || has_slices (operand_of b)) ≡ true }
+    requires distance { up_to nil d.now ≡ true }
+    requires square { square.now ≡ d.now *ℚ d.now }
+    ensures value { IfOk result (IsEver (λ x y. up_to (distance_squared x y) square.now) (given_at plane_value_of (operand_of a.entry)) (given_at plane_value_of (operand_of b.entry))) }
+{
+    let mut found = None;
+    let mut last = nothing();
+    for piece in Pieces::new(a, b) {
+        let here = match comes_within(alloc, &piece, d, square, &mut last) {
+            Ok(here) => here,
+            Err(fault) => return Err(fault),
+        };
+        if here {
+            return Ok(Some(true));
+        }
+        found = Some(either(found, here));
+    }
+    Ok(found)
+}
+
+/// Whether the two points are within the distance `d` of each other at some instant at which both
+/// are defined, in numbers of any size. It is that of `ever_within`, without its overflows. The
+/// walk stops at the first piece that has such an instant, and skips pieces that are too far apart.
+/// The only error is a failed allocation: it allocates only where a step of a piece overflows.
+pub fn ever_within_wide(
+    alloc: Global,
+    a: Operand<'_, PlaneLine>,
+    b: Operand<'_, PlaneLine>,
+    d: &Frac,
+) -> Result<Option<bool>, AllocError>
+    requires moving { (has_slices (operand_of a) || has_slices (operand_of b)) ≡ true }
+    ensures value { IfOk result (IsEver (are_within d.now) (given_at plane_value_of (operand_of a.entry)) (given_at plane_value_of (operand_of b.entry))) }
+{
+    if d.is_before(&Frac::zero()) {
+        return Ok(never(share_time(a, b)));
+    }
+    match Exact::square_of(alloc, d) {
+        Ok(square) => ever_comes_within(alloc, a, b, d, &square),
+        Err(fault) => {
+            // Operands are not dropped. A call ends them.
+            let _ = share_time(a, b);
+            Err(fault)
+        }
+    }
+}
+
+// The distance of two ranges of coordinates, each from the one number to the other, in either
+// order. It is `None` if it does not fit.
+fn range_gap(a0: &Frac, a1: &Frac, b0: &Frac, b1: &Frac) -> Option<Frac>
+    ensures gap { IfSome result (λ g. g ≡ range_between (smaller a0.now a1.now) (greater a0.now a1.now) (smaller b0.now b1.now) (greater b0.now b1.now)) }
+{
+    let a_last = greater(a0, a1);
+    let b_first = smaller(b0, b1);
+    if a_last.is_before(&b_first) {
+        return b_first.sub(&a_last).ok();
+    }
+    let b_last = greater(b0, b1);
+    let a_first = smaller(a0, a1);
+    if b_last.is_before(&a_first) {
+        return a_first.sub(&b_last).ok();
+    }
+    Some(Frac::zero())
+}
+
+// The squared distance of the rectangles of the two sides' slices. It is `None` if a step to it
+// does not fit.
+fn gap_of(piece: &Piece<'_, PlaneLine, PlaneLine>) -> Option<Frac>
+    ensures gap { IfSome result (λ g. g ≡ cover_gap (piece_covers (piece_of piece.now)).0 (piece_covers (piece_of piece.now)).1) }
+{
+    let a0 = start_of(&piece.left);
+    let a1 = end_of(&piece.left);
+    let b0 = start_of(&piece.right);
+    let b1 = end_of(&piece.right);
+    let Some(x) = range_gap(&a0.x, &a1.x, &b0.x, &b1.x) else {
+        return None;
+    };
+    let Some(y) = range_gap(&a0.y, &a1.y, &b0.y, &b1.y) else {
+        return None;
+    };
+    square_of(&x, &y).ok()
+}
+
+// Whether the rectangles of the two sides' slices are at least as far apart as `found`. If their
+// distance does not fit, it is false.
+fn is_beyond_found(
+    alloc: Global,
+    piece: &Piece<'_, PlaneLine, PlaneLine>,
+    found: &Exact,
+) -> Result<bool, AllocError>
+    ensures beyond { IfOk result (λ b. b ≡ true → up_to found.now (cover_gap (piece_covers (piece_of piece.now)).0 (piece_covers (piece_of piece.now)).1) ≡ true) }
+{
+    let Some(gap) = gap_of(piece) else {
+        return Ok(false);
+    };
+    let gap = Exact::of(&gap);
+    let nearer = gap.is_below(alloc, found)?;
+    Ok(!nearer)
+}
+
+// The smaller of two numbers.
+fn smaller_exact(alloc: Global, here: Exact, found: Exact) -> Result<Exact, AllocError>
+    ensures value { IfOk result (λ m. m ≡ smaller here found) }
+{
+    let less = found.is_below(alloc, &here)?;
+    if less {
+        return Ok(found);
+    }
+    Ok(here)
+}
+
+// The smaller of the result so far and that of one more piece.
+#[tactic(auto, using(crate::proofs::Widely::beyond_piece))]
+fn nearer_than(
+    alloc: Global,
+    piece: &Piece<'_, PlaneLine, PlaneLine>,
+    found: Exact,
+    last: &mut LastFound,
+) -> Result<Exact, AllocError>
+    requires holds { HoldsPiece (λ c. c.from) (λ c. c.to) (λ c. c.from) (λ c. c.to) (piece_of piece.now) }
+    requires some { has_instant piece.now.span ≡ true }
+    ensures value { IfOk result (λ m. m ≡ smaller (piece_approach (piece_of piece.now)) found) }
+{
+    let beyond = is_beyond_found(alloc, piece, &found)?;
+    if beyond {
+        return Ok(found);
+    }
+    let here = approach_wide_on(alloc, piece, last)?;
+    smaller_exact(alloc, here, found)
+}
+
+// The smaller of the result so far and that of one more piece.
+fn nearer(
+    alloc: Global,
+    piece: &Piece<'_, PlaneLine, PlaneLine>,
+    found: Option<Exact>,
+    last: &mut LastFound,
+) -> Result<Exact, AllocError>
+    requires holds { HoldsPiece (λ c. c.from) (λ c. c.to) (λ c. c.from) (λ c. c.to) (piece_of piece.now) }
+    requires some { has_instant piece.now.span ≡ true }
+    ensures value { IfOk result (λ m. m ≡ nearest_of found (piece_approach (piece_of piece.now))) }
+{
+    match found {
+        Some(found) => nearer_than(alloc, piece, found, last),
+        None => approach_wide_on(alloc, piece, last),
+    }
+}
+
+/// The greatest lower bound of the squared distance of the two points over all instants at which
+/// both are defined, of any size. `None` exactly if no such instant exists. Pieces whose rectangles
+/// are no nearer than the result so far are skipped. The only error is a failed allocation: it
+/// allocates only where a step of a piece overflows.
+pub fn least_exact(
+    alloc: Global,
+    a: Operand<'_, PlaneLine>,
+    b: Operand<'_, PlaneLine>,
+) -> Result<Option<Exact>, AllocError>
+    requires moving { (has_slices (operand_of a) || has_slices (operand_of b)) ≡ true }
+    ensures value { IfOk result (IsApproach (given_at plane_value_of (operand_of a.entry)) (given_at plane_value_of (operand_of b.entry))) }
+    ensures least { IfOk result (λ o. o ≡ least_approach (pieces (operand_of a.entry) (operand_of b.entry))) }
+{
+    let mut nearest = None;
+    let mut last = nothing();
+    for piece in Pieces::new(a, b) {
+        nearest = match nearer(alloc, &piece, nearest, &mut last) {
+            Ok(here) => Some(here),
+            Err(fault) => return Err(fault),
+        };
+    }
+    Ok(nearest)
+}
+
+// The number, if it fits.
+fn given(alloc: Global, number: &Exact) -> Result<Option<Frac>, Fault<Formula>>
+    ensures given { IsGivenOf number.now result }
+{
+    let fitting = number.fitting(alloc)?;
+    match fitting {
+        Some(number) => Ok(Some(number)),
+        None => Err(Fault::Because(Formula::Given)),
+    }
+}
+
+/// The greatest lower bound of the squared distance of the two points over all instants at which
+/// both are defined. `None` exactly if no such instant exists. It is that of `approach_squared`, if
+/// that has one.
+///
+/// The fault is `Given`, exactly if that number does not fit, or out of memory.
+#[tactic(auto, using(crate::proofs::Widely::given_value, crate::proofs::Widely::given_judged, crate::proofs::Widely::none_judged))]
+pub fn approach_wide(
+    alloc: Global,
+    a: Operand<'_, PlaneLine>,
+    b: Operand<'_, PlaneLine>,
+) -> Result<Option<Frac>, Fault<Formula>>
+    requires moving { (has_slices (operand_of a) || has_slices (operand_of b)) ≡ true }
+    ensures value { IfOk result (IsApproach (given_at plane_value_of (operand_of a.entry)) (given_at plane_value_of (operand_of b.entry))) }
+    ensures first { IsJudged (approach_entries_in Wide (pieces (operand_of a.entry) (operand_of b.entry))) result }
+{
+    let nearest = least_exact(alloc, a, b)?;
+    match nearest {
+        Some(square) => given(alloc, &square),
+        None => Ok(None),
+    }
+}
