@@ -1,8 +1,7 @@
 -- Nearness in numbers of any size, by the same definitions.
 use Rattle.std.{specs.Prelude.{◌≡◌, ◌||◌, ◌&&◌, Bool, true, false, not, Option, None, Result, Ok, Err, IfOk, refl}, proofs.Common.{arith, ap, sym, ◌∙◌, subst}}
-use Rattle.mob_ratio.{specs.Ratio.{Ratio, ◌+ℚ◌, ◌*ℚ◌, ◌<ℚ◌}, specs.Order.{before, up_to}, specs.Sign.{nil}, specs.Quadratic.{reaches_by, infimum_by, square_is_within}}
+use Rattle.mob_ratio.{specs.Ratio.{Ratio, ◌+ℚ◌, ◌*ℚ◌, ◌<ℚ◌}, specs.Order.{before, up_to, smaller}, specs.Sign.{nil}, specs.Quadratic.{reaches_by, infimum_by, square_is_within}}
 use Rattle.mob_ratio.{proofs.Order.{before-lt, not-up_to-le}, proofs.Absolute.{inner_test}, proofs.QuadraticTests.{pos_by}}
-use Rattle.mob_plane.specs.Corners.{smaller}
 use Rattle.mob_near.{specs.Entries.{PointPiece}, specs.Legs.{leg_of, squares_of, foot_of, is_on_the_way, foot_reaches, foot_square, leg_reaches, leg_approach, piece_reaches, piece_approach}}
 use Rattle.mob_near.{specs.declared.leg.Leg.{Leg}, specs.declared.foot.Foot.{Foot}}
 

@@ -1,9 +1,9 @@
 -- Nearness in numbers of any size, over all pieces.
 use Rattle.std.{specs.Prelude.{◌≡◌, Bool, true, false, cond, ◌||◌, List, [], ◌∷◌, Option, Some, None, Result, Ok, Err, IfOk, refl}, specs.List.{AllByRecursion}}
 use Rattle.std.proofs.Common.{arith, ap, sym, ◌∙◌, subst, inr}
-use Rattle.mob_ratio.{specs.Ratio.{Ratio, ◌*ℚ◌, ◌≤ℚ◌}, specs.Order.{before, up_to}, specs.Sign.{nil}, proofs.Order.{before-back, before-neither, before-trans, up_to-trans}, proofs.Convex.{square_le}}
+use Rattle.mob_ratio.{specs.Ratio.{Ratio, ◌*ℚ◌, ◌≤ℚ◌}, specs.Order.{before, up_to, smaller}, specs.Sign.{nil}, proofs.Order.{before-back, before-neither, before-trans, up_to-trans, smaller_left, smaller_right, greater_left, greater_right}, proofs.Convex.{square_le}}
 use Rattle.mob_list.{specs.declared.fault.Fault.{Fault}, specs.declared.fault.Fault.TheVariants.{Because, NoMemory}}
-use Rattle.mob_plane.{specs.Corners.{smaller}, specs.declared.point.Point.{Point}, proofs.Widening.{smaller_left, smaller_right, greater_left, greater_right}}
+use Rattle.mob_plane.specs.declared.point.Point.{Point}
 use Rattle.mob_span.{specs.Span.{SpanOf, has_instant}, specs.Pieces.{PiecesAreClear}}
 use Rattle.mob_slice.{specs.Entries.{IsJudged}, specs.Lines.{plane_value_of}, specs.Sides.{SideOf, Moves, Stays, OperandOf, given_at, has_slices, pieces}, specs.declared.formula.Formula.{Formula}}
 use Rattle.mob_slice.{specs.declared.line.PlaneLine.{PlaneLine}, specs.declared.mode.Mode.TheVariants.{Wide}, proofs.Narrowing.{given_fits}}

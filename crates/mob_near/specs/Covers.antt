@@ -1,9 +1,9 @@
 -- Rectangles over runs of slices. A walk over two moving points passes over two runs at once if
 -- their rectangles are too far apart to matter.
 use Rattle.std.{specs.Prelude.{◌≡◌, ◌≢◌, ℕ, Bool, true, false, cond, ◌||◌, ◌+◌, ◌≤◌, List, [], ◌∷◌, length, take, drop}, specs.List.{AllByRecursion}}
-use Rattle.mob_ratio.{specs.Ratio.{Ratio, ◌+ℚ◌, ◌-ℚ◌, ◌*ℚ◌}, specs.Order.{before, up_to}, specs.Sign.{nil}}
+use Rattle.mob_ratio.{specs.Ratio.{Ratio, ◌+ℚ◌, ◌-ℚ◌, ◌*ℚ◌}, specs.Order.{before, up_to, smaller, greater}, specs.Sign.{nil}}
 use Rattle.mob_span.{specs.Neighbours.{is_inside}, specs.Pieces.{PiecesAreClear}, specs.Span.{SpanOf}}
-use Rattle.mob_plane.{specs.Corners.{smaller, greater}, specs.declared.point.Point.{Point}}
+use Rattle.mob_plane.specs.declared.point.Point.{Point}
 use Rattle.mob_slice.{specs.Sides.{SideOf, Moves, Stays, Slices, pieces, side_start}, specs.Slices.{IsRisingInTime}, specs.declared.line.PlaneLine.{PlaneLine}, specs.declared.slice.Slice.{Slice}}
 use Rattle.mob_near.{specs.Distances.{length_squared}, specs.Entries.{PointPiece}, specs.Legs.{piece_reaches, piece_approach}, specs.declared.covers.Cover.{Cover}}
 

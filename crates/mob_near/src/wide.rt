@@ -1,10 +1,9 @@
 //! Nearness in numbers of any size, as with `--wide`. A piece is decided in `Frac`s, and only if a
 //! step of that overflows, in `Broad`s. Pieces that cannot matter are skipped.
 ghost use Rattle.std.specs.Prelude.{◌≡◌, ◌||◌, true, false, None, IfOk, IfSome};
-ghost use Rattle.mob_ratio.specs.Order.{before, up_to};
+ghost use Rattle.mob_ratio.specs.Order.{before, up_to, smaller, greater};
 ghost use Rattle.mob_ratio.specs.Ratio.{◌+ℚ◌, ◌*ℚ◌};
 ghost use Rattle.mob_ratio.specs.Sign.{nil};
-ghost use Rattle.mob_plane.specs.Corners.{smaller, greater};
 ghost use Rattle.mob_span.specs.Span.{has_instant};
 ghost use Rattle.mob_slice.specs.Entries.{IsJudged};
 ghost use Rattle.mob_slice.specs.Lines.{plane_value_of};

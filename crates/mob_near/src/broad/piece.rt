@@ -1,10 +1,9 @@
 //! The nearness of two points on one piece of time, in numbers of any size.
 ghost use Rattle.std.specs.Prelude.{◌≡◌, ◌||◌, ◌&&◌, true, false, not, IfOk};
 ghost use Rattle.mob_ratio.specs.Quadratic.{reaches_by, infimum_by};
-ghost use Rattle.mob_ratio.specs.Order.{before, up_to};
+ghost use Rattle.mob_ratio.specs.Order.{before, up_to, smaller};
 ghost use Rattle.mob_ratio.specs.Sign.{nil};
 ghost use Rattle.mob_slice.specs.Sides.{piece_of};
-ghost use Rattle.mob_plane.specs.Corners.{smaller};
 ghost use Rattle.mob_near.specs.Broad.{as_leg};
 ghost use Rattle.mob_near.specs.Legs.{leg_reaches, leg_approach, piece_reaches, piece_approach, squares_of};
 
