@@ -7,6 +7,9 @@ pub mod Far
 pub mod Runs
 pub mod Broadly
 pub mod Widely
+pub mod Products
+pub mod Covering
+pub mod Stretches
 pub mod Judging
 pub mod Narrowing
 pub mod Answering

@@ -78,7 +78,7 @@ module _ (a b m : Ratio) where
   three_by false false e f = smaller_swap m a ∙ rw (e, f) refl
 
   -- the smaller of three
-  three : smaller m (smaller a b) ≡ smaller (smaller a m) b
+  pub three : smaller m (smaller a b) ≡ smaller (smaller a m) b
   three = three_by (before b a) (before m a) refl refl
 
 abbrev or_least : Ratio → Option Ratio → Ratio

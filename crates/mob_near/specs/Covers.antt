@@ -1,6 +1,6 @@
 -- Rectangles over runs of slices. A walk over two moving points passes over two runs at once if
 -- their rectangles are too far apart to matter.
-use Rattle.std.{specs.Prelude.{◌≡◌, ◌≢◌, ℕ, Bool, true, false, cond, ◌||◌, ◌+◌, ◌≤◌, List, [], ◌∷◌, length, take, drop}, specs.List.{AllByRecursion}}
+use Rattle.std.{specs.Prelude.{◌≡◌, ◌≢◌, ℕ, Bool, true, false, cond, ◌||◌, ◌+◌, ◌≤◌, List, [], ◌∷◌, Option, Some, None, length, take, drop}, specs.List.{AllByRecursion}}
 use Rattle.mob_ratio.{specs.Ratio.{Ratio, ◌+ℚ◌, ◌-ℚ◌, ◌*ℚ◌}, specs.Order.{before, up_to, smaller, greater}, specs.Sign.{nil}}
 use Rattle.mob_span.{specs.Neighbours.{is_inside}, specs.Pieces.{PiecesAreClear}, specs.Span.{SpanOf}}
 use Rattle.mob_plane.specs.declared.point.Point.{Point}
@@ -60,6 +60,24 @@ pub record AreCoversOf (slices : List (Slice PlaneLine)) (covers : List Cover) :
 -- the run of a cover
 abbrev pub run_of : List (Slice PlaneLine) → Cover → List (Slice PlaneLine)
 run_of slices c = take c.count (drop c.start slices)
+
+-- a cover and its run
+pub record IsRunOf (slices : List (Slice PlaneLine)) (c : Cover) : Type 0 where
+  pub room : c.start + c.count ≤ length slices
+  pub covers : CoversRun c (run_of slices c)
+
+-- ---- results over pieces
+
+-- the squared distance is at most D at some instant of one of the pieces
+abbrev pub some_reach : Ratio → List PointPiece → Bool
+some_reach D [] = false
+some_reach D (p ∷ ps) = piece_reaches D p || some_reach D ps
+
+-- the smaller of two results, either of which may be missing
+abbrev pub nearer_of : Option Ratio → Option Ratio → Option Ratio
+nearer_of None o = o
+nearer_of (Some a) None = Some a
+nearer_of (Some a) (Some b) = Some (smaller a b)
 
 -- ---- what they say
 

@@ -5,5 +5,6 @@ pub mod Legs
 pub mod Broad
 pub mod Wide
 pub mod Covers
+pub mod Covering
 pub mod Known
 pub mod Sql

@@ -109,9 +109,9 @@ fn end_of<'a>(side: &Side<'a, PlaneLine>) -> &'a Point
     }
 }
 
-// Whether one range of coordinates ends more than `d` before another begins. If that cannot be
-// decided in `Frac`s, it is false.
-fn is_past(d: &Frac, end: &Frac, start: &Frac) -> bool
+/// Whether one range of coordinates ends more than `d` before another begins. If that cannot be
+/// decided in `Frac`s, it is false.
+pub(crate) fn is_past(d: &Frac, end: &Frac, start: &Frac) -> bool
     ensures past { result ≡ true → before (end.now +ℚ d.now) start.now ≡ true }
 {
     if !end.is_before(start) {
@@ -150,9 +150,9 @@ fn is_far(piece: &Piece<'_, PlaneLine, PlaneLine>, d: &Frac) -> bool
     is_apart_on(d, &a0.y, &a1.y, &b0.y, &b1.y)
 }
 
-// Whether the squared distance is at most `square`, that of `d`, at some instant of the piece.
+/// Whether the squared distance is at most `square`, that of `d`, at some instant of the piece.
 #[tactic(auto, using(crate::proofs::Widely::far_piece))]
-fn comes_within(
+pub(crate) fn comes_within(
     alloc: Global,
     piece: &Piece<'_, PlaneLine, PlaneLine>,
     d: &Frac,
@@ -226,22 +226,26 @@ pub fn ever_within_wide(
     }
 }
 
+/// The distance of two ranges of coordinates, each from its least to its greatest number. It is
+/// `None` if it does not fit.
+pub(crate) fn gap_between(a0: &Frac, a1: &Frac, b0: &Frac, b1: &Frac) -> Option<Frac>
+    ensures gap { IfSome result (λ g. g ≡ range_between a0.now a1.now b0.now b1.now) }
+{
+    if a1.is_before(b0) {
+        return b0.sub(a1).ok();
+    }
+    if b1.is_before(a0) {
+        return a0.sub(b1).ok();
+    }
+    Some(Frac::zero())
+}
+
 // The distance of two ranges of coordinates, each from the one number to the other, in either
 // order. It is `None` if it does not fit.
 fn range_gap(a0: &Frac, a1: &Frac, b0: &Frac, b1: &Frac) -> Option<Frac>
     ensures gap { IfSome result (λ g. g ≡ range_between (smaller a0.now a1.now) (greater a0.now a1.now) (smaller b0.now b1.now) (greater b0.now b1.now)) }
 {
-    let a_last = greater(a0, a1);
-    let b_first = smaller(b0, b1);
-    if a_last.is_before(&b_first) {
-        return b_first.sub(&a_last).ok();
-    }
-    let b_last = greater(b0, b1);
-    let a_first = smaller(a0, a1);
-    if b_last.is_before(&a_first) {
-        return a_first.sub(&b_last).ok();
-    }
-    Some(Frac::zero())
+    gap_between(&smaller(a0, a1), &greater(a0, a1), &smaller(b0, b1), &greater(b0, b1))
 }
 
 // The squared distance of the rectangles of the two sides' slices. It is `None` if a step to it
@@ -310,8 +314,8 @@ fn nearer_than(
     smaller_exact(alloc, here, found)
 }
 
-// The smaller of the result so far and that of one more piece.
-fn nearer(
+/// The smaller of the result so far and that of one more piece.
+pub(crate) fn nearer(
     alloc: Global,
     piece: &Piece<'_, PlaneLine, PlaneLine>,
     found: Option<Exact>,
@@ -351,8 +355,8 @@ pub fn least_exact(
     Ok(nearest)
 }
 
-// The number, if it fits.
-fn given(alloc: Global, number: &Exact) -> Result<Option<Frac>, Fault<Formula>>
+/// The number, if it fits.
+pub(crate) fn given(alloc: Global, number: &Exact) -> Result<Option<Frac>, Fault<Formula>>
     ensures given { IsGivenOf number.now result }
 {
     let fitting = number.fitting(alloc)?;

@@ -1,0 +1,9 @@
+use Rattle.std.proofs.Common.{length}
+use Rattle.mob_near.proofs.Covering.{IsMakingRuns}
+use Rattle.mob_near.proofs.covers.covers_on.Given as goal
+
+abbrev pub invariant-runs : goal.invariant-runs
+invariant-runs l = IsMakingRuns l.slices l.rest l.start l.all.items
+
+abbrev pub decreases-runs : goal.decreases-runs
+decreases-runs l = length l.rest
