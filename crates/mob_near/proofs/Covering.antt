@@ -1,7 +1,8 @@
 -- The cover of a run, slice by slice, and all covers, run by run.
-use Rattle.std.specs.Prelude.{◌≡◌, ◌≢◌, true, ℕ, zero, suc, ◌+◌, ◌<◌, ◌≤◌, List, [], ◌∷◌, ◌++◌, length, take, drop, refl}
+use Rattle.std.specs.Prelude.{◌≡◌, ◌≢◌, true, ℕ, zero, suc, ◌+◌, ◌<◌, ◌≤◌, List, [], ◌∷◌, ◌++◌, length, take, drop, slice_range, ◌-◌, refl}
 use Rattle.std.specs.List.{AllByRecursion}
 use Rattle.std.proofs.Common.{arith, ap, sym, ◌∙◌, subst, add-one}
+use Rattle.std.proofs.Common.{length-drop, take_all}
 use Rattle.mob_list.proofs.Each.{each_on, each_more}
 use Rattle.mob_plane.specs.declared.point.Point.{Point}
 use Rattle.mob_ratio.proofs.Order.{up_to-trans, smaller_left, smaller_right, greater_left, greater_right}
@@ -16,7 +17,7 @@ use Rattle.mob_slice.specs.Lines.{plane_continued}
 use Rattle.mob_slice.specs.Slices.{IsNormal}
 use Rattle.mob_slice.proofs.Orders.{ordered, ordered-clear}
 use Rattle.mob_near.specs.Covers.{IsCovered, CoversSlice, CoversRun, AreRunsFrom, AreCoversOf}
-use Rattle.mob_near.specs.Covering.{IsCoverOn, Begins, IsBefore, first_cover, with_slice}
+use Rattle.mob_near.specs.Covering.{IsCoverOn, Begins, IsClearBefore, first_cover, with_slice}
 use Rattle.mob_near.specs.declared.covers.Cover.{Cover}
 
 -- ---- the first entries of a list
@@ -73,7 +74,7 @@ begins_still : (r q : SpanOf) (slices : List (Slice PlaneLine)) → q.lower ≡ 
 begins_still r q [] e f h = h
 begins_still r q (s ∷ slices) e f h = (e ∙ h.0, f ∙ h.1)
 
-before_next : (r : SpanOf) (s : Slice PlaneLine) (more : List (Slice PlaneLine)) → PiecesAreClear (λ z. z.span) (s ∷ more) → IsBefore (joined r s.span) more
+before_next : (r : SpanOf) (s : Slice PlaneLine) (more : List (Slice PlaneLine)) → PiecesAreClear (λ z. z.span) (s ∷ more) → IsClearBefore (joined r s.span) more
 before_next r s [] h = tt
 before_next r s (z ∷ more) h = h.1
 
@@ -98,13 +99,13 @@ first_is k s more h = record {
   after = first_after s more h;
 }
   where
-    first_after : (s : Slice PlaneLine) (more : List (Slice PlaneLine)) → PiecesAreClear (λ z. z.span) (s ∷ more) → IsBefore s.span more
+    first_after : (s : Slice PlaneLine) (more : List (Slice PlaneLine)) → PiecesAreClear (λ z. z.span) (s ∷ more) → IsClearBefore s.span more
     first_after s [] h = tt
     first_after s (z ∷ more) h = h.1
 
 pub more_is : (k : ℕ) (all : List (Slice PlaneLine)) (c : Cover) (s : Slice PlaneLine) (more : List (Slice PlaneLine)) → drop c.count all ≡ s ∷ more → PiecesAreClear (λ z. z.span) (s ∷ more) → IsCoverOn k all c → IsCoverOn k all (with_slice c s)
 more_is k all c s more e clear h =
-    let at : is_clear c.span s.span ≡ true = subst (IsBefore c.span) e h.after in
+    let at : is_clear c.span s.span ≡ true = subst (IsClearBefore c.span) e h.after in
     let t = take_next c.count all s more e in
     let room = room_for c.count all s more e in
     record {
@@ -114,7 +115,7 @@ more_is k all c s more e clear h =
       runs = subst (CoversRun (with_slice c s)) (sym t.0) (record { some = not_empty (take c.count all) s; each = each_more (CoversSlice (with_slice c s)) (take c.count all) s (each_on (CoversSlice c) (CoversSlice (with_slice c s)) (still c s at h.has clear.0) (take c.count all) h.runs.each) (new c s at h.has clear.0) });
       has = through_some c.span s.span at h.has clear.0;
       begins = begins_still c.span (joined c.span s.span) all refl refl h.begins;
-      after = subst (IsBefore (joined c.span s.span)) (sym t.1) (before_next c.span s more clear);
+      after = subst (IsClearBefore (joined c.span s.span)) (sym t.1) (before_next c.span s more clear);
     }
 
 -- ---- run by run
@@ -132,11 +133,11 @@ pub record AreCoversFrom (k : ℕ) (slices : List (Slice PlaneLine)) (covers : L
 pub record IsCovering (all slices : List (Slice PlaneLine)) (k : ℕ) (covers : List Cover) : Type 0 where
   pub go : (more : List Cover) → AreCoversFrom k slices more → AreCoversFrom 0 all (covers ++ more)
 
-clear_by : (r q : SpanOf) (slices : List (Slice PlaneLine)) → IsBefore r slices → Begins q slices → is_clear r q ≡ true
+clear_by : (r q : SpanOf) (slices : List (Slice PlaneLine)) → IsClearBefore r slices → Begins q slices → is_clear r q ≡ true
 clear_by r q [] h b = absurd b
 clear_by r q (s ∷ slices) h b = rw (b.0, b.1) h
 
-clear_from : (c : Cover) (slices : List (Slice PlaneLine)) (more : List Cover) → has_instant c.span ≡ true → IsBefore c.span slices → BeginAlike more slices → PiecesAreClear (λ c. c.span) more → PiecesAreClear (λ c. c.span) (c ∷ more)
+clear_from : (c : Cover) (slices : List (Slice PlaneLine)) (more : List Cover) → has_instant c.span ≡ true → IsClearBefore c.span slices → BeginAlike more slices → PiecesAreClear (λ c. c.span) more → PiecesAreClear (λ c. c.span) (c ∷ more)
 clear_from c slices [] h b a p = (h, tt, tt)
 clear_from c slices (e ∷ more) h b a p = (h, clear_by c.span e.span slices b a, p)
 
@@ -166,6 +167,9 @@ covering_end all slices k covers e g =
     let f = subst (AreCoversFrom 0 all) (join_none covers) (g.go [] (record { runs = e; clear = tt; alike = tt })) in
     record { runs = f.runs; clear = f.clear }
 
+pub range_left : (n : ℕ) (slices : List (Slice PlaneLine)) → slice_range slices n (length slices) ≡ drop n slices
+range_left n slices = take_all (length slices - n) (drop n slices) (omega (arith, length-drop n slices))
+
 -- what is left of slices in order is in order
 pub clear_drop : (n : ℕ) (slices : List (Slice PlaneLine)) → PiecesAreClear (λ z. z.span) slices → PiecesAreClear (λ z. z.span) (drop n slices)
 clear_drop zero slices h = h
@@ -193,7 +197,7 @@ extending_step k all rest more c d s e f h =
 
 -- before a slice of the rest
 pub extending_clear : (k : ℕ) (all rest more : List (Slice PlaneLine)) (c : Cover) (s : Slice PlaneLine) → rest ≡ s ∷ more → IsExtending k all rest c → (has_instant c.span ≡ true) × (has_instant s.span ≡ true) × (is_clear c.span s.span ≡ true)
-extending_clear k all rest more c s e h = (h.cover.has, (subst (PiecesAreClear (λ z. z.span)) e h.clear).0, subst (IsBefore c.span) (h.at ∙ e) h.cover.after)
+extending_clear k all rest more c s e h = (h.cover.has, (subst (PiecesAreClear (λ z. z.span)) e h.clear).0, subst (IsClearBefore c.span) (h.at ∙ e) h.cover.after)
 
 -- the covers of the slices before the rest
 pub record IsMakingRuns (all rest : List (Slice PlaneLine)) (k : ℕ) (covers : List Cover) : Type 0 where

@@ -1,5 +1,5 @@
 -- Two moving points by the runs of their covers.
-use Rattle.std.{specs.Prelude.{◌≡◌, ◌≢◌, ◌||◌, ◌+◌, ◌≤◌, ℕ, zero, suc, Bool, true, false, cond, List, [], ◌∷◌, ◌++◌, map, length, take, drop, Option, Some, None, Result, Ok, Err, IfOk, refl}, specs.List.{AllByRecursion}}
+use Rattle.std.{specs.Prelude.{◌≡◌, ◌≢◌, ◌||◌, ◌+◌, ◌-◌, ◌≤◌, ℕ, zero, suc, Bool, true, false, cond, List, [], ◌∷◌, ◌++◌, map, length, take, drop, slice_range, Option, Some, None, Result, Ok, Err, IfOk, refl}, specs.List.{AllByRecursion}}
 use Rattle.std.{proofs.Common.{arith, ap, sym, ◌∙◌, subst}, proofs.lemmas.Bool.{false_from_ne_true}}
 use Rattle.mob_list.proofs.Each.{each_on, each_map}
 use Rattle.mob_ratio.{specs.Ratio.{Ratio, ◌+ℚ◌, ◌*ℚ◌}, specs.Order.{before, up_to, smaller}, specs.Sign.{nil}, proofs.Order.{up_to-trans}}
@@ -72,6 +72,9 @@ length_left : {X : Type 0} (n : ℕ) (xs : List X) → n ≤ length xs → n + l
 length_left zero xs h = omega arith
 length_left (suc n) [] h = absurd (omega (arith, h))
 length_left (suc n) (x ∷ xs) h = let k = length_left n xs (omega (arith, h)) in omega (arith, k)
+
+pub range_run : (v : List (Slice PlaneLine)) (s n : ℕ) → slice_range v s (s + n) ≡ take n (drop s v)
+range_run v s n = let e : (s + n) - s ≡ n = omega arith in ap (λ k. take k (drop s v)) e
 
 module _ (v : List (Slice PlaneLine)) where
   same_run : (k : ℕ) (slices : List (Slice PlaneLine)) (c : Cover) → slices ≡ drop k v → c.start ≡ k → take c.count slices ≡ run_of v c

@@ -38,9 +38,9 @@ Begins r [] = ⊥
 Begins r (s ∷ slices) = (r.lower ≡ s.span.lower) × (r.lower_inc ≡ s.span.lower_inc)
 
 -- the span is over before the first of the slices begins
-abbrev pub IsBefore : SpanOf → List (Slice PlaneLine) → Type 0
-IsBefore r [] = Unit {0}
-IsBefore r (s ∷ slices) = is_clear r s.span ≡ true
+abbrev pub IsClearBefore : SpanOf → List (Slice PlaneLine) → Type 0
+IsClearBefore r [] = Unit {0}
+IsClearBefore r (s ∷ slices) = is_clear r s.span ≡ true
 
 -- the cover of a run at the start of the slices, the first of which has the number k
 pub record IsCoverOn (k : ℕ) (slices : List (Slice PlaneLine)) (c : Cover) : Type 0 where
@@ -50,4 +50,4 @@ pub record IsCoverOn (k : ℕ) (slices : List (Slice PlaneLine)) (c : Cover) : T
   pub runs : CoversRun c (take c.count slices)
   pub has : has_instant c.span ≡ true
   pub begins : Begins c.span slices
-  pub after : IsBefore c.span (drop c.count slices)
+  pub after : IsClearBefore c.span (drop c.count slices)

@@ -27,12 +27,12 @@ use mob_wide::Exact;
 use std::alloc::{AllocError, Global};
 
 // The run of a cover.
+#[tactic(auto, using(crate::proofs::Stretches::range_run))]
 fn run_of<'a>(slices: &'a [Slice<PlaneLine>], cover: &Cover) -> &'a [Slice<PlaneLine>]
     requires room { cover.now.start + cover.now.count ≤ length slices.now }
     ensures run { result.now ≡ run_of slices.now cover.now }
 {
-    let rest = &slices[cover.start..];
-    &rest[..cover.count]
+    &slices[cover.start..cover.start + cover.count]
 }
 
 // Whether the rectangles of two runs lie beyond the distance `d` of each other. If that cannot be
