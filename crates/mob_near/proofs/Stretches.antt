@@ -1,18 +1,17 @@
 -- Two moving points by the runs of their covers.
-use Rattle.std.{specs.Prelude.{◌≡◌, ◌≢◌, ◌||◌, ◌+◌, ◌-◌, ◌≤◌, ℕ, zero, suc, Bool, true, false, cond, List, [], ◌∷◌, ◌++◌, map, length, take, drop, slice_range, Option, Some, None, Result, Ok, Err, IfOk, refl}, specs.List.{AllByRecursion}}
-use Rattle.std.{proofs.Common.{arith, ap, sym, ◌∙◌, subst}, proofs.lemmas.Bool.{false_from_ne_true}}
+use Rattle.std.{specs.Prelude.{◌≡◌, ◌||◌, ◌+◌, ◌-◌, ◌≤◌, ℕ, zero, suc, Bool, true, false, cond, List, [], ◌∷◌, ◌++◌, map, length, take, drop, slice_range, Option, Some, None, Result, Ok, Err, IfOk, refl}, specs.List.{AllByRecursion}}
+use Rattle.std.proofs.Common.{arith, ap, sym, ◌∙◌, subst}
 use Rattle.mob_list.proofs.Each.{each_on, each_map}
 use Rattle.mob_ratio.{specs.Ratio.{Ratio, ◌+ℚ◌, ◌*ℚ◌}, specs.Order.{before, up_to, smaller}, specs.Sign.{nil}, proofs.Order.{up_to-trans}}
-use Rattle.mob_plane.specs.declared.point.Point.{Point}
 use Rattle.mob_span.{specs.Chained.{OfHead, Chained}, specs.Neighbours.{is_inside}, specs.Span.{SpanOf, has_instant}, specs.Meets.{PieceOf, shared_pieces}, specs.Pieces.{PiecesAreClear}, proofs.MeetLaws.{meets_clear, meets_hold}}
-use Rattle.mob_slice.{specs.Sides.{Slices, pieces, given_at}, specs.Lines.{plane_value_of, plane_continued}, specs.Slices.{IsSound, IsRisingInTime, IsNormal, IsClearOf, value_at}, specs.declared.line.PlaneLine.{PlaneLine}, specs.declared.slice.Slice.{Slice}}
+use Rattle.mob_slice.{specs.Sides.{Slices, pieces}, specs.Lines.{plane_value_of, plane_continued}, specs.Slices.{IsSound, IsRisingInTime, IsNormal, IsClearOf, value_at}, specs.declared.line.PlaneLine.{PlaneLine}, specs.declared.slice.Slice.{Slice}}
 use Rattle.mob_slice.proofs.Orders.{all_sound, ordered, ordered-clear}
 use Rattle.mob_lift.{specs.Pieces.{both_move}, specs.Sometime.{either, IsEver}, proofs.Walking.{walked}, proofs.Beside.{map_clear}}
 use Rattle.mob_near.specs.Approaches.{IsApproach}
 use Rattle.mob_near.{specs.Covers.{CoversSlice, CoversRun, AreRunsFrom, AreCoversOf, IsRunOf, run_of, some_reach, nearer_of, is_apart_on, is_beyond, cover_gap}, specs.Distances.{distance_squared}, specs.Entries.{PointPiece}}
 use Rattle.mob_near.{specs.Legs.{piece_reaches, piece_approach, nearest_of, are_some}, specs.Wide.{least_approach}, specs.declared.covers.Cover.{Cover}}
 use Rattle.mob_near.proofs.{OnPieces.{IsHeld}, Runs.{each_two, some_each, IsSoundLine, beyond_never_reaches, gaps_bound_approaches}, Products.{total, total_map, IsSum, AreRuns, by_runs}}
-use Rattle.mob_near.proofs.Widely.{ever_is, nearest_is, least_all, smaller_is, smaller_swap, three}
+use Rattle.mob_near.proofs.Widely.{by_first, by_second, ever_is, nearest_is, least_all, smaller_is, smaller_swap, three}
 
 -- ---- lists of slices
 pub normal_rising : (v : List (Slice PlaneLine)) → IsNormal (λ c. c.from) (λ c. c.to) plane_continued v → IsRisingInTime (λ c. c.from) (λ c. c.to) v
@@ -39,6 +38,18 @@ module _ {A : Type 0} (P : A → Type 0) (R : A → A → Type 0) where
 
 pub run_rising : (v : List (Slice PlaneLine)) (c : Cover) → IsRisingInTime (λ c. c.from) (λ c. c.to) v → IsRisingInTime (λ c. c.from) (λ c. c.to) (run_of v c)
 run_rising v c h = chained_take (IsSound (λ c. c.from) (λ c. c.to)) IsClearOf c.count (drop c.start v) (chained_drop (IsSound (λ c. c.from) (λ c. c.to)) IsClearOf c.start v h)
+
+pub run_rises : (v r : List (Slice PlaneLine)) (c : Cover) → r ≡ run_of v c → IsRisingInTime (λ c. c.from) (λ c. c.to) v → IsRisingInTime (λ c. c.from) (λ c. c.to) r
+run_rises v r c e h = subst (IsRisingInTime (λ c. c.from) (λ c. c.to)) (sym e) (run_rising v c h)
+
+-- results on lists that are equal
+pub reach_as : {E : Type 0} (D : Ratio) (v w x y : List (Slice PlaneLine)) (r : Result Bool E) → x ≡ v → y ≡ w → IfOk r (λ b. b ≡ some_reach D (pieces (Slices x) (Slices y))) → IfOk r (λ b. b ≡ some_reach D (pieces (Slices v) (Slices w)))
+reach_as D v w x y (Ok b) e f h = h ∙ ap (λ z. some_reach D (pieces (Slices z) (Slices y))) e ∙ ap (λ z. some_reach D (pieces (Slices v) (Slices z))) f
+reach_as D v w x y (Err g) e f h = tt
+
+pub nearer_as : {E : Type 0} (v w x y : List (Slice PlaneLine)) (o : Option Ratio) (r : Result (Option Ratio) E) → x ≡ v → y ≡ w → IfOk r (λ b. b ≡ nearer_of o (least_approach (pieces (Slices x) (Slices y)))) → IfOk r (λ b. b ≡ nearer_of o (least_approach (pieces (Slices v) (Slices w))))
+nearer_as v w x y o (Ok b) e f h = h ∙ ap (λ z. nearer_of o (least_approach (pieces (Slices z) (Slices y)))) e ∙ ap (λ z. nearer_of o (least_approach (pieces (Slices v) (Slices z)))) f
+nearer_as v w x y o (Err g) e f h = tt
 
 -- ---- the pieces of two lists
 abbrev pub IsWalked : PieceOf (Slice PlaneLine) (Slice PlaneLine) → Type 0
@@ -147,9 +158,12 @@ reach_total D (p ∷ ps) = ap (λ z. piece_reaches D p || z) (reach_total D ps)
 reach_moves : (D : Ratio) (v w : List (Slice PlaneLine)) → some_reach D (pieces (Slices v) (Slices w)) ≡ total (λ a b. a || b) false (λ p. piece_reaches D (both_move p)) (shared_pieces (λ s. s.span) (λ s. s.span) v w)
 reach_moves D v w = reach_total D (pieces (Slices v) (Slices w)) ∙ total_map (λ a b. a || b) false (piece_reaches D) both_move (shared_pieces (λ s. s.span) (λ s. s.span) v w)
 
-all_total : (D : Ratio) (v w : List (Slice PlaneLine)) (ps : List (PieceOf Cover Cover)) → total (λ a b. a || b) false (λ p. total (λ a b. a || b) false (λ q. piece_reaches D (both_move q)) (shared_pieces (λ s. s.span) (λ s. s.span) (run_of v p.left) (run_of w p.right))) ps ≡ reach_all D v w ps
+abbrev run_reach : Ratio → List (Slice PlaneLine) → List (Slice PlaneLine) → PieceOf Cover Cover → Bool
+run_reach D v w p = total (λ a b. a || b) false (λ q. piece_reaches D (both_move q)) (shared_pieces (λ s. s.span) (λ s. s.span) (run_of v p.left) (run_of w p.right))
+
+all_total : (D : Ratio) (v w : List (Slice PlaneLine)) (ps : List (PieceOf Cover Cover)) → total (λ a b. a || b) false (run_reach D v w) ps ≡ reach_all D v w ps
 all_total D v w [] = refl
-all_total D v w (p ∷ ps) = ap (λ z. z || _) (sym (reach_moves D (run_of v p.left) (run_of w p.right))) ∙ ap (λ z. reach_on D v w p || z) (all_total D v w ps)
+all_total D v w (p ∷ ps) = ap (λ z. z || total (λ a b. a || b) false (run_reach D v w) ps) (sym (reach_moves D (run_of v p.left) (run_of w p.right))) ∙ ap (λ z. reach_on D v w p || z) (all_total D v w ps)
 
 pub reach_by_runs : (D : Ratio) (v w : List (Slice PlaneLine)) (covers others : List Cover) → AreCoversOf v covers → AreCoversOf w others → some_reach D (pieces (Slices v) (Slices w)) ≡ reach_all D v w (shared_pieces (λ c. c.span) (λ c. c.span) covers others)
 reach_by_runs D v w covers others h k =
@@ -168,17 +182,53 @@ none_reach v w c e d s hv hw left right hd same h =
     ∙ all_false (d *ℚ d) (pieces (Slices (run_of v c)) (Slices (run_of w e))) (beyond_never_reaches d c e (run_of v c) (run_of w e) hd (run_rising v c hv) (run_rising w e hw) left.covers right.covers h))
 
 -- beyond to one of four sides
-pub beyond_by : (d : Ratio) (c e : Cover) (s t u v : Bool) → before (c.xmax +ℚ d) e.xmin ≡ s → before (e.xmax +ℚ d) c.xmin ≡ t → before (c.ymax +ℚ d) e.ymin ≡ u → before (e.ymax +ℚ d) c.ymin ≡ v → ((s || t) || (u || v)) ≡ true → is_beyond d c e ≡ true
-beyond_by d c e s t u v a b f g h = rw (a, b, f, g) h
+module _ (d : Ratio) (c e : Cover) where
+  across : is_apart_on d c.xmin c.xmax e.xmin e.xmax ≡ true → is_beyond d c e ≡ true
+  across h = by_first (is_apart_on d c.xmin c.xmax e.xmin e.xmax) (is_apart_on d c.ymin c.ymax e.ymin e.ymax) h
 
--- the walk so far has found nothing
-pub rest_reach : (a b c : Bool) → a || b ≡ c → a ≡ false → b ≡ c
-rest_reach true b c e h = absurd (cc h)
-rest_reach false b c e h = e
+  along : is_apart_on d c.ymin c.ymax e.ymin e.ymax ≡ true → is_beyond d c e ≡ true
+  along h = by_second (is_apart_on d c.xmin c.xmax e.xmin e.xmax) (is_apart_on d c.ymin c.ymax e.ymin e.ymax) h
 
-pub hit_reach : (a b c : Bool) → a || b ≡ c → a ≡ true → true ≡ c
-hit_reach true b c e h = e
-hit_reach false b c e h = absurd (cc h)
+  pub beyond_east : before (c.xmax +ℚ d) e.xmin ≡ true → is_beyond d c e ≡ true
+  beyond_east h = across (by_first (before (c.xmax +ℚ d) e.xmin) (before (e.xmax +ℚ d) c.xmin) h)
+
+  pub beyond_west : before (e.xmax +ℚ d) c.xmin ≡ true → is_beyond d c e ≡ true
+  beyond_west h = across (by_second (before (c.xmax +ℚ d) e.xmin) (before (e.xmax +ℚ d) c.xmin) h)
+
+  pub beyond_north : before (c.ymax +ℚ d) e.ymin ≡ true → is_beyond d c e ≡ true
+  beyond_north h = along (by_first (before (c.ymax +ℚ d) e.ymin) (before (e.ymax +ℚ d) c.ymin) h)
+
+  pub beyond_south : before (e.ymax +ℚ d) c.ymin ≡ true → is_beyond d c e ≡ true
+  beyond_south h = along (by_second (before (c.ymax +ℚ d) e.ymin) (before (e.ymax +ℚ d) c.ymin) h)
+
+-- a walk that has found nothing so far
+miss : (a b c : Bool) → (a || b) ≡ c → a ≡ false → b ≡ c
+miss true b c e h = absurd (cc h)
+miss false b c e h = e
+
+hit : (a b c : Bool) → (a || b) ≡ c → a ≡ true → true ≡ c
+hit true b c e h = e
+hit false b c e h = absurd (cc h)
+
+module _ (D : Ratio) (left rest : List (PieceOf (Slice PlaneLine) (Slice PlaneLine))) (m : PieceOf (Slice PlaneLine) (Slice PlaneLine)) (all : Bool) where
+  pub piece_missed : left ≡ m ∷ rest → some_reach D (map both_move left) ≡ all → piece_reaches D (both_move m) ≡ false → some_reach D (map both_move rest) ≡ all
+  piece_missed e h n = miss (piece_reaches D (both_move m)) (some_reach D (map both_move rest)) all (ap (λ l. some_reach D (map both_move l)) (sym e) ∙ h) n
+
+  pub piece_hit : left ≡ m ∷ rest → some_reach D (map both_move left) ≡ all → piece_reaches D (both_move m) ≡ true → true ≡ all
+  piece_hit e h n = hit (piece_reaches D (both_move m)) (some_reach D (map both_move rest)) all (ap (λ l. some_reach D (map both_move l)) (sym e) ∙ h) n
+
+pub pieces_missed : (D : Ratio) (left : List (PieceOf (Slice PlaneLine) (Slice PlaneLine))) (all : Bool) → left ≡ [] → some_reach D (map both_move left) ≡ all → false ≡ all
+pieces_missed D left all e h = ap (λ l. some_reach D (map both_move l)) (sym e) ∙ h
+
+module _ (D : Ratio) (v w : List (Slice PlaneLine)) (left rest : List (PieceOf Cover Cover)) (m : PieceOf Cover Cover) (all : Bool) where
+  pub runs_missed : left ≡ m ∷ rest → reach_all D v w left ≡ all → reach_on D v w m ≡ false → reach_all D v w rest ≡ all
+  runs_missed e h n = miss (reach_on D v w m) (reach_all D v w rest) all (ap (reach_all D v w) (sym e) ∙ h) n
+
+  pub runs_hit : left ≡ m ∷ rest → reach_all D v w left ≡ all → reach_on D v w m ≡ true → true ≡ all
+  runs_hit e h n = hit (reach_on D v w m) (reach_all D v w rest) all (ap (reach_all D v w) (sym e) ∙ h) n
+
+pub all_missed : (D : Ratio) (v w : List (Slice PlaneLine)) (left : List (PieceOf Cover Cover)) (all : Bool) → left ≡ [] → reach_all D v w left ≡ all → false ≡ all
+all_missed D v w left all e h = ap (reach_all D v w) (sym e) ∙ h
 
 -- ---- the answer over all pieces
 walked_true : (D : Ratio) (b : Bool) (ps : List PointPiece) → walked either (piece_reaches D) (Some b) ps ≡ Some (b || some_reach D ps)
@@ -251,9 +301,12 @@ abbrev pub least_in : List (Slice PlaneLine) → List (Slice PlaneLine) → List
 least_in v w [] = None
 least_in v w (p ∷ ps) = nearer_of (least_on v w p) (least_in v w ps)
 
-in_total : (v w : List (Slice PlaneLine)) (ps : List (PieceOf Cover Cover)) → total nearer_of None (λ p. total nearer_of None (λ q. Some (piece_approach (both_move q))) (shared_pieces (λ s. s.span) (λ s. s.span) (run_of v p.left) (run_of w p.right))) ps ≡ least_in v w ps
+abbrev run_least : List (Slice PlaneLine) → List (Slice PlaneLine) → PieceOf Cover Cover → Option Ratio
+run_least v w p = total nearer_of None (λ q. Some (piece_approach (both_move q))) (shared_pieces (λ s. s.span) (λ s. s.span) (run_of v p.left) (run_of w p.right))
+
+in_total : (v w : List (Slice PlaneLine)) (ps : List (PieceOf Cover Cover)) → total nearer_of None (run_least v w) ps ≡ least_in v w ps
 in_total v w [] = refl
-in_total v w (p ∷ ps) = ap (λ z. nearer_of z _) (sym (least_moves (run_of v p.left) (run_of w p.right))) ∙ ap (nearer_of (least_on v w p)) (in_total v w ps)
+in_total v w (p ∷ ps) = ap (λ z. nearer_of z (total nearer_of None (run_least v w) ps)) (sym (least_moves (run_of v p.left) (run_of w p.right))) ∙ ap (nearer_of (least_on v w p)) (in_total v w ps)
 
 pub least_by_runs : (v w : List (Slice PlaneLine)) (covers others : List Cover) → AreCoversOf v covers → AreCoversOf w others → least_approach (pieces (Slices v) (Slices w)) ≡ least_in v w (shared_pieces (λ c. c.span) (λ c. c.span) covers others)
 least_by_runs v w covers others h k =
@@ -277,14 +330,25 @@ pub none_nearer : (v w : List (Slice PlaneLine)) (c e : Cover) (f : Ratio) → I
 none_nearer v w c e f hv hw left right h = no_nearer f (cover_gap c e) (pieces (Slices (run_of v c)) (Slices (run_of w e))) h (gaps_bound_approaches c e (run_of v c) (run_of w e) (run_rising v c hv) (run_rising w e hw) left.covers right.covers)
 
 -- one more piece, and one more result
-pub piece_nearer : (o l all : Option Ratio) (m : Ratio) → nearer_of o (Some (nearest_of l m)) ≡ all → nearer_of (Some (nearest_of o m)) l ≡ all
+piece_nearer : (o l all : Option Ratio) (m : Ratio) → nearer_of o (Some (nearest_of l m)) ≡ all → nearer_of (Some (nearest_of o m)) l ≡ all
 piece_nearer None l all m e = sym (first_nearer m l) ∙ e
 piece_nearer (Some a) None all m e = ap Some (smaller_swap m a) ∙ e
 piece_nearer (Some a) (Some b) all m e = ap Some (ap (λ z. smaller z b) (smaller_swap m a) ∙ smaller_assoc a m b) ∙ e
 
-pub result_nearer : (o r l all : Option Ratio) → nearer_of o (nearer_of r l) ≡ all → nearer_of (nearer_of o r) l ≡ all
-result_nearer o r l all e = nearer_sum.assoc o r l ∙ e
+or_none : (o : Option Ratio) → o ≡ nearer_of o None
+or_none None = refl
+or_none (Some a) = refl
 
-pub none_left_nearer : (o all : Option Ratio) → nearer_of o None ≡ all → o ≡ all
-none_left_nearer None all e = e
-none_left_nearer (Some a) all e = e
+module _ (left rest : List (PieceOf (Slice PlaneLine) (Slice PlaneLine))) (m : PieceOf (Slice PlaneLine) (Slice PlaneLine)) (o all : Option Ratio) (a : Ratio) where
+  pub piece_counted : left ≡ m ∷ rest → nearer_of o (least_approach (map both_move left)) ≡ all → a ≡ nearest_of o (piece_approach (both_move m)) → nearer_of (Some a) (least_approach (map both_move rest)) ≡ all
+  piece_counted e h k = ap (λ z. nearer_of (Some z) (least_approach (map both_move rest))) k ∙ piece_nearer o (least_approach (map both_move rest)) all (piece_approach (both_move m)) (ap (λ l. nearer_of o (least_approach (map both_move l))) (sym e) ∙ h)
+
+pub pieces_counted : (left : List (PieceOf (Slice PlaneLine) (Slice PlaneLine))) (o all : Option Ratio) → left ≡ [] → nearer_of o (least_approach (map both_move left)) ≡ all → o ≡ all
+pieces_counted left o all e h = or_none o ∙ ap (λ l. nearer_of o (least_approach (map both_move l))) (sym e) ∙ h
+
+module _ (v w : List (Slice PlaneLine)) (left rest : List (PieceOf Cover Cover)) (m : PieceOf Cover Cover) (o r all : Option Ratio) where
+  pub runs_counted : left ≡ m ∷ rest → nearer_of o (least_in v w left) ≡ all → r ≡ nearer_of o (least_on v w m) → nearer_of r (least_in v w rest) ≡ all
+  runs_counted e h k = ap (λ z. nearer_of z (least_in v w rest)) k ∙ nearer_sum.assoc o (least_on v w m) (least_in v w rest) ∙ ap (λ l. nearer_of o (least_in v w l)) (sym e) ∙ h
+
+pub all_counted : (v w : List (Slice PlaneLine)) (left : List (PieceOf Cover Cover)) (o all : Option Ratio) → left ≡ [] → nearer_of o (least_in v w left) ≡ all → o ≡ all
+all_counted v w left o all e h = or_none o ∙ ap (λ l. nearer_of o (least_in v w l)) (sym e) ∙ h

@@ -1,6 +1,6 @@
 //! Nearness of two moving points with covers. A walk over the covers that share time skips two runs
 //! of slices at once if their rectangles cannot matter.
-ghost use Rattle.std.specs.Prelude.{◌≡◌, ◌+◌, ◌≤◌, true, IfOk, IfSome, length, Option};
+ghost use Rattle.std.specs.Prelude.{◌≡◌, true, Some, IfOk, IfSome};
 ghost use Rattle.mob_ratio.specs.Order.{up_to};
 ghost use Rattle.mob_ratio.specs.Ratio.{◌*ℚ◌};
 ghost use Rattle.mob_ratio.specs.Sign.{nil};
@@ -27,17 +27,19 @@ use mob_wide::Exact;
 use std::alloc::{AllocError, Global};
 
 // The run of a cover.
-#[tactic(auto, using(crate::proofs::Stretches::range_run))]
+#[tactic(auto, using(crate::proofs::Stretches::range_run, crate::proofs::Stretches::run_rises))]
 fn run_of<'a>(slices: &'a [Slice<PlaneLine>], cover: &Cover) -> &'a [Slice<PlaneLine>]
-    requires room { cover.now.start + cover.now.count ≤ length slices.now }
+    requires rising { IsRisingInTime (λ c. c.from) (λ c. c.to) slices.now }
+    requires run { IsRunOf slices.now cover.now }
     ensures run { result.now ≡ run_of slices.now cover.now }
+    ensures rising { IsRisingInTime (λ c. c.from) (λ c. c.to) result.now }
 {
     &slices[cover.start..cover.start + cover.count]
 }
 
 // Whether the rectangles of two runs lie beyond the distance `d` of each other. If that cannot be
 // decided in `Frac`s, it is false.
-#[tactic(auto, using(crate::proofs::Stretches::beyond_by))]
+#[tactic(auto, using(crate::proofs::Stretches::beyond_east, crate::proofs::Stretches::beyond_west, crate::proofs::Stretches::beyond_north, crate::proofs::Stretches::beyond_south))]
 fn are_beyond(d: &Frac, a: &Cover, b: &Cover) -> bool
     ensures beyond { result ≡ true → is_beyond d.now a.now b.now ≡ true }
 {
@@ -55,7 +57,7 @@ fn are_beyond(d: &Frac, a: &Cover, b: &Cover) -> bool
 
 // Whether the squared distance is at most `square`, that of `d`, at some instant that two runs
 // share. The walk stops at the first piece that has one.
-#[tactic(auto, using(crate::proofs::Stretches::rising_clear, crate::proofs::Stretches::all_walked, crate::proofs::Stretches::rest_reach, crate::proofs::Stretches::hit_reach))]
+#[tactic(auto, using(crate::proofs::Stretches::rising_clear, crate::proofs::Stretches::all_walked, crate::proofs::Stretches::piece_missed, crate::proofs::Stretches::piece_hit, crate::proofs::Stretches::pieces_missed))]
 fn runs_come_within(
     alloc: Global,
     v: &[Slice<PlaneLine>],
@@ -89,7 +91,7 @@ fn runs_come_within(
 
 // Whether the squared distance is at most `square`, that of `d`, at some instant that the runs of
 // two covers share.
-#[tactic(auto, using(crate::proofs::Stretches::none_reach, crate::proofs::Stretches::run_rising))]
+#[tactic(auto, using(crate::proofs::Stretches::none_reach, crate::proofs::Stretches::reach_as))]
 fn stretch_comes_within(
     alloc: Global,
     v: &[Slice<PlaneLine>],
@@ -114,7 +116,7 @@ fn stretch_comes_within(
 }
 
 // Whether the squared distance is at most `square`, that of `d`, at some common instant.
-#[tactic(auto, using(crate::proofs::Stretches::covers_clear, crate::proofs::Stretches::all_runs, crate::proofs::Stretches::reach_by_runs, crate::proofs::Stretches::rest_reach, crate::proofs::Stretches::hit_reach))]
+#[tactic(auto, using(crate::proofs::Stretches::covers_clear, crate::proofs::Stretches::all_runs, crate::proofs::Stretches::reach_by_runs, crate::proofs::Stretches::runs_missed, crate::proofs::Stretches::runs_hit, crate::proofs::Stretches::all_missed))]
 fn stretches_come_within(
     alloc: Global,
     v: &[Slice<PlaneLine>],
@@ -207,7 +209,7 @@ fn are_beyond_found(alloc: Global, a: &Cover, b: &Cover, found: &Exact) -> Resul
 }
 
 // The smaller of the result so far and that of two runs.
-#[tactic(auto, using(crate::proofs::Stretches::rising_clear, crate::proofs::Stretches::all_walked, crate::proofs::Stretches::piece_nearer, crate::proofs::Stretches::none_left_nearer))]
+#[tactic(auto, using(crate::proofs::Stretches::rising_clear, crate::proofs::Stretches::all_walked, crate::proofs::Stretches::piece_counted, crate::proofs::Stretches::pieces_counted))]
 fn runs_nearer(
     alloc: Global,
     v: &[Slice<PlaneLine>],
@@ -235,7 +237,7 @@ fn runs_nearer(
 }
 
 // The smaller of the result so far and that of the runs of two covers.
-#[tactic(auto, using(crate::proofs::Stretches::none_nearer, crate::proofs::Stretches::run_rising))]
+#[tactic(auto, using(crate::proofs::Stretches::none_nearer, crate::proofs::Stretches::nearer_as))]
 fn stretch_nearer_than(
     alloc: Global,
     v: &[Slice<PlaneLine>],
@@ -258,7 +260,7 @@ fn stretch_nearer_than(
 }
 
 // The smaller of the result so far and that of the runs of two covers.
-#[tactic(auto, using(crate::proofs::Stretches::run_rising))]
+#[tactic(auto, using(crate::proofs::Stretches::nearer_as))]
 fn stretch_nearer(
     alloc: Global,
     v: &[Slice<PlaneLine>],
@@ -280,7 +282,7 @@ fn stretch_nearer(
 }
 
 // The least approach of two lists of slices.
-#[tactic(auto, using(crate::proofs::Stretches::covers_clear, crate::proofs::Stretches::all_runs, crate::proofs::Stretches::least_by_runs, crate::proofs::Stretches::result_nearer, crate::proofs::Stretches::none_left_nearer))]
+#[tactic(auto, using(crate::proofs::Stretches::covers_clear, crate::proofs::Stretches::all_runs, crate::proofs::Stretches::least_by_runs, crate::proofs::Stretches::runs_counted, crate::proofs::Stretches::all_counted))]
 fn least_of_stretches(
     alloc: Global,
     v: &[Slice<PlaneLine>],
