@@ -219,8 +219,22 @@ making_step all rest k covers c h m =
     let total = m.count in
     record { clear = clear_drop c.count rest m.clear; count = omega (arith, left, total); covering = covering_step all rest k covers c h m.covering }
 
-pub fewer_left : (k : ℕ) (rest : List (Slice PlaneLine)) (c : Cover) → IsCoverOn k rest c → length (drop c.count rest) < length rest
+-- one more run, with what the loop makes of it
+pub making_next : (all rest more next : List (Slice PlaneLine)) (first : Slice PlaneLine) (k n : ℕ) (covers made : List Cover) (c : Cover) → rest ≡ first ∷ more → IsCoverOn k (first ∷ more) c → made ≡ covers ++ c ∷ [] → n ≡ c.count → next ≡ slice_range rest n (length rest) → IsMakingRuns all rest k covers → IsMakingRuns all next (k + n) made
+making_next all rest more next first k n covers made c e h f g i m =
+    let on : IsCoverOn k rest c = subst (λ l. IsCoverOn k l c) (sym e) h in
+    let left : next ≡ drop c.count rest = i ∙ ap (λ z. slice_range rest z (length rest)) g ∙ range_left c.count rest in
+    let step = making_step all rest k covers c on m in
+    subst (λ l. IsMakingRuns all l (k + n) made) (sym left) (subst (λ l. IsMakingRuns all (drop c.count rest) (k + n) l) (sym f) (subst (λ z. IsMakingRuns all (drop c.count rest) (k + z) (covers ++ c ∷ [])) (sym g) step))
+
+fewer_left : (k : ℕ) (rest : List (Slice PlaneLine)) (c : Cover) → IsCoverOn k rest c → length (drop c.count rest) < length rest
 fewer_left k rest c h = let left = length_left c.count rest h.count in let some = h.some in omega (arith, left, some)
+
+pub fewer_next : (rest more next : List (Slice PlaneLine)) (first : Slice PlaneLine) (k n : ℕ) (c : Cover) → rest ≡ first ∷ more → IsCoverOn k (first ∷ more) c → n ≡ c.count → next ≡ slice_range rest n (length rest) → length next < length rest
+fewer_next rest more next first k n c e h g i =
+    let on : IsCoverOn k rest c = subst (λ l. IsCoverOn k l c) (sym e) h in
+    let left : next ≡ drop c.count rest = i ∙ ap (λ z. slice_range rest z (length rest)) g ∙ range_left c.count rest in
+    subst (λ l. length l < length rest) (sym left) (fewer_left k rest c on)
 
 pub making_end : (all rest : List (Slice PlaneLine)) (k : ℕ) (covers : List Cover) → rest ≡ [] → IsMakingRuns all rest k covers → AreCoversOf all covers
 making_end all rest k covers e m = covering_end all rest k covers e m.covering

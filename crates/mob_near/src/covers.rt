@@ -155,7 +155,7 @@ fn add(all: &mut Vec<Cover>, cover: Cover) -> Result<(), AllocError>
 }
 
 // The covers of slices in order of time.
-#[tactic(auto, using(crate::proofs::Covering::making_start, crate::proofs::Covering::making_step, crate::proofs::Covering::range_left, crate::proofs::Covering::fewer_left, crate::proofs::Covering::making_end))]
+#[tactic(auto, using(crate::proofs::Covering::making_start, crate::proofs::Covering::making_next, crate::proofs::Covering::fewer_next, crate::proofs::Covering::making_end))]
 fn covers_on(alloc: Global, slices: &[Slice<PlaneLine>]) -> Result<Covers, AllocError>
     requires clear { PiecesAreClear (λ s. s.span) slices.now }
     ensures covers { IfOk result (AreCoversOf slices.now) }
