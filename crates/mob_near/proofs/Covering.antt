@@ -1,8 +1,7 @@
 -- The cover of a run, slice by slice, and all covers, run by run.
-use Rattle.std.specs.Prelude.{◌≡◌, ◌≢◌, true, ℕ, zero, suc, ◌+◌, ◌<◌, ◌≤◌, List, [], ◌∷◌, ◌++◌, length, take, drop, slice_range, ◌-◌, refl}
+use Rattle.std.specs.Prelude.{◌≡◌, ◌≢◌, true, ℕ, zero, suc, ◌+◌, ◌<◌, ◌≤◌, List, [], ◌∷◌, ◌++◌, length, take, drop, slice_range, ◌-◌, Result, Ok, Err, IfOk, refl}
 use Rattle.std.specs.List.{AllByRecursion}
-use Rattle.std.proofs.Common.{arith, ap, sym, ◌∙◌, subst, add-one}
-use Rattle.std.proofs.Common.{length-drop, take_all}
+use Rattle.std.proofs.Common.{arith, ap, sym, ◌∙◌, subst, add-one, append_assoc, append-nil, length-drop, take_all}
 use Rattle.mob_list.proofs.Each.{each_on, each_more}
 use Rattle.mob_plane.specs.declared.point.Point.{Point}
 use Rattle.mob_ratio.proofs.Order.{up_to-trans, smaller_left, smaller_right, greater_left, greater_right}
@@ -14,7 +13,7 @@ use Rattle.mob_span.proofs.Insides.{inside_self}
 use Rattle.mob_slice.specs.declared.line.PlaneLine.{PlaneLine}
 use Rattle.mob_slice.specs.declared.slice.Slice.{Slice}
 use Rattle.mob_slice.specs.Lines.{plane_continued}
-use Rattle.mob_slice.specs.Slices.{IsNormal}
+use Rattle.mob_slice.specs.Slices.{IsNormal, IsRisingInTime}
 use Rattle.mob_slice.proofs.Orders.{ordered, ordered-clear}
 use Rattle.mob_near.specs.Covers.{IsCovered, CoversSlice, CoversRun, AreRunsFrom, AreCoversOf}
 use Rattle.mob_near.specs.Covering.{IsCoverOn, Begins, IsClearBefore, first_cover, with_slice}
@@ -148,24 +147,16 @@ next_from k slices c more h m = record {
   alike = h.begins;
 }
 
-join_one : {X : Type 0} (xs : List X) (x : X) (ys : List X) → (xs ++ x ∷ []) ++ ys ≡ xs ++ x ∷ ys
-join_one [] x ys = refl
-join_one (z ∷ xs) x ys = ap (λ l. z ∷ l) (join_one xs x ys)
-
-join_none : {X : Type 0} (xs : List X) → xs ++ [] ≡ xs
-join_none [] = refl
-join_none (x ∷ xs) = ap (λ l. x ∷ l) (join_none xs)
-
 pub covering_start : (all : List (Slice PlaneLine)) → IsCovering all all 0 []
 covering_start all = record { go = λ more h. h }
 
 pub covering_step : (all slices : List (Slice PlaneLine)) (k : ℕ) (covers : List Cover) (c : Cover) → IsCoverOn k slices c → IsCovering all slices k covers → IsCovering all (drop c.count slices) (k + c.count) (covers ++ c ∷ [])
-covering_step all slices k covers c h g = record { go = λ more m. subst (AreCoversFrom 0 all) (sym (join_one covers c more)) (g.go (c ∷ more) (next_from k slices c more h m)) }
+covering_step all slices k covers c h g = record { go = λ more m. subst (AreCoversFrom 0 all) (sym (append_assoc covers (c ∷ []) more)) (g.go (c ∷ more) (next_from k slices c more h m)) }
 
-pub covering_end : (all slices : List (Slice PlaneLine)) (k : ℕ) (covers : List Cover) → slices ≡ [] → IsCovering all slices k covers → AreCoversOf all covers
-covering_end all slices k covers e g =
-    let f = subst (AreCoversFrom 0 all) (join_none covers) (g.go [] (record { runs = e; clear = tt; alike = tt })) in
-    record { runs = f.runs; clear = f.clear }
+covering_end : (all slices : List (Slice PlaneLine)) (k : ℕ) (covers : List Cover) → slices ≡ [] → IsRisingInTime (λ c. c.from) (λ c. c.to) all → IsCovering all slices k covers → AreCoversOf all covers
+covering_end all slices k covers e order g =
+    let f = subst (AreCoversFrom 0 all) (append-nil covers) (g.go [] (record { runs = e; clear = tt; alike = tt })) in
+    record { order = order; runs = f.runs; clear = f.clear }
 
 pub range_left : (n : ℕ) (slices : List (Slice PlaneLine)) → slice_range slices n (length slices) ≡ drop n slices
 range_left n slices = take_all (length slices - n) (drop n slices) (omega (arith, length-drop n slices))
@@ -175,9 +166,6 @@ pub clear_drop : (n : ℕ) (slices : List (Slice PlaneLine)) → PiecesAreClear 
 clear_drop zero slices h = h
 clear_drop (suc n) [] h = tt
 clear_drop (suc n) (s ∷ slices) h = clear_drop n slices h.2
-
-pub clear_tail : (s : Slice PlaneLine) (slices : List (Slice PlaneLine)) → PiecesAreClear (λ z. z.span) (s ∷ slices) → PiecesAreClear (λ z. z.span) slices
-clear_tail s slices h = h.2
 
 -- ---- the two loops
 -- the cover of the slices before the rest
@@ -205,19 +193,15 @@ pub record IsMakingRuns (all rest : List (Slice PlaneLine)) (k : ℕ) (covers : 
   pub count : k + length rest ≡ length all
   pub covering : IsCovering all rest k covers
 
-pub making_start : (all : List (Slice PlaneLine)) → PiecesAreClear (λ z. z.span) all → IsMakingRuns all all 0 []
-making_start all h = record { clear = h; count = omega arith; covering = covering_start all }
-
-length_left : {X : Type 0} (n : ℕ) (xs : List X) → n ≤ length xs → n + length (drop n xs) ≡ length xs
-length_left zero xs h = omega arith
-length_left (suc n) [] h = absurd (omega (arith, h))
-length_left (suc n) (x ∷ xs) h = let k = length_left n xs (omega (arith, h)) in omega (arith, k)
+pub making_start : (all : List (Slice PlaneLine)) → IsRisingInTime (λ c. c.from) (λ c. c.to) all → IsMakingRuns all all 0 []
+making_start all h = record { clear = ordered-clear (λ c. c.from) (λ c. c.to) all h; count = omega arith; covering = covering_start all }
 
 pub making_step : (all rest : List (Slice PlaneLine)) (k : ℕ) (covers : List Cover) (c : Cover) → IsCoverOn k rest c → IsMakingRuns all rest k covers → IsMakingRuns all (drop c.count rest) (k + c.count) (covers ++ c ∷ [])
 making_step all rest k covers c h m =
-    let left = length_left c.count rest h.count in
+    let left = length-drop c.count rest in
+    let few = h.count in
     let total = m.count in
-    record { clear = clear_drop c.count rest m.clear; count = omega (arith, left, total); covering = covering_step all rest k covers c h m.covering }
+    record { clear = clear_drop c.count rest m.clear; count = omega (arith, left, few, total); covering = covering_step all rest k covers c h m.covering }
 
 -- one more run, with what the loop makes of it
 pub making_next : (all rest more next : List (Slice PlaneLine)) (first : Slice PlaneLine) (k n : ℕ) (covers made : List Cover) (c : Cover) → rest ≡ first ∷ more → IsCoverOn k (first ∷ more) c → made ≡ covers ++ c ∷ [] → n ≡ c.count → next ≡ slice_range rest n (length rest) → IsMakingRuns all rest k covers → IsMakingRuns all next (k + n) made
@@ -228,7 +212,7 @@ making_next all rest more next first k n covers made c e h f g i m =
     subst (λ l. IsMakingRuns all l (k + n) made) (sym left) (subst (λ l. IsMakingRuns all (drop c.count rest) (k + n) l) (sym f) (subst (λ z. IsMakingRuns all (drop c.count rest) (k + z) (covers ++ c ∷ [])) (sym g) step))
 
 fewer_left : (k : ℕ) (rest : List (Slice PlaneLine)) (c : Cover) → IsCoverOn k rest c → length (drop c.count rest) < length rest
-fewer_left k rest c h = let left = length_left c.count rest h.count in let some = h.some in omega (arith, left, some)
+fewer_left k rest c h = let left = length-drop c.count rest in let few = h.count in let some = h.some in omega (arith, left, few, some)
 
 pub fewer_next : (rest more next : List (Slice PlaneLine)) (first : Slice PlaneLine) (k n : ℕ) (c : Cover) → rest ≡ first ∷ more → IsCoverOn k (first ∷ more) c → n ≡ c.count → next ≡ slice_range rest n (length rest) → length next < length rest
 fewer_next rest more next first k n c e h g i =
@@ -236,9 +220,13 @@ fewer_next rest more next first k n c e h g i =
     let left : next ≡ drop c.count rest = i ∙ ap (λ z. slice_range rest z (length rest)) g ∙ range_left c.count rest in
     subst (λ l. length l < length rest) (sym left) (fewer_left k rest c on)
 
-pub making_end : (all rest : List (Slice PlaneLine)) (k : ℕ) (covers : List Cover) → rest ≡ [] → IsMakingRuns all rest k covers → AreCoversOf all covers
-making_end all rest k covers e m = covering_end all rest k covers e m.covering
+pub making_end : (all rest : List (Slice PlaneLine)) (k : ℕ) (covers : List Cover) → rest ≡ [] → IsRisingInTime (λ c. c.from) (λ c. c.to) all → IsMakingRuns all rest k covers → AreCoversOf all covers
+making_end all rest k covers e order m = covering_end all rest k covers e order m.covering
 
 -- normal slices are in order of time
-pub normal_clear : (slices : List (Slice PlaneLine)) → IsNormal (λ c. c.from) (λ c. c.to) plane_continued slices → PiecesAreClear (λ z. z.span) slices
-normal_clear slices h = ordered-clear (λ c. c.from) (λ c. c.to) slices (ordered (λ c. c.from) (λ c. c.to) plane_continued slices h.chained)
+pub rising_as : (v x : List (Slice PlaneLine)) → x ≡ v → IsNormal (λ c. c.from) (λ c. c.to) plane_continued v → IsRisingInTime (λ c. c.from) (λ c. c.to) x
+rising_as v x e h = subst (IsRisingInTime (λ c. c.from) (λ c. c.to)) (sym e) (ordered (λ c. c.from) (λ c. c.to) plane_continued v h.chained)
+
+pub covers_as : {E : Type 0} (v x : List (Slice PlaneLine)) (r : Result (List Cover) E) → x ≡ v → IfOk r (AreCoversOf x) → IfOk r (AreCoversOf v)
+covers_as v x (Ok c) e h = subst (λ z. AreCoversOf z c) e h
+covers_as v x (Err f) e h = tt

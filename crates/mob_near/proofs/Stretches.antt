@@ -1,11 +1,11 @@
 -- Two moving points by the runs of their covers.
 use Rattle.std.{specs.Prelude.{◌≡◌, ◌||◌, ◌+◌, ◌-◌, ◌≤◌, ℕ, zero, suc, Bool, true, false, cond, List, [], ◌∷◌, ◌++◌, map, length, take, drop, slice_range, Option, Some, None, Result, Ok, Err, IfOk, refl}, specs.List.{AllByRecursion}}
-use Rattle.std.proofs.Common.{arith, ap, sym, ◌∙◌, subst}
+use Rattle.std.proofs.Common.{arith, ap, sym, ◌∙◌, subst, length-drop, take-append-drop, drop-drop}
 use Rattle.mob_list.proofs.Each.{each_on, each_map}
 use Rattle.mob_ratio.{specs.Ratio.{Ratio, ◌+ℚ◌, ◌*ℚ◌}, specs.Order.{before, up_to, smaller}, specs.Sign.{nil}, proofs.Order.{up_to-trans}}
 use Rattle.mob_span.{specs.Chained.{OfHead, Chained}, specs.Neighbours.{is_inside}, specs.Span.{SpanOf, has_instant}, specs.Meets.{PieceOf, shared_pieces}, specs.Pieces.{PiecesAreClear}, proofs.MeetLaws.{meets_clear, meets_hold}}
-use Rattle.mob_slice.{specs.Sides.{Slices, pieces}, specs.Lines.{plane_value_of, plane_continued}, specs.Slices.{IsSound, IsRisingInTime, IsNormal, IsClearOf, value_at}, specs.declared.line.PlaneLine.{PlaneLine}, specs.declared.slice.Slice.{Slice}}
-use Rattle.mob_slice.proofs.Orders.{all_sound, ordered, ordered-clear}
+use Rattle.mob_slice.{specs.Sides.{Slices, pieces}, specs.Lines.{plane_value_of}, specs.Slices.{IsSound, IsRisingInTime, IsClearOf, value_at}, specs.declared.line.PlaneLine.{PlaneLine}, specs.declared.slice.Slice.{Slice}}
+use Rattle.mob_slice.proofs.Orders.{all_sound, ordered-clear}
 use Rattle.mob_lift.{specs.Pieces.{both_move}, specs.Sometime.{either, IsEver}, proofs.Walking.{walked}, proofs.Beside.{map_clear}}
 use Rattle.mob_near.specs.Approaches.{IsApproach}
 use Rattle.mob_near.{specs.Covers.{CoversSlice, CoversRun, AreRunsFrom, AreCoversOf, IsRunOf, run_of, some_reach, nearer_of, is_apart_on, is_beyond, cover_gap}, specs.Distances.{distance_squared}, specs.Entries.{PointPiece}}
@@ -14,9 +14,6 @@ use Rattle.mob_near.proofs.{OnPieces.{IsHeld}, Runs.{each_two, some_each, IsSoun
 use Rattle.mob_near.proofs.Widely.{by_first, by_second, ever_is, nearest_is, least_all, smaller_is, smaller_swap, three}
 
 -- ---- lists of slices
-pub normal_rising : (v : List (Slice PlaneLine)) → IsNormal (λ c. c.from) (λ c. c.to) plane_continued v → IsRisingInTime (λ c. c.from) (λ c. c.to) v
-normal_rising v h = ordered (λ c. c.from) (λ c. c.to) plane_continued v h.chained
-
 pub rising_clear : (v : List (Slice PlaneLine)) → IsRisingInTime (λ c. c.from) (λ c. c.to) v → PiecesAreClear (λ s. s.span) v
 rising_clear v h = ordered-clear (λ c. c.from) (λ c. c.to) v h
 
@@ -42,7 +39,14 @@ run_rising v c h = chained_take (IsSound (λ c. c.from) (λ c. c.to)) IsClearOf 
 pub run_rises : (v r : List (Slice PlaneLine)) (c : Cover) → r ≡ run_of v c → IsRisingInTime (λ c. c.from) (λ c. c.to) v → IsRisingInTime (λ c. c.from) (λ c. c.to) r
 run_rises v r c e h = subst (IsRisingInTime (λ c. c.from) (λ c. c.to)) (sym e) (run_rising v c h)
 
--- results on lists that are equal
+-- facts and results on lists that are equal
+pub covers_as : (v x : List (Slice PlaneLine)) (c y : List Cover) → x ≡ v → y ≡ c → AreCoversOf v c → AreCoversOf x y
+covers_as v x c y e f h = subst (AreCoversOf x) (sym f) (subst (λ z. AreCoversOf z c) (sym e) h)
+
+pub least_as : {E : Type 0} (v w x y : List (Slice PlaneLine)) (r : Result (Option Ratio) E) → x ≡ v → y ≡ w → IfOk r (λ o. o ≡ least_approach (pieces (Slices x) (Slices y))) → IfOk r (λ o. o ≡ least_approach (pieces (Slices v) (Slices w)))
+least_as v w x y (Ok o) e f h = h ∙ ap (λ z. least_approach (pieces (Slices z) (Slices y))) e ∙ ap (λ z. least_approach (pieces (Slices v) (Slices z))) f
+least_as v w x y (Err g) e f h = tt
+
 pub reach_as : {E : Type 0} (D : Ratio) (v w x y : List (Slice PlaneLine)) (r : Result Bool E) → x ≡ v → y ≡ w → IfOk r (λ b. b ≡ some_reach D (pieces (Slices x) (Slices y))) → IfOk r (λ b. b ≡ some_reach D (pieces (Slices v) (Slices w)))
 reach_as D v w x y (Ok b) e f h = h ∙ ap (λ z. some_reach D (pieces (Slices z) (Slices y))) e ∙ ap (λ z. some_reach D (pieces (Slices v) (Slices z))) f
 reach_as D v w x y (Err g) e f h = tt
@@ -65,25 +69,6 @@ module _ (v w : List (Slice PlaneLine)) (v_order : IsRisingInTime (λ c. c.from)
       (some_each (λ p. p.span) (shared_pieces (λ s. s.span) (λ s. s.span) v w) clear)
 
 -- ---- the runs of covers
-both_parts : {X : Type 0} (n : ℕ) (xs : List X) → take n xs ++ drop n xs ≡ xs
-both_parts zero xs = refl
-both_parts (suc n) [] = refl
-both_parts (suc n) (x ∷ xs) = ap (λ l. x ∷ l) (both_parts n xs)
-
-drop_none : {X : Type 0} (n : ℕ) → drop {A = X} n [] ≡ []
-drop_none zero = refl
-drop_none (suc n) = refl
-
-drop_twice : {X : Type 0} (k n : ℕ) (xs : List X) → drop n (drop k xs) ≡ drop (k + n) xs
-drop_twice zero n xs = let e : n ≡ 0 + n = omega arith in ap (λ z. drop z xs) e
-drop_twice (suc k) n [] = drop_none n ∙ sym (drop_none (suc k + n))
-drop_twice (suc k) n (x ∷ xs) = let e : suc (k + n) ≡ suc k + n = omega arith in drop_twice k n xs ∙ ap (λ z. drop z (x ∷ xs)) e
-
-length_left : {X : Type 0} (n : ℕ) (xs : List X) → n ≤ length xs → n + length (drop n xs) ≡ length xs
-length_left zero xs h = omega arith
-length_left (suc n) [] h = absurd (omega (arith, h))
-length_left (suc n) (x ∷ xs) h = let k = length_left n xs (omega (arith, h)) in omega (arith, k)
-
 pub range_run : (v : List (Slice PlaneLine)) (s n : ℕ) → slice_range v s (s + n) ≡ take n (drop s v)
 range_run v s n = let e : (s + n) - s ≡ n = omega arith in ap (λ k. take k (drop s v)) e
 
@@ -96,19 +81,19 @@ module _ (v : List (Slice PlaneLine)) where
   runs_from k slices (c ∷ covers) e r =
       let same = same_run k slices c e r.0 in (
         drop c.count slices,
-        sym (both_parts c.count slices) ∙ ap (λ z. z ++ drop c.count slices) same,
+        sym (take-append-drop c.count slices) ∙ ap (λ z. z ++ drop c.count slices) same,
         subst (AllByRecursion (λ s. is_inside c.span s.span ≡ true)) same (each_on (CoversSlice c) (λ s. is_inside c.span s.span ≡ true) (λ s h. h.inside) (take c.count slices) r.2.each),
-        runs_from (k + c.count) (drop c.count slices) covers (ap (drop c.count) e ∙ drop_twice k c.count v) r.3,
+        runs_from (k + c.count) (drop c.count slices) covers (ap (drop c.count) e ∙ drop-drop c.count k v) r.3,
       )
 
   each_from : (k : ℕ) (slices : List (Slice PlaneLine)) (covers : List Cover) → slices ≡ drop k v → k + length slices ≡ length v → AreRunsFrom k slices covers → AllByRecursion (IsRunOf v) covers
   each_from k slices [] e n r = tt
   each_from k slices (c ∷ covers) e n r =
-      let left = length_left c.count slices r.1 in
+      let left = length-drop c.count slices in
       let at = r.0 in
       let few = r.1 in (
         record { room = omega (arith, n, at, few); covers = subst (CoversRun c) (same_run k slices c e r.0) r.2 },
-        each_from (k + c.count) (drop c.count slices) covers (ap (drop c.count) e ∙ drop_twice k c.count v) (omega (arith, n, left)) r.3,
+        each_from (k + c.count) (drop c.count slices) covers (ap (drop c.count) e ∙ drop-drop c.count k v) (omega (arith, n, left, few)) r.3,
       )
 
   pub are_runs : (covers : List Cover) → AreCoversOf v covers → AreRuns (λ s. s.span) (λ c. c.span) (run_of v) v covers
@@ -116,6 +101,9 @@ module _ (v : List (Slice PlaneLine)) where
 
   pub each_run : (covers : List Cover) → AreCoversOf v covers → AllByRecursion (IsRunOf v) covers
   each_run covers h = each_from 0 v covers refl (omega arith) h.runs
+
+pub covers_order : (v : List (Slice PlaneLine)) (covers : List Cover) → AreCoversOf v covers → IsRisingInTime (λ c. c.from) (λ c. c.to) v
+covers_order v covers h = h.order
 
 pub covers_clear : (v : List (Slice PlaneLine)) (covers : List Cover) → AreCoversOf v covers → PiecesAreClear (λ c. c.span) covers
 covers_clear v covers h = h.clear
@@ -261,8 +249,9 @@ module _ (v w : List (Slice PlaneLine)) (hv : IsRisingInTime (λ c. c.from) (λ 
   pub none_ever : (D d : Ratio) (shared : Bool) (o : Option Bool) → D ≡ d *ℚ d → false ≡ some_reach D (pieces (Slices v) (Slices w)) → shared ≡ are_some (pieces (Slices v) (Slices w)) → o ≡ cond shared (Some false) None → IsEver (λ x y. up_to (distance_squared x y) D) (value_at plane_value_of v) (value_at plane_value_of w) o
   none_ever D d shared o e h s k = ever_is (Slices v) (Slices w) refl pieces_clear pieces_hold D d o e (none_if D (pieces (Slices v) (Slices w)) shared o h s k)
 
-  pub approach_by_runs : (o : Option Ratio) → o ≡ least_approach (pieces (Slices v) (Slices w)) → IsApproach (value_at plane_value_of v) (value_at plane_value_of w) o
-  approach_by_runs o h = nearest_is (Slices v) (Slices w) refl pieces_clear pieces_hold o (h ∙ sym (least_all (pieces (Slices v) (Slices w))))
+  pub least_is : {E : Type 0} (r : Result (Option Ratio) E) → IfOk r (λ o. o ≡ least_approach (pieces (Slices v) (Slices w))) → IfOk r (IsApproach (value_at plane_value_of v) (value_at plane_value_of w))
+  least_is (Ok o) h = nearest_is (Slices v) (Slices w) refl pieces_clear pieces_hold o (h ∙ sym (least_all (pieces (Slices v) (Slices w))))
+  least_is (Err g) h = tt
 
 -- ---- the least approach
 smaller_assoc : (a b c : Ratio) → smaller (smaller a b) c ≡ smaller a (smaller b c)

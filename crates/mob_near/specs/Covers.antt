@@ -52,8 +52,9 @@ abbrev pub AreRunsFrom : ℕ → List (Slice PlaneLine) → List Cover → Type 
 AreRunsFrom k slices [] = slices ≡ []
 AreRunsFrom k slices (c ∷ covers) = (c.start ≡ k) × (c.count ≤ length slices) × CoversRun c (take c.count slices) × AreRunsFrom (k + c.count) (drop c.count slices) covers
 
--- the covers of slices: their times are ordered and disjoint, as those of the slices are
+-- the covers of slices in order of time: their times are ordered and disjoint too
 pub record AreCoversOf (slices : List (Slice PlaneLine)) (covers : List Cover) : Type 0 where
+  pub order : IsRisingInTime (λ c. c.from) (λ c. c.to) slices
   pub runs : AreRunsFrom 0 slices covers
   pub clear : PiecesAreClear (λ c. c.span) covers
 

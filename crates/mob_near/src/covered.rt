@@ -1,6 +1,6 @@
 //! Nearness of two moving points with covers. A walk over the covers that share time skips two runs
 //! of slices at once if their rectangles cannot matter.
-ghost use Rattle.std.specs.Prelude.{◌≡◌, true, Some, IfOk, IfSome};
+ghost use Rattle.std.specs.Prelude.{◌≡◌, ◌+◌, ◌≤◌, true, Some, length, IfOk, IfSome};
 ghost use Rattle.mob_ratio.specs.Order.{up_to};
 ghost use Rattle.mob_ratio.specs.Ratio.{◌*ℚ◌};
 ghost use Rattle.mob_ratio.specs.Sign.{nil};
@@ -30,7 +30,7 @@ use std::alloc::{AllocError, Global};
 #[tactic(auto, using(crate::proofs::Stretches::range_run, crate::proofs::Stretches::run_rises))]
 fn run_of<'a>(slices: &'a [Slice<PlaneLine>], cover: &Cover) -> &'a [Slice<PlaneLine>]
     requires rising { IsRisingInTime (λ c. c.from) (λ c. c.to) slices.now }
-    requires run { IsRunOf slices.now cover.now }
+    requires room { cover.now.start + cover.now.count ≤ length slices.now }
     ensures run { result.now ≡ run_of slices.now cover.now }
     ensures rising { IsRisingInTime (λ c. c.from) (λ c. c.to) result.now }
 {
@@ -116,7 +116,7 @@ fn stretch_comes_within(
 }
 
 // Whether the squared distance is at most `square`, that of `d`, at some common instant.
-#[tactic(auto, using(crate::proofs::Stretches::covers_clear, crate::proofs::Stretches::all_runs, crate::proofs::Stretches::reach_by_runs, crate::proofs::Stretches::runs_missed, crate::proofs::Stretches::runs_hit, crate::proofs::Stretches::all_missed))]
+#[tactic(auto, using(crate::proofs::Stretches::covers_order, crate::proofs::Stretches::covers_clear, crate::proofs::Stretches::all_runs, crate::proofs::Stretches::reach_by_runs, crate::proofs::Stretches::runs_missed, crate::proofs::Stretches::runs_hit, crate::proofs::Stretches::all_missed))]
 fn stretches_come_within(
     alloc: Global,
     v: &[Slice<PlaneLine>],
@@ -126,8 +126,6 @@ fn stretches_come_within(
     d: &Frac,
     square: &Exact,
 ) -> Result<bool, AllocError>
-    requires left { IsRisingInTime (λ c. c.from) (λ c. c.to) v.now }
-    requires right { IsRisingInTime (λ c. c.from) (λ c. c.to) w.now }
     requires left_covers { AreCoversOf v.now over_v.now }
     requires right_covers { AreCoversOf w.now over_w.now }
     requires distance { up_to nil d.now ≡ true }
@@ -146,11 +144,37 @@ fn stretches_come_within(
     Ok(false)
 }
 
+// Whether the squared distance is at most `square`, that of `d`, at some common instant.
+fn covered_come_within(
+    alloc: Global,
+    a: &Moving<PlaneLine>,
+    over_a: &Covers,
+    b: &Moving<PlaneLine>,
+    over_b: &Covers,
+    d: &Frac,
+    square: &Exact,
+) -> Result<bool, AllocError>
+    requires left { AreCoversOf a.now over_a.now }
+    requires right { AreCoversOf b.now over_b.now }
+    requires distance { up_to nil d.now ≡ true }
+    requires square { square.now ≡ d.now *ℚ d.now }
+    ensures value { IfOk result (λ r. r ≡ some_reach square.now (pieces (Slices a.now) (Slices b.now))) }
+{
+    stretches_come_within(
+        alloc,
+        a.slices(),
+        over_a.all(),
+        b.slices(),
+        over_b.all(),
+        d,
+        square,
+    )
+}
+
 /// Whether two moving points are within the distance `d` of each other at some instant at which
 /// both are defined: that of `ever_within_wide`. The walk skips runs of slices whose rectangles are
 /// more than `d` apart. The only error is a failed allocation: it allocates only where a step of a
 /// piece overflows.
-#[tactic(auto, using(crate::proofs::Stretches::hit_ever, crate::proofs::Stretches::none_ever, crate::proofs::Stretches::normal_rising, crate::proofs::Answering::within_by_squares))]
 pub fn ever_within_covered(
     alloc: Global,
     a: &Moving<PlaneLine>,
@@ -167,15 +191,7 @@ pub fn ever_within_covered(
         return Ok(never(share_time(Operand::Moving(a), Operand::Moving(b))));
     }
     let square = Exact::square_of(alloc, d)?;
-    let near = stretches_come_within(
-        alloc,
-        a.slices(),
-        over_a.all(),
-        b.slices(),
-        over_b.all(),
-        d,
-        &square,
-    )?;
+    let near = covered_come_within(alloc, a, over_a, b, over_b, d, &square)?;
     if near {
         return Ok(Some(true));
     }
@@ -282,7 +298,7 @@ fn stretch_nearer(
 }
 
 // The least approach of two lists of slices.
-#[tactic(auto, using(crate::proofs::Stretches::covers_clear, crate::proofs::Stretches::all_runs, crate::proofs::Stretches::least_by_runs, crate::proofs::Stretches::runs_counted, crate::proofs::Stretches::all_counted))]
+#[tactic(auto, using(crate::proofs::Stretches::covers_order, crate::proofs::Stretches::covers_clear, crate::proofs::Stretches::all_runs, crate::proofs::Stretches::least_by_runs, crate::proofs::Stretches::runs_counted, crate::proofs::Stretches::all_counted))]
 fn least_of_stretches(
     alloc: Global,
     v: &[Slice<PlaneLine>],
@@ -290,8 +306,6 @@ fn least_of_stretches(
     w: &[Slice<PlaneLine>],
     over_w: &[Cover],
 ) -> Result<Option<Exact>, AllocError>
-    requires left { IsRisingInTime (λ c. c.from) (λ c. c.to) v.now }
-    requires right { IsRisingInTime (λ c. c.from) (λ c. c.to) w.now }
     requires left_covers { AreCoversOf v.now over_v.now }
     requires right_covers { AreCoversOf w.now over_w.now }
     ensures least { IfOk result (λ o. o ≡ least_approach (pieces (Slices v.now) (Slices w.now))) }
@@ -310,7 +324,6 @@ fn least_of_stretches(
 /// both are defined: that of `least_exact`. The walk skips runs of slices whose rectangles are no
 /// nearer than the result so far. The only error is a failed allocation: it allocates only where a
 /// step of a piece overflows.
-#[tactic(auto, using(crate::proofs::Stretches::approach_by_runs, crate::proofs::Stretches::normal_rising))]
 pub fn least_covered(
     alloc: Global,
     a: &Moving<PlaneLine>,

@@ -3,6 +3,7 @@ ghost use Rattle.std.specs.Prelude.{◌≡◌, ◌<◌, ◌∷◌, ◌++◌, [],
 ghost use Rattle.mob_span.specs.Span.{has_instant};
 ghost use Rattle.mob_span.specs.Neighbours.{is_clear, joined};
 ghost use Rattle.mob_span.specs.Pieces.{PiecesAreClear};
+ghost use Rattle.mob_slice.specs.Slices.{IsRisingInTime};
 ghost use Rattle.mob_near.specs.Covers.{AreCoversOf};
 ghost use Rattle.mob_near.specs.Covering.{IsCoverOn, first_cover, with_slice};
 
@@ -157,7 +158,7 @@ fn add(all: &mut Vec<Cover>, cover: Cover) -> Result<(), AllocError>
 // The covers of slices in order of time.
 #[tactic(auto, using(crate::proofs::Covering::making_start, crate::proofs::Covering::making_next, crate::proofs::Covering::fewer_next, crate::proofs::Covering::making_end))]
 fn covers_on(alloc: Global, slices: &[Slice<PlaneLine>]) -> Result<Covers, AllocError>
-    requires clear { PiecesAreClear (λ s. s.span) slices.now }
+    requires order { IsRisingInTime (λ c. c.from) (λ c. c.to) slices.now }
     ensures covers { IfOk result (AreCoversOf slices.now) }
 {
     let mut all = Vec::new(alloc);
@@ -178,7 +179,7 @@ fn covers_on(alloc: Global, slices: &[Slice<PlaneLine>]) -> Result<Covers, Alloc
 
 /// The covers of a moving point, over runs of 32 slices. The last run may be shorter. The only
 /// error is a failed allocation.
-#[tactic(auto, using(crate::proofs::Covering::normal_clear))]
+#[tactic(auto, using(crate::proofs::Covering::rising_as, crate::proofs::Covering::covers_as))]
 pub fn covers_of(alloc: Global, a: &Moving<PlaneLine>) -> Result<Covers, AllocError>
     ensures covers { IfOk result (AreCoversOf a.now) }
 {
