@@ -42,7 +42,7 @@ module _ (d : Ratio) (left right : Ratio → Option Point) where
   same_within : (s : Ratio) (x y : Point) → before d nil ≡ false → s ≡ d *ℚ d → up_to (distance_squared x y) s ≡ are_within d x y
   same_within s x y h e = rw h (ap (λ z. up_to (distance_squared x y) z) e)
 
-  ever_within_by : (s : Ratio) (r : Option Bool) → before d nil ≡ false → s ≡ d *ℚ d → IsEver (λ x y. up_to (distance_squared x y) s) left right r → IsEver (are_within d) left right r
+  pub ever_within_by : (s : Ratio) (r : Option Bool) → before d nil ≡ false → s ≡ d *ℚ d → IsEver (λ x y. up_to (distance_squared x y) s) left right r → IsEver (are_within d) left right r
   ever_within_by s None h e k = k
   ever_within_by s (Some b) h e k = (
     k.0,

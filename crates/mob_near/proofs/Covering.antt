@@ -227,6 +227,6 @@ making_end all rest k covers e order m = covering_end all rest k covers e order 
 pub rising_as : (v x : List (Slice PlaneLine)) → x ≡ v → IsNormal (λ c. c.from) (λ c. c.to) plane_continued v → IsRisingInTime (λ c. c.from) (λ c. c.to) x
 rising_as v x e h = subst (IsRisingInTime (λ c. c.from) (λ c. c.to)) (sym e) (ordered (λ c. c.from) (λ c. c.to) plane_continued v h.chained)
 
-pub covers_as : {E : Type 0} (v x : List (Slice PlaneLine)) (r : Result (List Cover) E) → x ≡ v → IfOk r (AreCoversOf x) → IfOk r (AreCoversOf v)
-covers_as v x (Ok c) e h = subst (λ z. AreCoversOf z c) e h
-covers_as v x (Err f) e h = tt
+pub made_as : {E : Type 0} (v x : List (Slice PlaneLine)) (r : Result (List Cover) E) → x ≡ v → IfOk r (AreCoversOf x) → IfOk r (AreCoversOf v)
+made_as v x (Ok c) e h = subst (λ z. AreCoversOf z c) e h
+made_as v x (Err f) e h = tt

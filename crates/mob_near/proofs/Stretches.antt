@@ -63,10 +63,21 @@ module _ (v w : List (Slice PlaneLine)) (v_order : IsRisingInTime (λ c. c.from)
   clear : PiecesAreClear (λ p. p.span) (shared_pieces (λ s. s.span) (λ s. s.span) v w)
   clear = meets_clear (λ s. s.span) (λ s. s.span) v w (rising_clear v v_order) (rising_clear w w_order)
 
-  pub all_walked : AllByRecursion IsWalked (shared_pieces (λ s. s.span) (λ s. s.span) v w)
+  all_walked : AllByRecursion IsWalked (shared_pieces (λ s. s.span) (λ s. s.span) v w)
   all_walked = each_two (λ p. IsHeld (both_move p)) (λ p. has_instant p.span ≡ true) (shared_pieces (λ s. s.span) (λ s. s.span) v w)
       (meets_hold (λ s. s.span) (λ s. s.span) IsSoundLine IsSoundLine v w (all_sound (λ c. c.from) (λ c. c.to) v v_order) (all_sound (λ c. c.from) (λ c. c.to) w w_order))
       (some_each (λ p. p.span) (shared_pieces (λ s. s.span) (λ s. s.span) v w) clear)
+
+-- at the start of a walk
+module _ (v w x y : List (Slice PlaneLine)) (left : x ≡ v) (right : y ≡ w) where
+  pub walked_start : IsRisingInTime (λ c. c.from) (λ c. c.to) v → IsRisingInTime (λ c. c.from) (λ c. c.to) w → AllByRecursion IsWalked (shared_pieces (λ s. s.span) (λ s. s.span) x y)
+  walked_start hv hw = rw (left, right) (all_walked v w hv hw)
+
+  pub reach_start : (D : Ratio) → some_reach D (map both_move (shared_pieces (λ s. s.span) (λ s. s.span) x y)) ≡ some_reach D (pieces (Slices v) (Slices w))
+  reach_start D = rw (left, right) refl
+
+  pub nearer_start : (o : Option Ratio) → nearer_of o (least_approach (map both_move (shared_pieces (λ s. s.span) (λ s. s.span) x y))) ≡ nearer_of o (least_approach (pieces (Slices v) (Slices w)))
+  nearer_start o = rw (left, right) refl
 
 -- ---- the runs of covers
 pub range_run : (v : List (Slice PlaneLine)) (s n : ℕ) → slice_range v s (s + n) ≡ take n (drop s v)
@@ -112,9 +123,12 @@ covers_clear v covers h = h.clear
 abbrev pub AreRunsOf : List (Slice PlaneLine) → List (Slice PlaneLine) → PieceOf Cover Cover → Type 0
 AreRunsOf v w p = IsRunOf v p.left × IsRunOf w p.right
 
-pub all_runs : (v w : List (Slice PlaneLine)) (covers others : List Cover) → AreCoversOf v covers → AreCoversOf w others → AllByRecursion (AreRunsOf v w) (shared_pieces (λ c. c.span) (λ c. c.span) covers others)
+all_runs : (v w : List (Slice PlaneLine)) (covers others : List Cover) → AreCoversOf v covers → AreCoversOf w others → AllByRecursion (AreRunsOf v w) (shared_pieces (λ c. c.span) (λ c. c.span) covers others)
 all_runs v w covers others h k = each_on _ (AreRunsOf v w) (λ p q. (q.0.0, q.1.0)) (shared_pieces (λ c. c.span) (λ c. c.span) covers others)
     (meets_hold (λ c. c.span) (λ c. c.span) (IsRunOf v) (IsRunOf w) covers others (each_run v covers h) (each_run w others k))
+
+pub runs_all : (v w : List (Slice PlaneLine)) (covers others x y : List Cover) → x ≡ covers → y ≡ others → AreCoversOf v covers → AreCoversOf w others → AllByRecursion (AreRunsOf v w) (shared_pieces (λ c. c.span) (λ c. c.span) x y)
+runs_all v w covers others x y e f h k = rw (e, f) (all_runs v w covers others h k)
 
 -- ---- within a distance
 -- over the pieces of the runs of two covers
@@ -153,11 +167,14 @@ all_total : (D : Ratio) (v w : List (Slice PlaneLine)) (ps : List (PieceOf Cover
 all_total D v w [] = refl
 all_total D v w (p ∷ ps) = ap (λ z. z || total (λ a b. a || b) false (run_reach D v w) ps) (sym (reach_moves D (run_of v p.left) (run_of w p.right))) ∙ ap (λ z. reach_on D v w p || z) (all_total D v w ps)
 
-pub reach_by_runs : (D : Ratio) (v w : List (Slice PlaneLine)) (covers others : List Cover) → AreCoversOf v covers → AreCoversOf w others → some_reach D (pieces (Slices v) (Slices w)) ≡ reach_all D v w (shared_pieces (λ c. c.span) (λ c. c.span) covers others)
+reach_by_runs : (D : Ratio) (v w : List (Slice PlaneLine)) (covers others : List Cover) → AreCoversOf v covers → AreCoversOf w others → some_reach D (pieces (Slices v) (Slices w)) ≡ reach_all D v w (shared_pieces (λ c. c.span) (λ c. c.span) covers others)
 reach_by_runs D v w covers others h k =
     reach_moves D v w
     ∙ by_runs (λ a b. a || b) false or_sum (λ s. s.span) (λ s. s.span) (λ c. c.span) (λ c. c.span) (run_of v) (run_of w) (λ p. piece_reaches D (both_move p)) v w covers others (are_runs v covers h) (are_runs w others k)
     ∙ all_total D v w (shared_pieces (λ c. c.span) (λ c. c.span) covers others)
+
+pub runs_start : (D : Ratio) (v w : List (Slice PlaneLine)) (covers others x y : List Cover) → x ≡ covers → y ≡ others → AreCoversOf v covers → AreCoversOf w others → reach_all D v w (shared_pieces (λ c. c.span) (λ c. c.span) x y) ≡ some_reach D (pieces (Slices v) (Slices w))
+runs_start D v w covers others x y e f h k = rw (e, f) (sym (reach_by_runs D v w covers others h k))
 
 -- beyond a distance no piece comes within it
 all_false : (D : Ratio) (ps : List PointPiece) → AllByRecursion (λ p. piece_reaches D p ≡ false) ps → some_reach D ps ≡ false
@@ -297,11 +314,14 @@ in_total : (v w : List (Slice PlaneLine)) (ps : List (PieceOf Cover Cover)) → 
 in_total v w [] = refl
 in_total v w (p ∷ ps) = ap (λ z. nearer_of z (total nearer_of None (run_least v w) ps)) (sym (least_moves (run_of v p.left) (run_of w p.right))) ∙ ap (nearer_of (least_on v w p)) (in_total v w ps)
 
-pub least_by_runs : (v w : List (Slice PlaneLine)) (covers others : List Cover) → AreCoversOf v covers → AreCoversOf w others → least_approach (pieces (Slices v) (Slices w)) ≡ least_in v w (shared_pieces (λ c. c.span) (λ c. c.span) covers others)
+least_by_runs : (v w : List (Slice PlaneLine)) (covers others : List Cover) → AreCoversOf v covers → AreCoversOf w others → least_approach (pieces (Slices v) (Slices w)) ≡ least_in v w (shared_pieces (λ c. c.span) (λ c. c.span) covers others)
 least_by_runs v w covers others h k =
     least_moves v w
     ∙ by_runs nearer_of None nearer_sum (λ s. s.span) (λ s. s.span) (λ c. c.span) (λ c. c.span) (run_of v) (run_of w) (λ p. Some (piece_approach (both_move p))) v w covers others (are_runs v covers h) (are_runs w others k)
     ∙ in_total v w (shared_pieces (λ c. c.span) (λ c. c.span) covers others)
+
+pub least_start : (v w : List (Slice PlaneLine)) (covers others x y : List Cover) → x ≡ covers → y ≡ others → AreCoversOf v covers → AreCoversOf w others → nearer_of None (least_in v w (shared_pieces (λ c. c.span) (λ c. c.span) x y)) ≡ least_approach (pieces (Slices v) (Slices w))
+least_start v w covers others x y e f h k = rw (e, f) (sym (least_by_runs v w covers others h k))
 
 -- no piece is nearer than what was found
 no_nearer : (f g : Ratio) (ps : List PointPiece) → up_to f g ≡ true → AllByRecursion (λ p. up_to g (piece_approach p) ≡ true) ps → Some f ≡ nearer_of (Some f) (least_approach ps)

@@ -179,7 +179,7 @@ fn covers_on(alloc: Global, slices: &[Slice<PlaneLine>]) -> Result<Covers, Alloc
 
 /// The covers of a moving point, over runs of 32 slices. The last run may be shorter. The only
 /// error is a failed allocation.
-#[tactic(auto, using(crate::proofs::Covering::rising_as, crate::proofs::Covering::covers_as))]
+#[tactic(auto, using(crate::proofs::Covering::rising_as, crate::proofs::Covering::made_as))]
 pub fn covers_of(alloc: Global, a: &Moving<PlaneLine>) -> Result<Covers, AllocError>
     ensures covers { IfOk result (AreCoversOf a.now) }
 {
