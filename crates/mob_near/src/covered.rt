@@ -91,7 +91,6 @@ fn runs_come_within(
 
 // Whether the squared distance is at most `square`, that of `d`, at some instant that the runs of
 // two covers share.
-#[tactic(auto, using(crate::proofs::Stretches::none_reach, crate::proofs::Stretches::reach_as))]
 fn stretch_comes_within(
     alloc: Global,
     v: &[Slice<PlaneLine>],
@@ -253,7 +252,25 @@ fn runs_nearer(
 }
 
 // The smaller of the result so far and that of the runs of two covers.
-#[tactic(auto, using(crate::proofs::Stretches::none_nearer, crate::proofs::Stretches::nearer_as))]
+fn stretch_counted(
+    alloc: Global,
+    v: &[Slice<PlaneLine>],
+    over_v: &Cover,
+    w: &[Slice<PlaneLine>],
+    over_w: &Cover,
+    found: Option<Exact>,
+) -> Result<Option<Exact>, AllocError>
+    requires left { IsRisingInTime (λ c. c.from) (λ c. c.to) v.now }
+    requires right { IsRisingInTime (λ c. c.from) (λ c. c.to) w.now }
+    requires left_run { IsRunOf v.now over_v.now }
+    requires right_run { IsRunOf w.now over_w.now }
+    ensures value { IfOk result (λ o. o ≡ nearer_of found (least_approach (pieces (Slices (run_of v.now over_v.now)) (Slices (run_of w.now over_w.now))))) }
+{
+    runs_nearer(alloc, run_of(v, over_v), run_of(w, over_w), found)
+}
+
+// The smaller of the result so far and that of the runs of two covers, which are skipped if their
+// rectangles are no nearer.
 fn stretch_nearer_than(
     alloc: Global,
     v: &[Slice<PlaneLine>],
@@ -272,11 +289,11 @@ fn stretch_nearer_than(
     if beyond {
         return Ok(Some(found));
     }
-    runs_nearer(alloc, run_of(v, over_v), run_of(w, over_w), Some(found))
+    stretch_counted(alloc, v, over_v, w, over_w, Some(found))
 }
 
-// The smaller of the result so far and that of the runs of two covers.
-#[tactic(auto, using(crate::proofs::Stretches::nearer_as))]
+// The smaller of the result so far and that of the runs of two covers, which are skipped if their
+// rectangles are no nearer.
 fn stretch_nearer(
     alloc: Global,
     v: &[Slice<PlaneLine>],
@@ -293,7 +310,7 @@ fn stretch_nearer(
 {
     match found {
         Some(found) => stretch_nearer_than(alloc, v, over_v, w, over_w, found),
-        None => runs_nearer(alloc, run_of(v, over_v), run_of(w, over_w), None),
+        None => stretch_counted(alloc, v, over_v, w, over_w, None),
     }
 }
 

@@ -245,7 +245,12 @@ pub(crate) fn gap_between(a0: &Frac, a1: &Frac, b0: &Frac, b1: &Frac) -> Option<
 fn range_gap(a0: &Frac, a1: &Frac, b0: &Frac, b1: &Frac) -> Option<Frac>
     ensures gap { IfSome result (λ g. g ≡ range_between (smaller a0.now a1.now) (greater a0.now a1.now) (smaller b0.now b1.now) (greater b0.now b1.now)) }
 {
-    gap_between(&smaller(a0, a1), &greater(a0, a1), &smaller(b0, b1), &greater(b0, b1))
+    gap_between(
+        &smaller(a0, a1),
+        &greater(a0, a1),
+        &smaller(b0, b1),
+        &greater(b0, b1),
+    )
 }
 
 // The squared distance of the rectangles of the two sides' slices. It is `None` if a step to it
