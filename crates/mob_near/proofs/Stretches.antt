@@ -68,6 +68,20 @@ module _ (v w : List (Slice PlaneLine)) (v_order : IsRisingInTime (λ c. c.from)
       (meets_hold (λ s. s.span) (λ s. s.span) IsSoundLine IsSoundLine v w (all_sound (λ c. c.from) (λ c. c.to) v v_order) (all_sound (λ c. c.from) (λ c. c.to) w w_order))
       (some_each (λ p. p.span) (shared_pieces (λ s. s.span) (λ s. s.span) v w) clear)
 
+-- the next piece of a walk
+module _ (left rest : List (PieceOf (Slice PlaneLine) (Slice PlaneLine))) (m : PieceOf (Slice PlaneLine) (Slice PlaneLine)) (e : left ≡ m ∷ rest) (h : AllByRecursion IsWalked left) where
+  next : AllByRecursion IsWalked (m ∷ rest)
+  next = subst (AllByRecursion IsWalked) e h
+
+  pub held_next : IsHeld (both_move m)
+  held_next = next.0.0
+
+  pub some_next : has_instant m.span ≡ true
+  some_next = next.0.1
+
+  pub walked_next : AllByRecursion IsWalked rest
+  walked_next = next.1
+
 -- at the start of a walk
 module _ (v w x y : List (Slice PlaneLine)) (left : x ≡ v) (right : y ≡ w) where
   pub walked_start : IsRisingInTime (λ c. c.from) (λ c. c.to) v → IsRisingInTime (λ c. c.from) (λ c. c.to) w → AllByRecursion IsWalked (shared_pieces (λ s. s.span) (λ s. s.span) x y)
@@ -122,6 +136,19 @@ covers_clear v covers h = h.clear
 -- both covers of a piece that they share have their runs
 abbrev pub AreRunsOf : List (Slice PlaneLine) → List (Slice PlaneLine) → PieceOf Cover Cover → Type 0
 AreRunsOf v w p = IsRunOf v p.left × IsRunOf w p.right
+
+module _ (v w : List (Slice PlaneLine)) (left rest : List (PieceOf Cover Cover)) (m : PieceOf Cover Cover) (e : left ≡ m ∷ rest) (h : AllByRecursion (AreRunsOf v w) left) where
+  next_runs : AllByRecursion (AreRunsOf v w) (m ∷ rest)
+  next_runs = subst (AllByRecursion (AreRunsOf v w)) e h
+
+  pub left_next : IsRunOf v m.left
+  left_next = next_runs.0.0
+
+  pub right_next : IsRunOf w m.right
+  right_next = next_runs.0.1
+
+  pub runs_next : AllByRecursion (AreRunsOf v w) rest
+  runs_next = next_runs.1
 
 all_runs : (v w : List (Slice PlaneLine)) (covers others : List Cover) → AreCoversOf v covers → AreCoversOf w others → AllByRecursion (AreRunsOf v w) (shared_pieces (λ c. c.span) (λ c. c.span) covers others)
 all_runs v w covers others h k = each_on _ (AreRunsOf v w) (λ p q. (q.0.0, q.1.0)) (shared_pieces (λ c. c.span) (λ c. c.span) covers others)

@@ -57,7 +57,7 @@ fn are_beyond(d: &Frac, a: &Cover, b: &Cover) -> bool
 
 // Whether the squared distance is at most `square`, that of `d`, at some instant that two runs
 // share. The walk stops at the first piece that has one.
-#[tactic(auto, using(crate::proofs::Stretches::rising_clear, crate::proofs::Stretches::walked_start, crate::proofs::Stretches::reach_start, crate::proofs::Stretches::piece_missed, crate::proofs::Stretches::piece_hit, crate::proofs::Stretches::pieces_missed))]
+#[tactic(auto, using(crate::proofs::Stretches::rising_clear, crate::proofs::Stretches::walked_start, crate::proofs::Stretches::held_next, crate::proofs::Stretches::some_next, crate::proofs::Stretches::walked_next, crate::proofs::Stretches::reach_start, crate::proofs::Stretches::piece_missed, crate::proofs::Stretches::piece_hit, crate::proofs::Stretches::pieces_missed))]
 fn runs_come_within(
     alloc: Global,
     v: &[Slice<PlaneLine>],
@@ -115,7 +115,7 @@ fn stretch_comes_within(
 }
 
 // Whether the squared distance is at most `square`, that of `d`, at some common instant.
-#[tactic(auto, using(crate::proofs::Stretches::covers_order, crate::proofs::Stretches::covers_clear, crate::proofs::Stretches::runs_all, crate::proofs::Stretches::runs_start, crate::proofs::Stretches::runs_missed, crate::proofs::Stretches::runs_hit, crate::proofs::Stretches::all_missed))]
+#[tactic(auto, using(crate::proofs::Stretches::covers_order, crate::proofs::Stretches::covers_clear, crate::proofs::Stretches::runs_all, crate::proofs::Stretches::left_next, crate::proofs::Stretches::right_next, crate::proofs::Stretches::runs_next, crate::proofs::Stretches::runs_start, crate::proofs::Stretches::runs_missed, crate::proofs::Stretches::runs_hit, crate::proofs::Stretches::all_missed))]
 fn stretches_come_within(
     alloc: Global,
     v: &[Slice<PlaneLine>],
@@ -224,7 +224,7 @@ fn are_beyond_found(alloc: Global, a: &Cover, b: &Cover, found: &Exact) -> Resul
 }
 
 // The smaller of the result so far and that of two runs.
-#[tactic(auto, using(crate::proofs::Stretches::rising_clear, crate::proofs::Stretches::walked_start, crate::proofs::Stretches::nearer_start, crate::proofs::Stretches::piece_counted, crate::proofs::Stretches::pieces_counted))]
+#[tactic(auto, using(crate::proofs::Stretches::rising_clear, crate::proofs::Stretches::walked_start, crate::proofs::Stretches::held_next, crate::proofs::Stretches::some_next, crate::proofs::Stretches::walked_next, crate::proofs::Stretches::nearer_start, crate::proofs::Stretches::piece_counted, crate::proofs::Stretches::pieces_counted))]
 fn runs_nearer(
     alloc: Global,
     v: &[Slice<PlaneLine>],
@@ -315,7 +315,7 @@ fn stretch_nearer(
 }
 
 // The least approach of two lists of slices.
-#[tactic(auto, using(crate::proofs::Stretches::covers_order, crate::proofs::Stretches::covers_clear, crate::proofs::Stretches::runs_all, crate::proofs::Stretches::least_start, crate::proofs::Stretches::runs_counted, crate::proofs::Stretches::all_counted))]
+#[tactic(auto, using(crate::proofs::Stretches::covers_order, crate::proofs::Stretches::covers_clear, crate::proofs::Stretches::runs_all, crate::proofs::Stretches::left_next, crate::proofs::Stretches::right_next, crate::proofs::Stretches::runs_next, crate::proofs::Stretches::least_start, crate::proofs::Stretches::runs_counted, crate::proofs::Stretches::all_counted))]
 fn least_of_stretches(
     alloc: Global,
     v: &[Slice<PlaneLine>],
