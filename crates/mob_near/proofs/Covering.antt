@@ -183,6 +183,9 @@ extending_step k all rest more c d s e f h =
     let clear = subst (PiecesAreClear (λ z. z.span)) e h.clear in
     rw f (record { at = (take_next c.count all s more at).1; clear = clear.2; cover = more_is k all c s more at clear h.cover })
 
+pub extending_few : (k : ℕ) (s : Slice PlaneLine) (more rest : List (Slice PlaneLine)) (c : Cover) → IsExtending k (s ∷ more) rest c → c.count ≤ length more + 1
+extending_few k s more rest c h = let few = h.cover.count in omega (arith, few)
+
 -- before a slice of the rest
 pub extending_clear : (k : ℕ) (all rest more : List (Slice PlaneLine)) (c : Cover) (s : Slice PlaneLine) → rest ≡ s ∷ more → IsExtending k all rest c → (has_instant c.span ≡ true) × (has_instant s.span ≡ true) × (is_clear c.span s.span ≡ true)
 extending_clear k all rest more c s e h = (h.cover.has, (subst (PiecesAreClear (λ z. z.span)) e h.clear).0, subst (IsClearBefore c.span) (h.at ∙ e) h.cover.after)
@@ -210,6 +213,13 @@ making_next all rest more next first k n covers made c e h f g i m =
     let left : next ≡ drop c.count rest = i ∙ ap (λ z. slice_range rest z (length rest)) g ∙ range_left c.count rest in
     let step = making_step all rest k covers c on m in
     subst (λ l. IsMakingRuns all l (k + n) made) (sym left) (subst (λ l. IsMakingRuns all (drop c.count rest) (k + n) l) (sym f) (subst (λ z. IsMakingRuns all (drop c.count rest) (k + z) (covers ++ c ∷ [])) (sym g) step))
+
+pub making_room : (all rest more next : List (Slice PlaneLine)) (first : Slice PlaneLine) (k n : ℕ) (covers made : List Cover) (c : Cover) → rest ≡ first ∷ more → IsCoverOn k (first ∷ more) c → made ≡ covers ++ c ∷ [] → n ≡ c.count → next ≡ slice_range rest n (length rest) → IsMakingRuns all rest k covers → (k + n) + length next ≡ length all
+making_room all rest more next first k n covers made c e h f g i m = (making_next all rest more next first k n covers made c e h f g i m).count
+
+-- the count of a cover of the rest
+pub few_left : (rest more : List (Slice PlaneLine)) (first : Slice PlaneLine) (n : ℕ) → rest ≡ first ∷ more → n ≤ length more + 1 → n ≤ length rest
+few_left rest more first n e h = rw e (omega (arith, h))
 
 fewer_left : (k : ℕ) (rest : List (Slice PlaneLine)) (c : Cover) → IsCoverOn k rest c → length (drop c.count rest) < length rest
 fewer_left k rest c h = let left = length-drop c.count rest in let few = h.count in let some = h.some in omega (arith, left, few, some)

@@ -1,5 +1,5 @@
 //! Rectangles over runs of slices.
-ghost use Rattle.std.specs.Prelude.{◌≡◌, ◌<◌, ◌∷◌, ◌++◌, [], true, IfOk, OnOk};
+ghost use Rattle.std.specs.Prelude.{◌≡◌, ◌<◌, ◌≤◌, ◌+◌, ◌∷◌, ◌++◌, [], true, length, IfOk, OnOk};
 ghost use Rattle.mob_span.specs.Span.{has_instant};
 ghost use Rattle.mob_span.specs.Neighbours.{is_clear, joined};
 ghost use Rattle.mob_span.specs.Pieces.{PiecesAreClear};
@@ -130,10 +130,11 @@ fn with_slice(cover: &Cover, slice: &Slice<PlaneLine>) -> Cover
 }
 
 // The cover of the first slices, at most as many as a run has.
-#[tactic(auto, using(crate::proofs::Covering::extending_start, crate::proofs::Covering::extending_step, crate::proofs::Covering::extending_clear))]
+#[tactic(auto, using(crate::proofs::Covering::extending_start, crate::proofs::Covering::extending_step, crate::proofs::Covering::extending_clear, crate::proofs::Covering::extending_few))]
 fn cover_on(first: &Slice<PlaneLine>, slices: &[Slice<PlaneLine>], start: usize) -> Cover
     requires clear { PiecesAreClear (λ s. s.span) (first.now ∷ slices.now) }
     ensures cover { IsCoverOn start (first.now ∷ slices.now) result }
+    ensures few { result.count ≤ length slices.now + 1 }
 {
     let mut cover = first_cover(first, start);
     let mut rest = slices;
@@ -156,7 +157,7 @@ fn add(all: &mut Vec<Cover>, cover: Cover) -> Result<(), AllocError>
 }
 
 // The covers of slices in order of time.
-#[tactic(auto, using(crate::proofs::Covering::making_start, crate::proofs::Covering::making_next, crate::proofs::Covering::fewer_next, crate::proofs::Covering::making_end))]
+#[tactic(auto, using(crate::proofs::Covering::making_start, crate::proofs::Covering::making_next, crate::proofs::Covering::making_room, crate::proofs::Covering::few_left, crate::proofs::Covering::fewer_next, crate::proofs::Covering::making_end))]
 fn covers_on(alloc: Global, slices: &[Slice<PlaneLine>]) -> Result<Covers, AllocError>
     requires order { IsRisingInTime (λ c. c.from) (λ c. c.to) slices.now }
     ensures covers { IfOk result (AreCoversOf slices.now) }

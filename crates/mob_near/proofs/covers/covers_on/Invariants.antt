@@ -1,9 +1,12 @@
-use Rattle.std.proofs.Common.{length}
+use Rattle.std.proofs.Common.{◌≡◌, ◌+◌, length}
 use Rattle.mob_near.proofs.Covering.{IsMakingRuns}
 use Rattle.mob_near.proofs.covers.covers_on.Given as goal
 
 abbrev pub invariant-runs : goal.invariant-runs
-invariant-runs l = IsMakingRuns l.slices l.rest l.start l.all.items
+invariant-runs l = record {
+  room : l.start + length l.rest ≡ length l.slices;
+  making : IsMakingRuns l.slices l.rest l.start l.all.items;
+}
 
 abbrev pub decreases-runs : goal.decreases-runs
 decreases-runs l = length l.rest
