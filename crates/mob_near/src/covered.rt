@@ -78,10 +78,7 @@ fn runs_come_within(
             left: Side::Moving(met.left),
             right: Side::Moving(met.right),
         };
-        let here = match comes_within(alloc, &piece, d, square, &mut last) {
-            Ok(here) => here,
-            Err(fault) => return Err(fault),
-        };
+        let here = comes_within(alloc, &piece, d, square, &mut last)?;
         if here {
             return Ok(true);
         }
@@ -132,10 +129,7 @@ fn stretches_come_within(
     ensures value { IfOk result (λ b. b ≡ some_reach square.now (pieces (Slices v.now) (Slices w.now))) }
 {
     for both in SharedPieces::new(over_v, over_w) {
-        let here = match stretch_comes_within(alloc, v, both.left, w, both.right, d, square) {
-            Ok(here) => here,
-            Err(fault) => return Err(fault),
-        };
+        let here = stretch_comes_within(alloc, v, both.left, w, both.right, d, square)?;
         if here {
             return Ok(true);
         }
@@ -243,10 +237,8 @@ fn runs_nearer(
             left: Side::Moving(met.left),
             right: Side::Moving(met.right),
         };
-        nearest = match nearer(alloc, &piece, nearest, &mut last) {
-            Ok(here) => Some(here),
-            Err(fault) => return Err(fault),
-        };
+        let here = nearer(alloc, &piece, nearest, &mut last)?;
+        nearest = Some(here);
     }
     Ok(nearest)
 }
@@ -329,10 +321,8 @@ fn least_of_stretches(
 {
     let mut nearest = None;
     for both in SharedPieces::new(over_v, over_w) {
-        nearest = match stretch_nearer(alloc, v, both.left, w, both.right, nearest) {
-            Ok(here) => here,
-            Err(fault) => return Err(fault),
-        };
+        let next = stretch_nearer(alloc, v, both.left, w, both.right, nearest)?;
+        nearest = next;
     }
     Ok(nearest)
 }

@@ -168,10 +168,7 @@ fn covers_on(alloc: Global, slices: &[Slice<PlaneLine>]) -> Result<Covers, Alloc
     'runs: while let Some((first, more)) = rest.split_first() {
         let cover = cover_on(first, more, start);
         let count = cover.count;
-        match add(&mut all, cover) {
-            Ok(()) => {}
-            Err(fault) => return Err(fault),
-        }
+        add(&mut all, cover)?;
         start += count;
         rest = &rest[count..];
     }

@@ -15,7 +15,7 @@ loop-both-preserved c = record {
   goes = search rules;
   ends = search rules;
   hold = runs_next c.args.v.now c.args.w.now _ _ _ c.in-Some.ensures.steps c.loop-both.invariant.hold;
-  rest = runs_counted c.args.v.now c.args.w.now _ _ _ _ _ _ c.in-Some.ensures.steps c.loop-both.invariant.rest c.in-Ok.ensures.value;
+  rest = runs_counted c.args.v.now c.args.w.now _ _ _ _ _ _ c.in-Some.ensures.steps c.loop-both.invariant.rest c.in_ok-next.ensures.value;
 }
 
 pub returns : goal.returns

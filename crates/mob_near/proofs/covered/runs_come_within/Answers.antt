@@ -15,11 +15,11 @@ loop-met-preserved c = record {
   goes = search rules;
   ends = search rules;
   hold = walked_next _ _ _ c.in-Some.ensures.steps c.loop-met.invariant.hold;
-  rest = piece_missed _ _ _ _ _ c.in-Some.ensures.steps c.loop-met.invariant.rest (sym c.in-Ok.ensures.value ∙ c.if-here.false);
+  rest = piece_missed _ _ _ _ _ c.in-Some.ensures.steps c.loop-met.invariant.rest (sym c.in_ok-here.ensures.value ∙ c.if-here.false);
 }
 
 pub returns-then-here : goal.returns-then-here
-returns-then-here c = record { value = piece_hit _ _ _ _ _ c.in-Some.ensures.steps c.loop-met.invariant.rest (sym c.in-Ok.ensures.value ∙ c.if-here.true) }
+returns-then-here c = record { value = piece_hit _ _ _ _ _ c.in-Some.ensures.steps c.loop-met.invariant.rest (sym c.in_ok-here.ensures.value ∙ c.if-here.true) }
 
 pub returns : goal.returns
 returns c = record { value = pieces_missed _ _ _ c.in-None.ensures.steps.0 c.loop-met.invariant.rest }

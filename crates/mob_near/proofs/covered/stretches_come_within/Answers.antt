@@ -15,11 +15,11 @@ loop-both-preserved c = record {
   goes = search rules;
   ends = search rules;
   hold = runs_next c.args.v.now c.args.w.now _ _ _ c.in-Some.ensures.steps c.loop-both.invariant.hold;
-  rest = runs_missed _ c.args.v.now c.args.w.now _ _ _ _ c.in-Some.ensures.steps c.loop-both.invariant.rest (sym c.in-Ok.ensures.value ∙ c.if-here.false);
+  rest = runs_missed _ c.args.v.now c.args.w.now _ _ _ _ c.in-Some.ensures.steps c.loop-both.invariant.rest (sym c.in_ok-here.ensures.value ∙ c.if-here.false);
 }
 
 pub returns-then-here : goal.returns-then-here
-returns-then-here c = record { value = runs_hit _ c.args.v.now c.args.w.now _ _ _ _ c.in-Some.ensures.steps c.loop-both.invariant.rest (sym c.in-Ok.ensures.value ∙ c.if-here.true) }
+returns-then-here c = record { value = runs_hit _ c.args.v.now c.args.w.now _ _ _ _ c.in-Some.ensures.steps c.loop-both.invariant.rest (sym c.in_ok-here.ensures.value ∙ c.if-here.true) }
 
 pub returns : goal.returns
 returns c = record { value = all_missed _ c.args.v.now c.args.w.now _ _ c.in-None.ensures.steps.0 c.loop-both.invariant.rest }
