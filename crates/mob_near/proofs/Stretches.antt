@@ -1,16 +1,17 @@
 -- Two moving points by the runs of their covers.
-use Rattle.std.{specs.Prelude.{◌≡◌, ◌||◌, ◌+◌, ◌-◌, ◌≤◌, ℕ, zero, suc, Bool, true, false, cond, List, [], ◌∷◌, ◌++◌, map, length, take, drop, slice_range, Option, Some, None, Result, Ok, Err, IfOk, refl}, specs.List.{AllByRecursion}}
-use Rattle.std.proofs.Common.{arith, ap, sym, ◌∙◌, subst, length-drop, take-append-drop, drop-drop}
+use Rattle.std.{specs.Prelude.{◌≡◌, ◌||◌, ◌+◌, ◌-◌, ◌≤◌, ℕ, zero, suc, Bool, true, false, cond, List, [], ◌∷◌, ◌++◌, map, length, take, drop, slice_range, Option, Some, None, Result, Ok, Err, IfOk, IsTrue, ◌↔◌, MatchOption, refl}, specs.List.{AllByRecursion}, specs.Option.{is_some}}
+use Rattle.std.proofs.Common.{arith, ap, sym, ◌∙◌, subst, true≢false, length-drop, take-append-drop, drop-drop}
 use Rattle.mob_list.proofs.Each.{each_on, each_map}
 use Rattle.mob_ratio.{specs.Ratio.{Ratio, ◌+ℚ◌, ◌*ℚ◌}, specs.Order.{before, up_to, smaller}, specs.Sign.{nil}, proofs.Order.{up_to-trans}}
 use Rattle.mob_span.{specs.Chained.{OfHead, Chained}, specs.Neighbours.{is_inside}, specs.Span.{SpanOf, has_instant}, specs.Meets.{PieceOf, shared_pieces}, specs.Pieces.{PiecesAreClear}, proofs.MeetLaws.{meets_clear, meets_hold}}
 use Rattle.mob_slice.{specs.Sides.{Slices, pieces}, specs.Lines.{plane_value_of}, specs.Slices.{IsSound, IsRisingInTime, IsClearOf, value_at}, specs.declared.line.PlaneLine.{PlaneLine}, specs.declared.slice.Slice.{Slice}}
 use Rattle.mob_slice.proofs.Orders.{all_sound, ordered-clear}
-use Rattle.mob_lift.{specs.Pieces.{both_move}, specs.Sometime.{either, IsEver}, proofs.Walking.{walked}, proofs.Beside.{map_clear}}
+use Rattle.mob_lift.{specs.Pieces.{both_move}, specs.Sometime.{either, IsEver, HaveCommon}, proofs.Walking.{walked}, proofs.Beside.{map_clear}}
 use Rattle.mob_near.specs.Approaches.{IsApproach}
 use Rattle.mob_near.{specs.Covers.{CoversSlice, CoversRun, AreRunsFrom, AreCoversOf, IsRunOf, run_of, some_reach, nearer_of, is_apart_on, is_beyond, cover_gap}, specs.Distances.{distance_squared}, specs.Entries.{PointPiece}}
 use Rattle.mob_near.{specs.Legs.{piece_reaches, piece_approach, nearest_of, are_some}, specs.Wide.{least_approach}, specs.declared.covers.Cover.{Cover}}
 use Rattle.mob_near.proofs.{OnPieces.{IsHeld}, Runs.{each_two, some_each, IsSoundLine, beyond_never_reaches, gaps_bound_approaches}, Products.{total, total_map, IsSum, AreRuns, by_runs}}
+use Rattle.mob_near.proofs.Answering.{common_exact}
 use Rattle.mob_near.proofs.Widely.{by_first, by_second, ever_is, nearest_is, least_all, smaller_is, smaller_swap, three}
 
 -- ---- lists of slices
@@ -287,6 +288,9 @@ module _ (v w : List (Slice PlaneLine)) (hv : IsRisingInTime (λ c. c.from) (λ 
   pieces_hold : AllByRecursion IsHeld (pieces (Slices v) (Slices w))
   pieces_hold = each_map IsWalked IsHeld both_move (λ p h. h.0) (shared_pieces (λ s. s.span) (λ s. s.span) v w) (all_walked v w hv hw)
 
+  pub common_is : (r : Bool) → r ≡ are_some (pieces (Slices v) (Slices w)) → IsTrue r ↔ HaveCommon (value_at plane_value_of v) (value_at plane_value_of w)
+  common_is r e = common_exact (Slices v) (Slices w) refl r e pieces_clear
+
   pub hit_ever : (D d : Ratio) → D ≡ d *ℚ d → true ≡ some_reach D (pieces (Slices v) (Slices w)) → IsEver (λ x y. up_to (distance_squared x y) D) (value_at plane_value_of v) (value_at plane_value_of w) (Some true)
   hit_ever D d e h = ever_is (Slices v) (Slices w) refl pieces_clear pieces_hold D d (Some true) e (some_if D (pieces (Slices v) (Slices w)) h)
 
@@ -296,6 +300,33 @@ module _ (v w : List (Slice PlaneLine)) (hv : IsRisingInTime (λ c. c.from) (λ 
   pub least_is : {E : Type 0} (r : Result (Option Ratio) E) → IfOk r (λ o. o ≡ least_approach (pieces (Slices v) (Slices w))) → IfOk r (IsApproach (value_at plane_value_of v) (value_at plane_value_of w))
   least_is (Ok o) h = nearest_is (Slices v) (Slices w) refl pieces_clear pieces_hold o (h ∙ sym (least_all (pieces (Slices v) (Slices w))))
   least_is (Err g) h = tt
+
+-- covers that never meet are of points with no common instant
+some_total : (ps : List PointPiece) → are_some ps ≡ total (λ a b. a || b) false (λ p. true) ps
+some_total [] = refl
+some_total (p ∷ ps) = refl
+
+abbrev run_some : List (Slice PlaneLine) → List (Slice PlaneLine) → PieceOf Cover Cover → Bool
+run_some v w p = total (λ a b. a || b) false (λ q. true) (shared_pieces (λ s. s.span) (λ s. s.span) (run_of v p.left) (run_of w p.right))
+
+pub none_met : (v w : List (Slice PlaneLine)) (covers others x y : List Cover) → x ≡ covers → y ≡ others → AreCoversOf v covers → AreCoversOf w others → shared_pieces (λ c. c.span) (λ c. c.span) x y ≡ [] → false ≡ are_some (pieces (Slices v) (Slices w))
+none_met v w covers others x y f g h k e =
+    let met : shared_pieces (λ c. c.span) (λ c. c.span) covers others ≡ [] = rw (sym f, sym g) e in
+    sym (some_total (pieces (Slices v) (Slices w))
+    ∙ total_map (λ a b. a || b) false (λ p. true) both_move (shared_pieces (λ s. s.span) (λ s. s.span) v w)
+    ∙ by_runs (λ a b. a || b) false or_sum (λ s. s.span) (λ s. s.span) (λ c. c.span) (λ c. c.span) (run_of v) (run_of w) (λ p. true) v w covers others (are_runs v covers h) (are_runs w others k)
+    ∙ ap (total (λ a b. a || b) false (run_some v w)) met)
+
+-- the first step of a walk that gives nothing
+pub next_none : {A P : Type 0} (view : A → P) (r : Option A) (all rest : List P) → MatchOption r ((all ≡ []) × (rest ≡ [])) (λ x. all ≡ view x ∷ rest) → is_some r ≡ false → all ≡ []
+next_none view None all rest h e = h.0
+next_none view (Some x) all rest h e = absurd (true≢false e)
+
+pub met_none : (covers others x y : List Cover) → x ≡ covers → y ≡ others → shared_pieces (λ c. c.span) (λ c. c.span) x y ≡ [] → shared_pieces (λ c. c.span) (λ c. c.span) covers others ≡ []
+met_none covers others x y f g h = rw (sym f, sym g) h
+
+pub covers_clear_as : (v : List (Slice PlaneLine)) (covers x : List Cover) → x ≡ covers → AreCoversOf v covers → PiecesAreClear (λ c. c.span) x
+covers_clear_as v covers x e h = subst (PiecesAreClear (λ c. c.span)) (sym e) h.clear
 
 -- ---- the least approach
 smaller_assoc : (a b c : Ratio) → smaller (smaller a b) c ≡ smaller a (smaller b c)

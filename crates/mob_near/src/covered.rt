@@ -1,9 +1,11 @@
 //! Nearness of two moving points with covers. A walk over the covers that share time skips two runs
 //! of slices at once if their rectangles cannot matter.
-ghost use Rattle.std.specs.Prelude.{◌≡◌, ◌+◌, ◌≤◌, true, Some, length, IfOk, IfSome};
+ghost use Rattle.std.specs.Prelude.{◌≡◌, ◌+◌, ◌≤◌, true, false, Some, [], length, IfOk, IfSome};
 ghost use Rattle.mob_ratio.specs.Order.{up_to};
 ghost use Rattle.mob_ratio.specs.Ratio.{◌*ℚ◌};
 ghost use Rattle.mob_ratio.specs.Sign.{nil};
+ghost use Rattle.mob_span.specs.Meets.{shared_pieces};
+ghost use Rattle.mob_span.specs.Pieces.{PiecesAreClear};
 ghost use Rattle.mob_slice.specs.Entries.{IsJudged};
 ghost use Rattle.mob_slice.specs.Lines.{plane_value_of};
 ghost use Rattle.mob_slice.specs.Sides.{Slices, pieces};
@@ -13,6 +15,7 @@ ghost use Rattle.mob_lift.specs.Sometime.{IsEver};
 ghost use Rattle.mob_near.specs.Approaches.{IsApproach};
 ghost use Rattle.mob_near.specs.Covers.{AreCoversOf, IsRunOf, cover_gap, is_beyond, nearer_of, run_of, some_reach};
 ghost use Rattle.mob_near.specs.Distances.{are_within};
+ghost use Rattle.mob_near.specs.Legs.{are_some};
 ghost use Rattle.mob_near.specs.Wide.{approach_entries_in, least_approach};
 
 use crate::covers::{Cover, Covers};
@@ -164,6 +167,34 @@ fn covered_come_within(
     )
 }
 
+// Whether two covers share an instant.
+fn share_covers(over_v: &[Cover], over_w: &[Cover]) -> bool
+    requires left { PiecesAreClear (λ c. c.span) over_v.now }
+    requires right { PiecesAreClear (λ c. c.span) over_w.now }
+    ensures none { result ≡ false → shared_pieces (λ c. c.span) (λ c. c.span) over_v.now over_w.now ≡ [] }
+{
+    let mut walk = SharedPieces::new(over_v, over_w);
+    walk.next().is_some()
+}
+
+// Whether some instant is common.
+fn have_common(
+    a: &Moving<PlaneLine>,
+    over_a: &Covers,
+    b: &Moving<PlaneLine>,
+    over_b: &Covers,
+) -> bool
+    requires left { AreCoversOf a.now over_a.now }
+    requires right { AreCoversOf b.now over_b.now }
+    ensures value { result ≡ are_some (pieces (Slices a.now) (Slices b.now)) }
+{
+    let met = share_covers(over_a.all(), over_b.all());
+    if met {
+        return share_time(Operand::Moving(a), Operand::Moving(b));
+    }
+    false
+}
+
 /// Whether two moving points are within the distance `d` of each other at some instant at which
 /// both are defined: that of `ever_within_wide`. The walk skips runs of slices whose rectangles are
 /// more than `d` apart. The only error is a failed allocation: it allocates only where a step of a
@@ -181,14 +212,14 @@ pub fn ever_within_covered(
     ensures value { IfOk result (IsEver (are_within d.now) (value_at plane_value_of a.now) (value_at plane_value_of b.now)) }
 {
     if d.is_before(&Frac::zero()) {
-        return Ok(never(share_time(Operand::Moving(a), Operand::Moving(b))));
+        return Ok(never(have_common(a, over_a, b, over_b)));
     }
     let square = Exact::square_of(alloc, d)?;
     let near = covered_come_within(alloc, a, over_a, b, over_b, d, &square)?;
     if near {
         return Ok(Some(true));
     }
-    Ok(never(share_time(Operand::Moving(a), Operand::Moving(b))))
+    Ok(never(have_common(a, over_a, b, over_b)))
 }
 
 // The squared distance of the rectangles of two runs. It is `None` if a step to it does not fit.
