@@ -6,7 +6,8 @@ use Rattle.mob_plane.specs.declared.point.Point.{Point}
 use Rattle.mob_span.{specs.Pieces.{PiecesAreClear}, proofs.SpanLemmas.{some_instant}}
 use Rattle.mob_slice.{specs.Sides.{OperandOf, pieces, given_at, has_slices}, specs.Lines.{plane_value_of}, specs.declared.line.PlaneLine.{PlaneLine}, specs.declared.formula.Formula.{Formula}}
 use Rattle.mob_lift.{specs.Sometime.{HaveCommon, IsEver}, proofs.PieceAt.{no_common, common_by}}
-use Rattle.mob_near.{specs.Distances.{distance_squared, are_within}, specs.Entries.{PointPiece}, specs.Legs.{are_some}}
+use Rattle.mob_legs.specs.Legs.{PointPiece, are_some}
+use Rattle.mob_near.specs.Distances.{distance_squared, are_within}
 
 -- ---- a common instant
 -- the first step of a walk shows whether any piece exists

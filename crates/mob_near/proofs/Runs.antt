@@ -6,8 +6,9 @@ use Rattle.mob_span.{specs.Neighbours.{is_inside}, specs.Span.{SpanOf, has_insta
 use Rattle.mob_slice.{specs.Sides.{Slices, pieces}, specs.Slices.{IsSound, IsRisingInTime}, specs.declared.line.PlaneLine.{PlaneLine}, specs.declared.slice.Slice.{Slice}}
 use Rattle.mob_slice.proofs.Orders.{all_sound, ordered-clear}
 use Rattle.mob_lift.specs.Pieces.{both_move}
-use Rattle.mob_near.{specs.Covers.{CoversSlice, CoversRun, is_beyond, cover_gap, BeyondNeverReaches, GapsBoundApproaches}, specs.Legs.{piece_reaches, piece_approach}}
-use Rattle.mob_near.{specs.declared.covers.Cover.{Cover}, proofs.Far.{far_never, gap_bounds}}
+use Rattle.mob_legs.{specs.Covers.{CoversSlice, CoversRun, is_beyond, cover_gap, BeyondNeverReaches, GapsBoundApproaches}, specs.Legs.{piece_reaches, piece_approach}}
+use Rattle.mob_legs.specs.declared.covers.Cover.{Cover}
+use Rattle.mob_near.proofs.Far.{far_never, gap_bounds}
 
 pub each_two : {A : Type 0} (P Q : A → Type 0) (xs : List A) → AllByRecursion P xs → AllByRecursion Q xs → AllByRecursion (λ x. P x × Q x) xs
 each_two P Q [] h k = tt

@@ -8,9 +8,11 @@ use Rattle.mob_slice.{specs.Sides.{Slices, pieces}, specs.Lines.{plane_value_of}
 use Rattle.mob_slice.proofs.Orders.{all_sound, ordered-clear}
 use Rattle.mob_lift.{specs.Pieces.{both_move}, specs.Sometime.{either, IsEver, HaveCommon}, proofs.Walking.{walked}, proofs.Beside.{map_clear}}
 use Rattle.mob_near.specs.Approaches.{IsApproach}
-use Rattle.mob_near.{specs.Covers.{CoversSlice, CoversRun, AreRunsFrom, AreCoversOf, IsRunOf, run_of, some_reach, nearer_of, is_apart_on, is_beyond, cover_gap}, specs.Distances.{distance_squared}, specs.Entries.{PointPiece}}
-use Rattle.mob_near.{specs.Legs.{piece_reaches, piece_approach, nearest_of, are_some}, specs.Wide.{least_approach}, specs.declared.covers.Cover.{Cover}}
-use Rattle.mob_near.proofs.{OnPieces.{IsHeld}, Runs.{each_two, some_each, IsSoundLine, beyond_never_reaches, gaps_bound_approaches}, Products.{total, total_map, IsSum, AreRuns, by_runs}}
+use Rattle.mob_legs.{specs.Covers.{CoversSlice, CoversRun, AreRunsFrom, AreCoversOf, IsRunOf, run_of, some_reach, nearer_of, is_apart_on, is_beyond, cover_gap}, specs.Legs.{PointPiece}}
+use Rattle.mob_near.specs.Distances.{distance_squared}
+use Rattle.mob_legs.{specs.Legs.{piece_reaches, piece_approach, nearest_of, are_some}, specs.declared.covers.Cover.{Cover}}
+use Rattle.mob_near.specs.Wide.{least_approach}
+use Rattle.mob_near.{proofs.OnPieces.{IsHeld}, proofs.Runs.{each_two, some_each, IsSoundLine, beyond_never_reaches, gaps_bound_approaches}, proofs.Products.{total, total_map, IsSum, AreRuns, by_runs}}
 use Rattle.mob_near.proofs.Answering.{common_exact}
 use Rattle.mob_near.proofs.Widely.{by_first, by_second, ever_is, nearest_is, least_all, smaller_is, smaller_swap, three}
 

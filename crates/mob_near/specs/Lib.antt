@@ -1,10 +1,6 @@
 pub mod Distances
 pub mod Approaches
 pub mod Entries
-pub mod Legs
-pub mod Broad
 pub mod Wide
-pub mod Covers
-pub mod Covering
 pub mod Known
 pub mod Sql

@@ -8,9 +8,7 @@
 //! `least_covered` give them too, and skip whole runs of slices.
 #![tactic(auto)]
 
-mod broad;
 mod covered;
-mod covers;
 mod foot;
 mod known;
 mod laws;
@@ -21,7 +19,6 @@ pub mod sql;
 mod wide;
 
 pub use covered::{approach_covered, ever_within_covered, least_covered};
-pub use covers::{Cover, Covers, covers_of};
 pub use laws::one_approach;
 pub use nearness::{approach_squared, ever_within};
 pub use wide::{approach_wide, ever_within_wide, least_exact};

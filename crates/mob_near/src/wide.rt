@@ -11,16 +11,16 @@ ghost use Rattle.mob_slice.specs.Sides.{HoldsPiece, given_at, has_slices, operan
 ghost use Rattle.mob_slice.specs.declared.mode.Mode.TheVariants.{Wide};
 ghost use Rattle.mob_lift.specs.Sometime.{IsEver};
 ghost use Rattle.mob_near.specs.Approaches.{IsApproach};
-ghost use Rattle.mob_near.specs.Covers.{cover_gap, is_beyond, piece_covers, range_between, is_apart_on};
+ghost use Rattle.mob_legs.specs.Covers.{cover_gap, is_beyond, piece_covers, range_between, is_apart_on};
 ghost use Rattle.mob_near.specs.Distances.{are_within, distance_squared};
-ghost use Rattle.mob_near.specs.Legs.{nearest_of, piece_approach, piece_reaches};
+ghost use Rattle.mob_legs.specs.Legs.{nearest_of, piece_approach, piece_reaches};
 ghost use Rattle.mob_near.specs.Wide.{IsGivenOf, approach_entries_in, least_approach};
 
-use crate::broad::piece::{broad_approach, broad_reaches};
 use crate::known::{LastFound, nothing, square_of};
 use crate::nearness::{never, share_time};
 use crate::piece::{piece_approach, piece_reaches};
 use mob_frac::Frac;
+use mob_legs::{broad_approach, broad_reaches};
 use mob_lift::either;
 use mob_lift::walks::Pieces;
 use mob_list::fault::Fault;

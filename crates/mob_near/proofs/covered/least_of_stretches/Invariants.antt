@@ -1,7 +1,8 @@
 use Rattle.std.{specs.List.{AllByRecursion}, proofs.Common.{◌≡◌}}
 use Rattle.mob_span.specs.Walk.{meets_left}
 use Rattle.mob_slice.specs.Sides.{Slices, pieces}
-use Rattle.mob_near.{specs.Covers.{nearer_of}, specs.Wide.{least_approach}, proofs.Stretches.{AreRunsOf, least_in}}
+use Rattle.mob_legs.specs.Covers.{nearer_of}
+use Rattle.mob_near.{specs.Wide.{least_approach}, proofs.Stretches.{AreRunsOf, least_in}}
 use Rattle.mob_near.proofs.covered.least_of_stretches.Given as goal
 
 abbrev pub invariant-loop-both : goal.invariant-loop-both

@@ -2,7 +2,8 @@ use Rattle.std.{specs.List.{AllByRecursion}, proofs.Common.{◌≡◌, map}}
 use Rattle.mob_span.specs.Walk.{meets_left}
 use Rattle.mob_slice.specs.Sides.{Slices, pieces}
 use Rattle.mob_lift.specs.Pieces.{both_move}
-use Rattle.mob_near.{specs.Covers.{some_reach}, proofs.Stretches.{IsWalked}}
+use Rattle.mob_legs.specs.Covers.{some_reach}
+use Rattle.mob_near.proofs.Stretches.{IsWalked}
 use Rattle.mob_near.proofs.covered.runs_come_within.Given as goal
 
 abbrev pub invariant-loop-met : goal.invariant-loop-met

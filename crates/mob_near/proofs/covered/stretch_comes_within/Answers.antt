@@ -1,4 +1,5 @@
-use Rattle.mob_near.{specs.Covers.{run_of}, proofs.Stretches.{none_reach, reach_as}}
+use Rattle.mob_legs.specs.Covers.{run_of}
+use Rattle.mob_near.proofs.Stretches.{none_reach, reach_as}
 use Rattle.mob_near.proofs.covered.stretch_comes_within.Goals as goal
 
 pub returns-then-are_beyond : goal.returns-then-are_beyond

@@ -1,4 +1,5 @@
-use Rattle.mob_near.{specs.Covers.{run_of}, proofs.Stretches.{nearer_as}}
+use Rattle.mob_legs.specs.Covers.{run_of}
+use Rattle.mob_near.proofs.Stretches.{nearer_as}
 use Rattle.mob_near.proofs.covered.stretch_counted.Goals as goal
 
 pub run_of-requires-clause-room : goal.run_of-requires-clause-room

@@ -1,7 +1,8 @@
 use Rattle.std.{specs.List.{AllByRecursion}, proofs.Common.{◌≡◌}}
 use Rattle.mob_span.specs.Walk.{meets_left}
 use Rattle.mob_slice.specs.Sides.{Slices, pieces}
-use Rattle.mob_near.{specs.Covers.{some_reach}, proofs.Stretches.{AreRunsOf, reach_all}}
+use Rattle.mob_legs.specs.Covers.{some_reach}
+use Rattle.mob_near.proofs.Stretches.{AreRunsOf, reach_all}
 use Rattle.mob_near.proofs.covered.stretches_come_within.Given as goal
 
 abbrev pub invariant-loop-both : goal.invariant-loop-both
