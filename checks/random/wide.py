@@ -6,7 +6,8 @@
 A script is one SELECT of one to three items: `eDwithin`, `nearestApproachSquared`, and `+`, `-` and
 `*` of numbers and of such squares. Points move in sequences with and without their ends, stay, or
 are there at instants alone. Coordinates, distances and instants are whole numbers and fractions of
-up to 62 bits.
+up to 62 bits. In half of the scripts points keep their first coordinate, so that many distances are
+numbers that can be written: such a distance is often asked for exactly.
 
 With the option the answer, or the byte of the note, must be what this trial computes with fractions
 of any size: the first operator whose value does not fit ends the run. Without the option a run that
@@ -18,6 +19,7 @@ import random
 import re
 import sys
 from fractions import Fraction
+from math import isqrt
 
 from trials import all_of, arguments, ran
 
@@ -40,6 +42,8 @@ class Writer:
         self.chance, self.marks = chance, 0
         # How large the numbers of this script are, in bits.
         self.bits = chance.choice((4, 12, 30, 31, 40, 61))
+        self.aligned = chance.random() < 0.5
+        self.easts, self.times = (self.number(), self.number()), self.instants(8)
 
     def whole(self):
         return self.chance.randrange(2 ** self.chance.choice((2, self.bits)))
@@ -55,8 +59,8 @@ class Writer:
 
     # ---- texts
 
-    def place(self):
-        return self.number(), self.number()
+    def east(self):
+        return self.chance.choice(self.easts) if self.aligned else self.number()
 
     def instants(self, count):
         """Rising instants of 2026-05-01, in seconds: whole, or with a fraction."""
@@ -70,8 +74,11 @@ class Writer:
     def moving(self):
         """A text of a moving point, and its pieces: two instants, two places, two flags."""
         kind = self.chance.choice(("instant", "instants", "sequence", "sequence", "set"))
-        times = self.instants({"instant": 1, "instants": 3, "sequence": 4, "set": 6}[kind])
-        reports = [(t, self.place()) for t in times]
+        count = {"instant": 1, "instants": 3, "sequence": 4, "set": 6}[kind]
+        times, east = self.instants(count), self.east()
+        if self.aligned:
+            times = sorted(self.chance.sample(self.times, count))
+        reports = [(t, (east if self.aligned else self.east(), self.number())) for t in times]
         if kind in ("instant", "instants"):
             texts = [report(it) for it in reports]
             text = texts[0] if kind == "instant" else "{" + ", ".join(texts) + "}"
@@ -88,7 +95,7 @@ class Writer:
     def point(self):
         """A text of a moving or a fixed point, and its pieces, or its place."""
         if self.chance.random() < 0.25:
-            place = self.place()
+            place = self.east(), self.number()
             return f"geometry 'POINT({place[0]} {place[1]})'", place
         text, pieces = self.moving()
         return f"tgeompoint '{text}'", pieces
@@ -103,8 +110,8 @@ class Writer:
 
     # ---- expressions: a text with marks, and its value
 
-    def literal(self):
-        value = self.number()
+    def literal(self, value=None):
+        value = self.number() if value is None else value
         if value >= 0 and value.denominator == 1 and self.chance.random() < 0.7:
             return str(value), lambda: value
         return f"numeric '{value}'", lambda: value
@@ -134,8 +141,17 @@ class Writer:
 
         return f"({left} <{mark}>{sign} {right})", value
 
+    def distance(self, pieces):
+        """Any number, or a distance at which two points are at an end or nearest on a piece."""
+        squares = {square for it in pieces for square in (*ends(it), least(it))}
+        roots = [it for it in map(root, sorted(squares)) if it is not None and fits(it)]
+        if roots and self.chance.random() < 0.7:
+            return self.literal(self.chance.choice(roots[:2]))
+        return self.term()
+
     def within(self):
-        (text, pieces), (distance, d) = self.two(), self.term()
+        text, pieces = self.two()
+        distance, d = self.distance(pieces)
 
         def value():
             bound = d()
@@ -199,6 +215,17 @@ def square_of(gap):
     return gap[0] ** 2 + gap[1] ** 2
 
 
+def root(square):
+    """The root of a square, or None where it is irrational."""
+    found = Fraction(isqrt(square.numerator), isqrt(square.denominator))
+    return found if found * found == square else None
+
+
+def ends(piece):
+    """The squares of the differences at the ends of a piece."""
+    return square_of(piece[2]), square_of(piece[3])
+
+
 def foot(piece):
     """The square of the least difference strictly inside a piece, or None."""
     begin, end, p, q, _, _ = piece
@@ -212,7 +239,7 @@ def foot(piece):
 
 def least(piece):
     inside = foot(piece)
-    return min(square_of(piece[2]), square_of(piece[3])) if inside is None else inside
+    return min(ends(piece)) if inside is None else inside
 
 
 def reaches(piece, bound):
@@ -220,7 +247,7 @@ def reaches(piece, bound):
     inside = foot(piece)
     if inside is not None:
         return inside <= bound
-    first, last = square_of(piece[2]), square_of(piece[3])
+    first, last = ends(piece)
     if piece[2] == piece[3]:
         return first <= bound
     if first < bound or last < bound:

@@ -33,8 +33,8 @@ fn demo_of(value: Option<&str>) -> Option<Option<u32>>
 /// arguments.
 ///
 /// `None` exactly if the arguments are not accepted: another argument, an option given twice or
-/// without its value, `--wide` with a value, or an invalid value. Which arguments this command takes is specified by
-/// `clap`. The only error is a failed allocation.
+/// without its value, `--wide` with a value, or an invalid value. Which arguments this command
+/// takes is specified by `clap`. The only error is a failed allocation.
 pub fn settings(alloc: Global, words: &[String]) -> Result<Option<Settings>, AllocError>
     ensures said { IfOk result (λ o. IfSome o (WordsSay (map string_bytes words.now))) }
     ensures refused { IfOk result (λ o. IsNone o → (s : SettingsSeen) → WordsSay (map string_bytes words.now) s → ⊥) }

@@ -1,6 +1,6 @@
 //! Each operator, on the values of its operands. The fault is its first formula with a part that
-//! does not fit, which depends on the mode, and `NoMemory` comes if an allocation fails. The named operators are those of
-//! the MobilityDB manual, except `nearestApproachSquared`.
+//! does not fit, which depends on the mode, and `NoMemory` comes if an allocation fails. The named
+//! operators are those of the MobilityDB manual, except `nearestApproachSquared`.
 ghost use Rattle.std.specs.Prelude.{◌≡◌, IfOk};
 ghost use Rattle.mob_eval.specs.Views.{scene_of};
 ghost use Rattle.mob_meaning.specs.Operators.{GivesOfOne, GivesOfTwo, GivesOfThree, OnEntriesOfTwo, entries_of_three};

@@ -16,7 +16,7 @@ loop-place-preserved c =
     let t = c.index-kept-place.result in
     let old = c.index_mut.result.now in
     let n : get_or c.args.numbers.now at.place 0 ≡ number_on select c.args.store.now c.args.terms.now c.args.kept.now t = ap (λ z. get_or z at.place 0) c.requires.numbered ∙ got_map (number_on select c.args.store.now c.args.terms.now c.args.kept.now) c.args.kept.now at.place t 0 c.loop-place-test.true c.index-kept-place.is in
-    subst (λ m. IsGroupedSoFar select c.args.store.now c.args.terms.now.epoch c.args.kept.now (at.place + 1) (set at.groups.items m c.group_with.new.group)) (sym n)
+    subst (λ m. IsGroupedSoFar select c.args.store.now c.args.terms.now c.args.kept.now (at.place + 1) (set at.groups.items m c.group_with.new.group)) (sym n)
     (next_grouped select c.args.store.now c.args.terms.now c.args.kept.now at.place t c.loop-place-test.true c.requires.few c.index-kept-place.is at.groups.items at.invariant old (c.index_mut.ensures.value ∙ ap (λ m. get_or at.groups.items m old) n) c.group_with.new.group c.group_with.ensures.first (rw (c.as_slice.ensures.same, c.as_slice-in-loop-place.ensures.same) at c.in-Ok.ensures.with))
 
 pub index_mut-requires : goal.index_mut-requires
