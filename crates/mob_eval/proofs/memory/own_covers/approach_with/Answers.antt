@@ -1,4 +1,3 @@
-use Rattle.mob_value.specs.declared.value.Value.TheVariants.{MovingPoint}
 use Rattle.mob_eval.{specs.Views.{scene_of}, proofs.Recalled.{two_operands}}
 use Rattle.mob_eval.proofs.memory.own_covers.approach_with.Goals as goal
 

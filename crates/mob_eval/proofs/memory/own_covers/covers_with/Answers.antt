@@ -1,4 +1,4 @@
-use Rattle.std.proofs.Common.{ap, subst, sym, ◌∷◌}
+use Rattle.std.proofs.Common.{ap, subst, sym}
 use Rattle.mob_typed.proofs.TreeFacts.{typed_is}
 use Rattle.mob_value.specs.declared.value.Value.TheVariants.{MovingPoint}
 use Rattle.mob_eval.{specs.Views.{scene_of}, specs.Remembered.{IsMemoOf, place_of}, proofs.Recalled.{covers_right, value_told}}
