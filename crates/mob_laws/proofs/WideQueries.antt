@@ -1,6 +1,6 @@
 -- The wide mode changes no answer of a query that has one in the narrow mode.
 use Rattle.std.{specs.Prelude.{Result, get_or}, specs.List.{AllZip}}
-use Rattle.std.proofs.Common.{◌≡◌, ◌∙◌, inl, inr, refl, sym, ap, subst, ℕ, ℤ, ◌+◌, Bool, true, false, List, [], ◌∷◌, ◌++◌, map, Option, Some, None, Ok}
+use Rattle.std.proofs.Common.{◌≡◌, ◌∙◌, inl, inr, refl, subst, ℕ, ℤ, ◌+◌, Bool, true, false, List, [], ◌∷◌, ◌++◌, map, Option, Some, None, Ok}
 use mathlib.Core.Path.{transport}
 use Rattle.mob_operators.{specs.declared.aggregate.AggKind.{AggKind}, specs.declared.aggregate.AggKind.TheVariants.{CountAll}}
 use Rattle.mob_slice.specs.declared.mode.Mode.TheVariants.{Narrow, Wide}
@@ -8,7 +8,7 @@ use Rattle.mob_typed.{specs.Trees.{TypedTree, typed, none, more}, specs.Selects.
 use Rattle.mob_value.{specs.declared.value.Value.{Value}, specs.declared.value.Value.TheVariants.{Bool as Truth}, specs.declared.store.Store.{Store}}
 use Rattle.mob_literal.specs.Fields.{field_text}
 use Rattle.mob_catalog.specs.Catalogue.{Catalogue, live_rows}
-use Rattle.mob_meaning.{specs.Scene.{Scene, scene}, specs.Evaluation.{PlacedFormula, TreeEvaluatesTo}, proofs.AnyMode.{leaf_same, value_same}, proofs.Widening.{kept_value, fault_there}}
+use Rattle.mob_meaning.{specs.Scene.{Scene, scene}, proofs.AnyMode.{leaf_same, value_same}, proofs.Widening.{kept_value, fault_there}}
 use Rattle.mob_meaning.specs.declared.terms.Terms.{Terms}
 use Rattle.mob_plan.specs.Plans.{PlanStep, scan, probe, planned}
 use Rattle.mob_groups.specs.Groups.{groups_by}
