@@ -15,7 +15,7 @@ use std::alloc::{AllocError, Global};
 use std::marker::Model;
 
 // How many slices a run has. The last one may be shorter.
-const RUN: usize = 32;
+const RUN: usize = 16;
 
 /// The time and the rectangle of a run of slices, and which slices these are.
 #[derive(Drop)]
@@ -108,7 +108,7 @@ fn with_slice(cover: &Cover, slice: &Slice<PlaneLine>) -> Cover
     requires first { has_instant cover.now.span ≡ true }
     requires last { has_instant slice.now.span ≡ true }
     requires clear { is_clear cover.now.span slice.now.span ≡ true }
-    requires room { cover.now.count < 32 }
+    requires room { cover.now.count < 16 }
     ensures cover { result ≡ with_slice cover.now slice.now }
 {
     let from = &slice.course.from;
@@ -175,7 +175,7 @@ fn covers_on(alloc: Global, slices: &[Slice<PlaneLine>]) -> Result<Covers, Alloc
     Ok(Covers { all })
 }
 
-/// The covers of a moving point, over runs of 32 slices. The last run may be shorter. The only
+/// The covers of a moving point, over runs of 16 slices. The last run may be shorter. The only
 /// error is a failed allocation.
 #[tactic(auto, using(crate::proofs::Covering::rising_as, crate::proofs::Covering::made_as))]
 pub fn covers_of(alloc: Global, a: &Moving<PlaneLine>) -> Result<Covers, AllocError>

@@ -3,10 +3,10 @@ use Rattle.std.{specs.Prelude.{◌≡◌, ◌||◌, ◌+◌, ◌-◌, ◌≤◌,
 use Rattle.std.proofs.Common.{arith, ap, sym, ◌∙◌, subst, true≢false, length-drop, take-append-drop, drop-drop}
 use Rattle.mob_list.proofs.Each.{each_on, each_map}
 use Rattle.mob_ratio.{specs.Ratio.{Ratio, ◌+ℚ◌, ◌*ℚ◌}, specs.Order.{before, up_to, smaller}, specs.Sign.{nil}, proofs.Order.{up_to-trans}}
-use Rattle.mob_span.{specs.Chained.{OfHead, Chained}, specs.Neighbours.{is_inside}, specs.Span.{SpanOf, has_instant}, specs.Meets.{PieceOf, shared_pieces}, specs.Pieces.{PiecesAreClear}, proofs.MeetLaws.{meets_clear, meets_hold}}
+use Rattle.mob_span.{specs.Chained.{OfHead, Chained}, specs.Neighbours.{is_inside, is_clear}, specs.Span.{SpanOf, has_instant}, specs.Meets.{PieceOf, shared_pieces}, specs.Pieces.{PiecesAreClear}, proofs.MeetLaws.{meets_clear, meets_hold}}
 use Rattle.mob_slice.{specs.Sides.{Slices, pieces}, specs.Lines.{plane_value_of}, specs.Slices.{IsSound, IsRisingInTime, IsClearOf, value_at}, specs.declared.line.PlaneLine.{PlaneLine}, specs.declared.slice.Slice.{Slice}}
 use Rattle.mob_slice.proofs.Orders.{all_sound, ordered-clear}
-use Rattle.mob_lift.{specs.Pieces.{both_move}, specs.Sometime.{either, IsEver, HaveCommon}, proofs.Walking.{walked}, proofs.Beside.{map_clear}}
+use Rattle.mob_lift.{specs.Pieces.{both_move}, specs.Sometime.{either, IsEver, HaveCommon}, proofs.Walking.{walked}}
 use Rattle.mob_near.specs.Approaches.{IsApproach}
 use Rattle.mob_legs.{specs.Covers.{CoversSlice, CoversRun, AreRunsFrom, AreCoversOf, IsRunOf, run_of, some_reach, nearer_of, is_apart_on, is_beyond, cover_gap}, specs.Legs.{PointPiece}}
 use Rattle.mob_near.specs.Distances.{distance_squared}
@@ -70,6 +70,15 @@ module _ (v w : List (Slice PlaneLine)) (v_order : IsRisingInTime (λ c. c.from)
   all_walked = each_two (λ p. IsHeld (both_move p)) (λ p. has_instant p.span ≡ true) (shared_pieces (λ s. s.span) (λ s. s.span) v w)
       (meets_hold (λ s. s.span) (λ s. s.span) IsSoundLine IsSoundLine v w (all_sound (λ c. c.from) (λ c. c.to) v v_order) (all_sound (λ c. c.from) (λ c. c.to) w w_order))
       (some_each (λ p. p.span) (shared_pieces (λ s. s.span) (λ s. s.span) v w) clear)
+
+-- the same pieces, each as two sides
+moves_head : (p : PieceOf (Slice PlaneLine) (Slice PlaneLine)) (ps : List (PieceOf (Slice PlaneLine) (Slice PlaneLine))) → OfHead (λ (q r : PieceOf (Slice PlaneLine) (Slice PlaneLine)). is_clear q.span r.span ≡ true) p ps → OfHead (λ (q r : PointPiece). is_clear q.span r.span ≡ true) (both_move p) (map both_move ps)
+moves_head p [] h = tt
+moves_head p (q ∷ ps) h = h
+
+moves_clear : (ps : List (PieceOf (Slice PlaneLine) (Slice PlaneLine))) → PiecesAreClear (λ p. p.span) ps → PiecesAreClear (λ (p : PointPiece). p.span) (map both_move ps)
+moves_clear [] h = tt
+moves_clear (p ∷ ps) h = (h.0, moves_head p ps h.1, moves_clear ps h.2)
 
 -- the next piece of a walk
 module _ (left rest : List (PieceOf (Slice PlaneLine) (Slice PlaneLine))) (m : PieceOf (Slice PlaneLine) (Slice PlaneLine)) (e : left ≡ m ∷ rest) (h : AllByRecursion IsWalked left) where
@@ -285,7 +294,7 @@ none_if D ps shared o e s h = h ∙ ap (λ z. cond z (Some false) None) s ∙ ap
 
 module _ (v w : List (Slice PlaneLine)) (hv : IsRisingInTime (λ c. c.from) (λ c. c.to) v) (hw : IsRisingInTime (λ c. c.from) (λ c. c.to) w) where
   pieces_clear : PiecesAreClear (λ p. p.span) (pieces (Slices v) (Slices w))
-  pieces_clear = map_clear (λ p. p.span) (λ p. p.span) both_move (λ p. refl) (shared_pieces (λ s. s.span) (λ s. s.span) v w) (clear v w hv hw)
+  pieces_clear = moves_clear (shared_pieces (λ s. s.span) (λ s. s.span) v w) (clear v w hv hw)
 
   pieces_hold : AllByRecursion IsHeld (pieces (Slices v) (Slices w))
   pieces_hold = each_map IsWalked IsHeld both_move (λ p h. h.0) (shared_pieces (λ s. s.span) (λ s. s.span) v w) (all_walked v w hv hw)

@@ -20,7 +20,7 @@ ghost use Rattle.mob_near.specs.Wide.{approach_entries_in, least_approach};
 
 use crate::known::{nothing, square_of};
 use crate::nearness::{never, share_time};
-use crate::wide::{comes_within, gap_between, given, is_past, nearer};
+use crate::wide::{comes_within_directly, gap_between, given, is_past, nearer_directly};
 use mob_frac::Frac;
 use mob_legs::{Cover, Covers};
 use mob_list::fault::Fault;
@@ -59,7 +59,8 @@ fn are_beyond(d: &Frac, a: &Cover, b: &Cover) -> bool
 }
 
 // Whether the squared distance is at most `square`, that of `d`, at some instant that two runs
-// share. The walk stops at the first piece that has one.
+// share. The walk stops at the first piece that has one. The runs are likely near, so each piece is
+// computed without a look at its rectangles.
 #[tactic(auto, using(crate::proofs::Stretches::rising_clear, crate::proofs::Stretches::walked_start, crate::proofs::Stretches::held_next, crate::proofs::Stretches::some_next, crate::proofs::Stretches::walked_next, crate::proofs::Stretches::reach_start, crate::proofs::Stretches::piece_missed, crate::proofs::Stretches::piece_hit, crate::proofs::Stretches::pieces_missed))]
 fn runs_come_within(
     alloc: Global,
@@ -81,7 +82,7 @@ fn runs_come_within(
             left: Side::Moving(met.left),
             right: Side::Moving(met.right),
         };
-        let here = comes_within(alloc, &piece, d, square, &mut last)?;
+        let here = comes_within_directly(alloc, &piece, d, square, &mut last)?;
         if here {
             return Ok(true);
         }
@@ -248,7 +249,8 @@ fn are_beyond_found(alloc: Global, a: &Cover, b: &Cover, found: &Exact) -> Resul
     Ok(!nearer)
 }
 
-// The smaller of the result so far and that of two runs.
+// The smaller of the result so far and that of two runs, which are likely nearer: each piece is
+// computed without a look at its rectangles.
 #[tactic(auto, using(crate::proofs::Stretches::rising_clear, crate::proofs::Stretches::walked_start, crate::proofs::Stretches::held_next, crate::proofs::Stretches::some_next, crate::proofs::Stretches::walked_next, crate::proofs::Stretches::nearer_start, crate::proofs::Stretches::piece_counted, crate::proofs::Stretches::pieces_counted))]
 fn runs_nearer(
     alloc: Global,
@@ -268,7 +270,7 @@ fn runs_nearer(
             left: Side::Moving(met.left),
             right: Side::Moving(met.right),
         };
-        let here = nearer(alloc, &piece, nearest, &mut last)?;
+        let here = nearer_directly(alloc, &piece, nearest, &mut last)?;
         nearest = Some(here);
     }
     Ok(nearest)

@@ -43,26 +43,6 @@ fn reaches_broadly(
     Ok(here)
 }
 
-// Whether the squared distance is at most `square` at some instant of the piece.
-fn reaches_wide(
-    alloc: Global,
-    piece: &Piece<'_, PlaneLine, PlaneLine>,
-    square: &Exact,
-    last: &mut LastFound,
-) -> Result<bool, AllocError>
-    requires holds { HoldsPiece (λ c. c.from) (λ c. c.to) (λ c. c.from) (λ c. c.to) (piece_of piece.now) }
-    requires square { up_to nil square.now ≡ true }
-    ensures value { IfOk result (λ b. b ≡ piece_reaches square.now (piece_of piece.now)) }
-{
-    let Some(small) = square.as_frac() else {
-        return reaches_broadly(alloc, piece, square);
-    };
-    match piece_reaches(alloc, piece, &small, last) {
-        Ok(here) => Ok(here),
-        Err(_) => reaches_broadly(alloc, piece, square),
-    }
-}
-
 // The greatest lower bound of the squared distance on the piece, in `Broad`s.
 fn approach_broadly(
     alloc: Global,
@@ -150,7 +130,54 @@ fn is_far(piece: &Piece<'_, PlaneLine, PlaneLine>, d: &Frac) -> bool
     is_apart_on(d, &a0.y, &a1.y, &b0.y, &b1.y)
 }
 
-/// Whether the squared distance is at most `square`, that of `d`, at some instant of the piece.
+// Whether the squared distance is at most `square`, that of `d`, at some instant of a piece that
+// does not fit `Frac`s: in `Broad`s, unless the rectangles decide it.
+#[tactic(auto, using(crate::proofs::Widely::far_piece))]
+fn comes_within_broadly(
+    alloc: Global,
+    piece: &Piece<'_, PlaneLine, PlaneLine>,
+    d: &Frac,
+    square: &Exact,
+) -> Result<bool, AllocError>
+    requires holds { HoldsPiece (λ c. c.from) (λ c. c.to) (λ c. c.from) (λ c. c.to) (piece_of piece.now) }
+    requires some { has_instant piece.now.span ≡ true }
+    requires distance { up_to nil d.now ≡ true }
+    requires square { square.now ≡ d.now *ℚ d.now }
+    ensures value { IfOk result (λ b. b ≡ piece_reaches square.now (piece_of piece.now)) }
+{
+    if is_far(piece, d) {
+        return Ok(false);
+    }
+    reaches_broadly(alloc, piece, square)
+}
+
+/// Whether the squared distance is at most `square`, that of `d`, at some instant of the piece. The
+/// piece is computed in `Frac`s, without a look at its rectangles: that serves pieces that are
+/// likely near.
+pub(crate) fn comes_within_directly(
+    alloc: Global,
+    piece: &Piece<'_, PlaneLine, PlaneLine>,
+    d: &Frac,
+    square: &Exact,
+    last: &mut LastFound,
+) -> Result<bool, AllocError>
+    requires holds { HoldsPiece (λ c. c.from) (λ c. c.to) (λ c. c.from) (λ c. c.to) (piece_of piece.now) }
+    requires some { has_instant piece.now.span ≡ true }
+    requires distance { up_to nil d.now ≡ true }
+    requires square { square.now ≡ d.now *ℚ d.now }
+    ensures value { IfOk result (λ b. b ≡ piece_reaches square.now (piece_of piece.now)) }
+{
+    let Some(small) = square.as_frac() else {
+        return comes_within_broadly(alloc, piece, d, square);
+    };
+    match piece_reaches(alloc, piece, &small, last) {
+        Ok(here) => Ok(here),
+        Err(_) => comes_within_broadly(alloc, piece, d, square),
+    }
+}
+
+/// Whether the squared distance is at most `square`, that of `d`, at some instant of the piece. A
+/// piece whose rectangles are too far apart is not computed.
 #[tactic(auto, using(crate::proofs::Widely::far_piece))]
 pub(crate) fn comes_within(
     alloc: Global,
@@ -168,7 +195,7 @@ pub(crate) fn comes_within(
     if is_far(piece, d) {
         return Ok(false);
     }
-    reaches_wide(alloc, piece, square, last)
+    comes_within_directly(alloc, piece, d, square, last)
 }
 
 // Whether the squared distance is at most `square`, that of `d`, at some common instant. The walk
@@ -299,6 +326,62 @@ fn smaller_exact(alloc: Global, here: Exact, found: Exact) -> Result<Exact, Allo
     Ok(here)
 }
 
+// The smaller of the result so far and that of one more piece that does not fit `Frac`s: in
+// `Broad`s, unless its rectangles are no nearer.
+#[tactic(auto, using(crate::proofs::Widely::beyond_piece))]
+fn nearer_broadly(
+    alloc: Global,
+    piece: &Piece<'_, PlaneLine, PlaneLine>,
+    found: Exact,
+) -> Result<Exact, AllocError>
+    requires holds { HoldsPiece (λ c. c.from) (λ c. c.to) (λ c. c.from) (λ c. c.to) (piece_of piece.now) }
+    requires some { has_instant piece.now.span ≡ true }
+    ensures value { IfOk result (λ m. m ≡ smaller (piece_approach (piece_of piece.now)) found) }
+{
+    let beyond = is_beyond_found(alloc, piece, &found)?;
+    if beyond {
+        return Ok(found);
+    }
+    let here = approach_broadly(alloc, piece)?;
+    smaller_exact(alloc, here, found)
+}
+
+// The smaller of the result so far and that of one more piece, which is computed in `Frac`s without
+// a look at its rectangles.
+fn nearer_than_directly(
+    alloc: Global,
+    piece: &Piece<'_, PlaneLine, PlaneLine>,
+    found: Exact,
+    last: &mut LastFound,
+) -> Result<Exact, AllocError>
+    requires holds { HoldsPiece (λ c. c.from) (λ c. c.to) (λ c. c.from) (λ c. c.to) (piece_of piece.now) }
+    requires some { has_instant piece.now.span ≡ true }
+    ensures value { IfOk result (λ m. m ≡ smaller (piece_approach (piece_of piece.now)) found) }
+{
+    match piece_approach(alloc, piece, last) {
+        Ok(here) => smaller_exact(alloc, Exact::of(&here), found),
+        Err(_) => nearer_broadly(alloc, piece, found),
+    }
+}
+
+/// The smaller of the result so far and that of one more piece, which is computed in `Frac`s
+/// without a look at its rectangles: that serves pieces that are likely near.
+pub(crate) fn nearer_directly(
+    alloc: Global,
+    piece: &Piece<'_, PlaneLine, PlaneLine>,
+    found: Option<Exact>,
+    last: &mut LastFound,
+) -> Result<Exact, AllocError>
+    requires holds { HoldsPiece (λ c. c.from) (λ c. c.to) (λ c. c.from) (λ c. c.to) (piece_of piece.now) }
+    requires some { has_instant piece.now.span ≡ true }
+    ensures value { IfOk result (λ m. m ≡ nearest_of found (piece_approach (piece_of piece.now))) }
+{
+    match found {
+        Some(found) => nearer_than_directly(alloc, piece, found, last),
+        None => approach_wide_on(alloc, piece, last),
+    }
+}
+
 // The smaller of the result so far and that of one more piece.
 #[tactic(auto, using(crate::proofs::Widely::beyond_piece))]
 fn nearer_than(
@@ -315,11 +398,11 @@ fn nearer_than(
     if beyond {
         return Ok(found);
     }
-    let here = approach_wide_on(alloc, piece, last)?;
-    smaller_exact(alloc, here, found)
+    nearer_than_directly(alloc, piece, found, last)
 }
 
-/// The smaller of the result so far and that of one more piece.
+/// The smaller of the result so far and that of one more piece. A piece whose rectangles are no
+/// nearer is not computed.
 pub(crate) fn nearer(
     alloc: Global,
     piece: &Piece<'_, PlaneLine, PlaneLine>,
