@@ -18,7 +18,7 @@ ghost use Rattle.mob_near.specs.Distances.{are_within};
 ghost use Rattle.mob_legs.specs.Legs.{are_some};
 ghost use Rattle.mob_near.specs.Wide.{approach_entries_in, least_approach};
 
-use crate::known::{nothing, square_of};
+use crate::known::{LastFound, nothing, square_of};
 use crate::nearness::{never, share_time};
 use crate::wide::{comes_within_directly, gap_between, given, is_past, nearer_directly};
 use mob_frac::Frac;
@@ -68,6 +68,7 @@ fn runs_come_within(
     w: &[Slice<PlaneLine>],
     d: &Frac,
     square: &Exact,
+    last: &mut LastFound,
 ) -> Result<bool, AllocError>
     requires left { IsRisingInTime (λ c. c.from) (λ c. c.to) v.now }
     requires right { IsRisingInTime (λ c. c.from) (λ c. c.to) w.now }
@@ -75,14 +76,13 @@ fn runs_come_within(
     requires square { square.now ≡ d.now *ℚ d.now }
     ensures value { IfOk result (λ b. b ≡ some_reach square.now (pieces (Slices v.now) (Slices w.now))) }
 {
-    let mut last = nothing();
     for met in SharedPieces::new(v, w) {
         let piece = Piece {
             span: met.span,
             left: Side::Moving(met.left),
             right: Side::Moving(met.right),
         };
-        let here = comes_within_directly(alloc, &piece, d, square, &mut last)?;
+        let here = comes_within_directly(alloc, &piece, d, square, last)?;
         if here {
             return Ok(true);
         }
@@ -100,6 +100,7 @@ fn stretch_comes_within(
     over_w: &Cover,
     d: &Frac,
     square: &Exact,
+    last: &mut LastFound,
 ) -> Result<bool, AllocError>
     requires left { IsRisingInTime (λ c. c.from) (λ c. c.to) v.now }
     requires right { IsRisingInTime (λ c. c.from) (λ c. c.to) w.now }
@@ -112,10 +113,11 @@ fn stretch_comes_within(
     if are_beyond(d, over_v, over_w) {
         return Ok(false);
     }
-    runs_come_within(alloc, run_of(v, over_v), run_of(w, over_w), d, square)
+    runs_come_within(alloc, run_of(v, over_v), run_of(w, over_w), d, square, last)
 }
 
-// Whether the squared distance is at most `square`, that of `d`, at some common instant.
+// Whether the squared distance is at most `square`, that of `d`, at some common instant. The results
+// at the end of a run are kept for the next, which usually begins there.
 #[tactic(auto, using(crate::proofs::Stretches::covers_order, crate::proofs::Stretches::covers_clear, crate::proofs::Stretches::runs_all, crate::proofs::Stretches::left_next, crate::proofs::Stretches::right_next, crate::proofs::Stretches::runs_next, crate::proofs::Stretches::runs_start, crate::proofs::Stretches::runs_missed, crate::proofs::Stretches::runs_hit, crate::proofs::Stretches::all_missed))]
 fn stretches_come_within(
     alloc: Global,
@@ -132,8 +134,9 @@ fn stretches_come_within(
     requires square { square.now ≡ d.now *ℚ d.now }
     ensures value { IfOk result (λ b. b ≡ some_reach square.now (pieces (Slices v.now) (Slices w.now))) }
 {
+    let mut last = nothing();
     for both in SharedPieces::new(over_v, over_w) {
-        let here = stretch_comes_within(alloc, v, both.left, w, both.right, d, square)?;
+        let here = stretch_comes_within(alloc, v, both.left, w, both.right, d, square, &mut last)?;
         if here {
             return Ok(true);
         }
@@ -257,20 +260,20 @@ fn runs_nearer(
     v: &[Slice<PlaneLine>],
     w: &[Slice<PlaneLine>],
     found: Option<Exact>,
+    last: &mut LastFound,
 ) -> Result<Option<Exact>, AllocError>
     requires left { IsRisingInTime (λ c. c.from) (λ c. c.to) v.now }
     requires right { IsRisingInTime (λ c. c.from) (λ c. c.to) w.now }
     ensures value { IfOk result (λ o. o ≡ nearer_of found (least_approach (pieces (Slices v.now) (Slices w.now)))) }
 {
     let mut nearest = found;
-    let mut last = nothing();
     for met in SharedPieces::new(v, w) {
         let piece = Piece {
             span: met.span,
             left: Side::Moving(met.left),
             right: Side::Moving(met.right),
         };
-        let here = nearer_directly(alloc, &piece, nearest, &mut last)?;
+        let here = nearer_directly(alloc, &piece, nearest, last)?;
         nearest = Some(here);
     }
     Ok(nearest)
@@ -284,6 +287,7 @@ fn stretch_counted(
     w: &[Slice<PlaneLine>],
     over_w: &Cover,
     found: Option<Exact>,
+    last: &mut LastFound,
 ) -> Result<Option<Exact>, AllocError>
     requires left { IsRisingInTime (λ c. c.from) (λ c. c.to) v.now }
     requires right { IsRisingInTime (λ c. c.from) (λ c. c.to) w.now }
@@ -291,7 +295,7 @@ fn stretch_counted(
     requires right_run { IsRunOf w.now over_w.now }
     ensures value { IfOk result (λ o. o ≡ nearer_of found (least_approach (pieces (Slices (run_of v.now over_v.now)) (Slices (run_of w.now over_w.now))))) }
 {
-    runs_nearer(alloc, run_of(v, over_v), run_of(w, over_w), found)
+    runs_nearer(alloc, run_of(v, over_v), run_of(w, over_w), found, last)
 }
 
 // The smaller of the result so far and that of the runs of two covers, which are skipped if their
@@ -303,6 +307,7 @@ fn stretch_nearer_than(
     w: &[Slice<PlaneLine>],
     over_w: &Cover,
     found: Exact,
+    last: &mut LastFound,
 ) -> Result<Option<Exact>, AllocError>
     requires left { IsRisingInTime (λ c. c.from) (λ c. c.to) v.now }
     requires right { IsRisingInTime (λ c. c.from) (λ c. c.to) w.now }
@@ -314,7 +319,7 @@ fn stretch_nearer_than(
     if beyond {
         return Ok(Some(found));
     }
-    stretch_counted(alloc, v, over_v, w, over_w, Some(found))
+    stretch_counted(alloc, v, over_v, w, over_w, Some(found), last)
 }
 
 // The smaller of the result so far and that of the runs of two covers, which are skipped if their
@@ -326,6 +331,7 @@ fn stretch_nearer(
     w: &[Slice<PlaneLine>],
     over_w: &Cover,
     found: Option<Exact>,
+    last: &mut LastFound,
 ) -> Result<Option<Exact>, AllocError>
     requires left { IsRisingInTime (λ c. c.from) (λ c. c.to) v.now }
     requires right { IsRisingInTime (λ c. c.from) (λ c. c.to) w.now }
@@ -334,12 +340,13 @@ fn stretch_nearer(
     ensures value { IfOk result (λ o. o ≡ nearer_of found (least_approach (pieces (Slices (run_of v.now over_v.now)) (Slices (run_of w.now over_w.now))))) }
 {
     match found {
-        Some(found) => stretch_nearer_than(alloc, v, over_v, w, over_w, found),
-        None => stretch_counted(alloc, v, over_v, w, over_w, None),
+        Some(found) => stretch_nearer_than(alloc, v, over_v, w, over_w, found, last),
+        None => stretch_counted(alloc, v, over_v, w, over_w, None, last),
     }
 }
 
-// The least approach of two lists of slices.
+// The least approach of two lists of slices. The results at the end of a run are kept for the next,
+// which usually begins there.
 #[tactic(auto, using(crate::proofs::Stretches::covers_order, crate::proofs::Stretches::covers_clear, crate::proofs::Stretches::runs_all, crate::proofs::Stretches::left_next, crate::proofs::Stretches::right_next, crate::proofs::Stretches::runs_next, crate::proofs::Stretches::least_start, crate::proofs::Stretches::runs_counted, crate::proofs::Stretches::all_counted))]
 fn least_of_stretches(
     alloc: Global,
@@ -353,8 +360,9 @@ fn least_of_stretches(
     ensures least { IfOk result (λ o. o ≡ least_approach (pieces (Slices v.now) (Slices w.now))) }
 {
     let mut nearest = None;
+    let mut last = nothing();
     for both in SharedPieces::new(over_v, over_w) {
-        let next = stretch_nearer(alloc, v, both.left, w, both.right, nearest)?;
+        let next = stretch_nearer(alloc, v, both.left, w, both.right, nearest, &mut last)?;
         nearest = next;
     }
     Ok(nearest)
