@@ -1,8 +1,8 @@
 //! The difference of two moving points on a piece of time, and rectangles over runs of slices.
 //!
 //! The nearness of two points on one piece is decided in numbers of any size (`broad_reaches`,
-//! `broad_approach`). `covers_of` makes the rectangles. It is apart from `mob_near`, which takes long
-//! to prove.
+//! `broad_approach`). `covers_of` makes the rectangles. The crate is apart from `mob_near`, which
+//! takes long to prove.
 #![tactic(auto)]
 
 mod broad;

@@ -116,8 +116,8 @@ fn stretch_comes_within(
     runs_come_within(alloc, run_of(v, over_v), run_of(w, over_w), d, square, last)
 }
 
-// Whether the squared distance is at most `square`, that of `d`, at some common instant. The results
-// at the end of a run are kept for the next, which usually begins there.
+// Whether the squared distance is at most `square`, that of `d`, at some common instant. The
+// results at the end of a run are kept for the next, which usually begins there.
 #[tactic(auto, using(crate::proofs::Stretches::covers_order, crate::proofs::Stretches::covers_clear, crate::proofs::Stretches::runs_all, crate::proofs::Stretches::left_next, crate::proofs::Stretches::right_next, crate::proofs::Stretches::runs_next, crate::proofs::Stretches::runs_start, crate::proofs::Stretches::runs_missed, crate::proofs::Stretches::runs_hit, crate::proofs::Stretches::all_missed))]
 fn stretches_come_within(
     alloc: Global,
