@@ -1,0 +1,7 @@
+use Rattle.mob_eval.{specs.Views.{scene_of}, proofs.Recalled.{two_operands}}
+use Rattle.mob_eval.proofs.memory.own_covers.approach_with.Goals as goal
+
+pub moving_approach-requires : goal.moving_approach-requires
+moving_approach-requires g c =
+    let two = two_operands g.K.Remembering.recollection (scene_of c.args.view.now) c.args.operands.now c.one-item.result c.other-item.result c.args.left.now c.args.right.now c.in-len2.len_at_least c.in-len2.len_below c.one-item.is c.other-item.is c.requires.fits c.requires.given in
+    record { fits = two.fits; fits_too = two.fits_too; value = rw (sym c.in-MovingPoint.is) two.value; value_too = rw (sym c.in-MovingPoint-right.is) two.value_too }
