@@ -386,8 +386,8 @@ fn remember_one<K: Remembering>(
 
 /// A memory for the operators of these expressions that name at most one table of FROM, for the
 /// boxes of such operands of `&&`, and in the wide mode for the covers of such operands of eDwithin
-/// and nearestApproachSquared. It remembers about eight, and none that shares its place in the script
-/// with a different one. If an allocation fails, it remembers fewer.
+/// and nearestApproachSquared. It remembers about eight, and none that shares its place in the
+/// script with a different one. If an allocation fails, it remembers fewer.
 pub fn memory_of<K: Remembering>(
     alloc: Global,
     mode: Mode,

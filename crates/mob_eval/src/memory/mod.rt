@@ -1,4 +1,5 @@
-//! The memory: the outcomes of remembered operators, and the boxes and covers of remembered operands.
+//! The memory: the outcomes of remembered operators, and the boxes and covers of remembered
+//! operands.
 ghost use Rattle.std.specs.Prelude.{IfSome};
 ghost use Rattle.mob_meaning.specs.Depends.{HasRow};
 ghost use Rattle.mob_eval.specs.Remembered.{IsMemoOf, IsOfPlace};
@@ -47,8 +48,7 @@ impl<K: Remembering, T> Model for Slot<K, T> {
 }
 
 /// The outcomes of the remembered operators of a query, and the boxes and covers of remembered
-/// operands.
-/// Workers share it without waiting for each other.
+/// operands. Workers share it without waiting for each other.
 #[derive(Drop)]
 pub struct Memory<K: Remembering> {
     slots: Vec<Slot<K, Told<Outcomes<K>>>>,

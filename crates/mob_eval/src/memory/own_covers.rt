@@ -3,41 +3,32 @@
 //!
 //! The covers of a moving point take a pass over its slices. The first evaluation that needs the
 //! covers of such an operand on a row keeps them, and later ones reuse them.
-ghost use Rattle.std.specs.Prelude.{◌≡◌, ◌∷◌, [], Ok, None, IfOk, IfSome};
+ghost use Rattle.std.specs.Prelude.{◌≡◌, ◌∷◌, [], Ok, None, IfSome};
 ghost use Rattle.mob_typed.specs.Trees.{typed_of};
-ghost use Rattle.mob_slice.specs.Entries.{IsFirst, IsJudged};
-ghost use Rattle.mob_slice.specs.Lines.{plane_value_of};
-ghost use Rattle.mob_slice.specs.Sides.{Slices, pieces};
-ghost use Rattle.mob_slice.specs.Slices.{value_at};
-ghost use Rattle.mob_slice.specs.declared.mode.Mode.TheVariants.{Wide};
+ghost use Rattle.mob_slice.specs.Entries.{IsFirst};
 ghost use Rattle.mob_value.specs.Outcomes.{IsOutcome};
 ghost use Rattle.mob_value.specs.declared.value.Value.TheVariants.{MovingPoint as MovingPointOf};
-ghost use Rattle.mob_lift.specs.Sometime.{IsEver};
 ghost use Rattle.mob_legs.specs.Covers.{AreCoversOf};
-ghost use Rattle.mob_near.specs.Approaches.{IsApproach};
-ghost use Rattle.mob_near.specs.Distances.{are_within};
 ghost use Rattle.mob_near.specs.Sql.Entries.{approach_entries, within_entries};
 ghost use Rattle.mob_near.specs.Sql.Nearness.{IsEverWithin, IsNearestApproach};
-ghost use Rattle.mob_near.specs.Wide.{approach_entries_in};
 ghost use Rattle.mob_meaning.specs.Evaluation.{EvaluatesTo, OperandsEvaluateTo};
 ghost use Rattle.mob_eval.specs.Views.{scene_of};
 ghost use Rattle.mob_eval.specs.SoFar.{trees};
-ghost use Rattle.mob_eval.specs.Remembered.{AllFit, Fits, IsCoversTold, IsTold};
+ghost use Rattle.mob_eval.specs.Remembered.{AllFit, Fits, HasCovers, IsCoversTold, IsTold};
 
 use crate::memory::remembered::Remembering;
 use crate::memory::{Memory, covers_memo_of};
 use crate::scene::View;
-use mob_frac::Frac;
 use mob_legs::{Cover, Covers, covers_of};
 use mob_list::fault::Fault;
 use mob_near::sql::nearness::{nearest_approach, within};
-use mob_near::{approach_covered, approach_wide, ever_within_covered, ever_within_wide};
+use mob_near::{approach_covered, ever_within_covered};
 use mob_outcome::memos::{Memo, has_room};
-use mob_slice::{Formula, Mode, Moving, Operand, PlaneLine};
+use mob_slice::{Formula, Mode, Moving, PlaneLine};
 use mob_typed::TExpr;
 use mob_value::Value;
 use mob_value::kinds::{known, plain_number};
-use std::alloc::{AllocError, Global};
+use std::alloc::Global;
 use std::marker::{Model, PhantomData};
 use std::mem::size_of;
 
@@ -93,10 +84,10 @@ fn kept_covers<'a, K: Remembering>(memo: &Memo<'a, ToldCovers<K>>) -> Option<&'a
     }
 }
 
-// About how many bytes the covers of a moving point take: a cover has 32 slices.
+// About how many bytes the covers of a moving point take. There is one for 16 slices.
 fn bytes_for(moving: &Moving<PlaneLine>) -> u64 {
-    let runs = moving.slices().len() as u64 / 32;
-    (size_of::<OwnCovers>() as u64).saturating_add(runs.saturating_mul(size_of::<Cover>() as u64))
+    let covers = moving.slices().len().div_ceil(16) as u64;
+    (size_of::<OwnCovers>() as u64).saturating_add(covers.saturating_mul(size_of::<Cover>() as u64))
 }
 
 // Keeps covers in a memo if it is empty.
@@ -119,10 +110,14 @@ fn keep<K: Remembering>(alloc: Global, memo: &Memo<'_, ToldCovers<K>>, covers: C
     let _set = memo.kept.set(boxed);
 }
 
-// Makes the covers of a moving point and keeps them in a memo, if memory allows.
-fn fill<K: Remembering>(alloc: Global, memo: &Memo<'_, ToldCovers<K>>, moving: &Moving<PlaneLine>)
-    requires told { IsTold K.recollection memo.now.at memo.now.place memo.now.row (Ok (MovingPointOf moving.now)) }
+// Makes the covers of an operand's value, if it is a moving point, and keeps them in a memo, if
+// memory allows.
+fn fill<K: Remembering>(alloc: Global, memo: &Memo<'_, ToldCovers<K>>, value: &Value)
+    requires told { IsTold K.recollection memo.now.at memo.now.place memo.now.row (Ok value.now) }
 {
+    let Value::MovingPoint(moving) = value else {
+        return;
+    };
     if !has_room(memo.taken, bytes_for(moving)) {
         return;
     }
@@ -132,81 +127,74 @@ fn fill<K: Remembering>(alloc: Global, memo: &Memo<'_, ToldCovers<K>>, moving: &
     keep(alloc, memo, covers);
 }
 
-// The covers of a moving point that is an operand's value; from the memory if they are there. There
-// are none if the operand's are not remembered.
+// The covers of an operand's value, if they are remembered. The first call on a row makes them.
 fn covers_with<'a, K: Remembering>(
     alloc: Global,
     operand: &TExpr,
-    moving: &Moving<PlaneLine>,
+    value: &Value,
     view: &View<'a>,
     memory: Option<&'a Memory<K>>,
 ) -> Option<&'a Covers>
     requires fits { Fits K.recollection (scene_of view.now) (typed_of operand.now) }
-    requires value { EvaluatesTo (scene_of view.now) operand.now (Ok (MovingPointOf moving.now)) }
-    ensures own { IfSome result (λ c. AreCoversOf moving.now c.now) }
+    requires value { EvaluatesTo (scene_of view.now) operand.now (Ok value.now) }
+    ensures own { IfSome result (λ c. HasCovers value.now c.now) }
 {
     let Some(memo) = covers_memo_of(alloc, memory, operand.place, view.tuple) else {
         return None;
     };
     if memo.kept.get().is_none() {
-        fill(alloc, &memo, moving);
+        fill(alloc, &memo, value);
     }
     kept_covers(&memo)
 }
 
-// Whether two moving points are within a distance at some instant at which both are defined.
-fn moving_within<'a, K: Remembering>(
-    alloc: Global,
-    one: &TExpr,
-    a: &Moving<PlaneLine>,
-    other: &TExpr,
-    b: &Moving<PlaneLine>,
-    d: &Frac,
-    view: &View<'a>,
-    memory: Option<&'a Memory<K>>,
-) -> Result<Option<bool>, AllocError>
-    requires fits { Fits K.recollection (scene_of view.now) (typed_of one.now) }
-    requires fits_too { Fits K.recollection (scene_of view.now) (typed_of other.now) }
-    requires value { EvaluatesTo (scene_of view.now) one.now (Ok (MovingPointOf a.now)) }
-    requires value_too { EvaluatesTo (scene_of view.now) other.now (Ok (MovingPointOf b.now)) }
-    ensures value { IfOk result (IsEver (are_within d.now) (value_at plane_value_of a.now) (value_at plane_value_of b.now)) }
+// The moving point that has these covers.
+fn moving_of<'v>(value: &'v Value, covers: &Covers) -> &'v Moving<PlaneLine>
+    requires covers { HasCovers value.now covers.now }
+    ensures moving { value.now ≡ MovingPointOf result.now }
+    ensures covers { AreCoversOf result.now covers.now }
 {
-    let Some(over_a) = covers_with(alloc, one, a, view, memory) else {
-        return ever_within_wide(alloc, Operand::Moving(a), Operand::Moving(b), d);
-    };
-    let Some(over_b) = covers_with(alloc, other, b, view, memory) else {
-        return ever_within_wide(alloc, Operand::Moving(a), Operand::Moving(b), d);
-    };
-    ever_within_covered(alloc, a, over_a, b, over_b, d)
+    match value {
+        Value::MovingPoint(moving) => moving,
+        _ => unreachable!(),
+    }
 }
 
-// The square of the least distance between two moving points.
-fn moving_approach<'a, K: Remembering>(
+// eDwithin: in the wide mode by the covers of its operands, if both are remembered.
+fn within_by(
     alloc: Global,
-    one: &TExpr,
-    a: &Moving<PlaneLine>,
-    other: &TExpr,
-    b: &Moving<PlaneLine>,
-    view: &View<'a>,
-    memory: Option<&'a Memory<K>>,
-) -> Result<Option<Frac>, Fault<Formula>>
-    requires fits { Fits K.recollection (scene_of view.now) (typed_of one.now) }
-    requires fits_too { Fits K.recollection (scene_of view.now) (typed_of other.now) }
-    requires value { EvaluatesTo (scene_of view.now) one.now (Ok (MovingPointOf a.now)) }
-    requires value_too { EvaluatesTo (scene_of view.now) other.now (Ok (MovingPointOf b.now)) }
-    ensures value { IfOk result (IsApproach (value_at plane_value_of a.now) (value_at plane_value_of b.now)) }
-    ensures first { IsJudged (approach_entries_in Wide (pieces (Slices a.now) (Slices b.now))) result }
+    mode: Mode,
+    left: &Value,
+    over_left: Option<&Covers>,
+    right: &Value,
+    over_right: Option<&Covers>,
+    distance: &Value,
+) -> Result<Value, Fault<Formula>>
+    requires left { IfSome over_left (λ c. HasCovers left.now c.now) }
+    requires right { IfSome over_right (λ c. HasCovers right.now c.now) }
+    ensures outcome { IsOutcome (IsEverWithin left.now right.now distance.now) (IsFirst (within_entries mode left.now right.now distance.now)) result }
 {
-    let Some(over_a) = covers_with(alloc, one, a, view, memory) else {
-        return approach_wide(alloc, Operand::Moving(a), Operand::Moving(b));
+    let Mode::Wide = mode else {
+        return within(alloc, mode, left, right, distance);
     };
-    let Some(over_b) = covers_with(alloc, other, b, view, memory) else {
-        return approach_wide(alloc, Operand::Moving(a), Operand::Moving(b));
+    let Some(over_a) = over_left else {
+        return within(alloc, mode, left, right, distance);
     };
-    approach_covered(alloc, a, over_a, b, over_b)
+    let Some(over_b) = over_right else {
+        return within(alloc, mode, left, right, distance);
+    };
+    let Value::Number(d) = distance else {
+        return within(alloc, mode, left, right, distance);
+    };
+    let a = moving_of(left, over_a);
+    let b = moving_of(right, over_b);
+    match ever_within_covered(alloc, a, over_a, b, over_b, d) {
+        Ok(near) => Ok(known(near)),
+        Err(_) => Err(Fault::NoMemory),
+    }
 }
 
-/// eDwithin in the wide mode with a memory, which gives the covers of its operands.
+/// eDwithin with a memory, which gives the covers of its operands in the wide mode.
 pub fn within_with<'a, K: Remembering>(
     alloc: Global,
     operands: &[TExpr],
@@ -218,27 +206,50 @@ pub fn within_with<'a, K: Remembering>(
 ) -> Result<Value, Fault<Formula>>
     requires fits { AllFit K.recollection (scene_of view.now) (trees operands.now) }
     requires given { OperandsEvaluateTo (scene_of view.now) None (trees operands.now) (Ok (left.now ∷ right.now ∷ distance.now ∷ [])) }
-    ensures outcome { IsOutcome (IsEverWithin left.now right.now distance.now) (IsFirst (within_entries Wide left.now right.now distance.now)) result }
+    ensures outcome { IsOutcome (IsEverWithin left.now right.now distance.now) (IsFirst (within_entries view.now.terms.now.mode left.now right.now distance.now)) result }
 {
-    let Value::MovingPoint(a) = left else {
-        return within(alloc, Mode::Wide, left, right, distance);
-    };
-    let Value::MovingPoint(b) = right else {
-        return within(alloc, Mode::Wide, left, right, distance);
-    };
-    let Value::Number(d) = distance else {
-        return within(alloc, Mode::Wide, left, right, distance);
-    };
+    let mode = view.terms.mode;
     match operands {
         [one, other, _] => {
-            let near = moving_within(alloc, one, a, other, b, d, view, memory)?;
-            Ok(known(near))
+            let over_left = covers_with(alloc, one, left, view, memory);
+            let over_right = covers_with(alloc, other, right, view, memory);
+            within_by(alloc, mode, left, over_left, right, over_right, distance)
         }
-        _ => within(alloc, Mode::Wide, left, right, distance),
+        _ => within(alloc, mode, left, right, distance),
     }
 }
 
-/// nearestApproachSquared in the wide mode with a memory, which gives the covers of its operands.
+// nearestApproachSquared: in the wide mode by the covers of its operands, if both are remembered.
+fn approach_by(
+    alloc: Global,
+    mode: Mode,
+    left: &Value,
+    over_left: Option<&Covers>,
+    right: &Value,
+    over_right: Option<&Covers>,
+) -> Result<Value, Fault<Formula>>
+    requires left { IfSome over_left (λ c. HasCovers left.now c.now) }
+    requires right { IfSome over_right (λ c. HasCovers right.now c.now) }
+    ensures outcome { IsOutcome (IsNearestApproach left.now right.now) (IsFirst (approach_entries mode left.now right.now)) result }
+{
+    let Mode::Wide = mode else {
+        return nearest_approach(alloc, mode, left, right);
+    };
+    let Some(over_a) = over_left else {
+        return nearest_approach(alloc, mode, left, right);
+    };
+    let Some(over_b) = over_right else {
+        return nearest_approach(alloc, mode, left, right);
+    };
+    let a = moving_of(left, over_a);
+    let b = moving_of(right, over_b);
+    match approach_covered(alloc, a, over_a, b, over_b) {
+        Ok(square) => Ok(plain_number(square)),
+        Err(fault) => Err(fault),
+    }
+}
+
+/// nearestApproachSquared with a memory, which gives the covers of its operands in the wide mode.
 pub fn approach_with<'a, K: Remembering>(
     alloc: Global,
     operands: &[TExpr],
@@ -249,19 +260,15 @@ pub fn approach_with<'a, K: Remembering>(
 ) -> Result<Value, Fault<Formula>>
     requires fits { AllFit K.recollection (scene_of view.now) (trees operands.now) }
     requires given { OperandsEvaluateTo (scene_of view.now) None (trees operands.now) (Ok (left.now ∷ right.now ∷ [])) }
-    ensures outcome { IsOutcome (IsNearestApproach left.now right.now) (IsFirst (approach_entries Wide left.now right.now)) result }
+    ensures outcome { IsOutcome (IsNearestApproach left.now right.now) (IsFirst (approach_entries view.now.terms.now.mode left.now right.now)) result }
 {
-    let Value::MovingPoint(a) = left else {
-        return nearest_approach(alloc, Mode::Wide, left, right);
-    };
-    let Value::MovingPoint(b) = right else {
-        return nearest_approach(alloc, Mode::Wide, left, right);
-    };
+    let mode = view.terms.mode;
     match operands {
         [one, other] => {
-            let square = moving_approach(alloc, one, a, other, b, view, memory)?;
-            Ok(plain_number(square))
+            let over_left = covers_with(alloc, one, left, view, memory);
+            let over_right = covers_with(alloc, other, right, view, memory);
+            approach_by(alloc, mode, left, over_left, right, over_right)
         }
-        _ => nearest_approach(alloc, Mode::Wide, left, right),
+        _ => nearest_approach(alloc, mode, left, right),
     }
 }
