@@ -147,17 +147,7 @@ chains_no_open : (k : Rank) (t : PlacedSymbol) → chains k t ≡ true → is_si
 chains_no_open k t c h = let e = token_is Open t h in let f : chains k (sign Open t.place) ≡ true = subst (λ v. chains k v ≡ true) e c in no k t.place f where
   no : (k : Rank) (p : ℕ) → chains k (sign Open p) ≡ true → ⊥
   no disjunction p h = cc h
-  no conjunction p h = cc h
-  no other_rank p h = cc h
-  no sum p h = cc h
-  no product p h = cc h
-  no negation p h = cc h
-  no nullness p h = cc h
-  no comparison p h = cc h
-  no complement p h = cc h
-  no signed p h = cc h
-  no cast p h = cc h
-  no primary p h = cc h
+  no _ p h = cc h
 
 prefix_no_count : (k : Rank) (t : PlacedSymbol) → prefixes k t ≡ true → is_count t ≡ false
 prefix_no_count k t c = elim (cases_Bool (is_count t)) [
@@ -166,17 +156,7 @@ prefix_no_count k t c = elim (cases_Bool (is_count t)) [
 ] where
   no : (k : Rank) (p : ℕ) → prefixes k (identifier (codes "count") p) ≡ true → ⊥
   no disjunction p h = cc h
-  no conjunction p h = cc h
-  no other_rank p h = cc h
-  no sum p h = cc h
-  no product p h = cc h
-  no negation p h = cc h
-  no nullness p h = cc h
-  no comparison p h = cc h
-  no complement p h = cc h
-  no signed p h = cc h
-  no cast p h = cc h
-  no primary p h = cc h
+  no _ p h = cc h
 
 arguments_no_times : {l r : List PlacedSymbol} {es : Trees} → Arguments l es r → starts Times l ≡ false
 arguments_no_times nothing = refl
