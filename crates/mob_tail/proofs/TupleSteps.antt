@@ -11,10 +11,6 @@ use Rattle.mob_tail.{specs.GroupSteps.{column_seen, IsColumnWith, IsMemoWith, Fa
 use Rattle.mob_operators.{specs.declared.aggregate.AggKind.{AggKind}, specs.declared.aggregate.AggKind.TheVariants.{CountAll}}
 use Rattle.mob_meaning.specs.declared.terms.Terms.{Terms}
 
-pub length_more : {A : Type 0} (xs : List A) (x : A) → length (xs ++ x ∷ []) ≡ length xs + 1
-length_more [] x = omega arith
-length_more (y ∷ xs) x = let e = length_more xs x in omega (arith, e)
-
 -- the results for the entries up to one, and for that one
 pub map_more : {A B : Type 0} (f : A → B) (xs : List A) (i : ℕ) (x : A) → i < length xs → x ≡ get_or xs i x → map f (take i xs) ++ f x ∷ [] ≡ map f (take (i + 1) xs)
 map_more f xs i x lt is = sym (ap (map f) (take_more xs i x lt ∙ ap (λ z. take i xs ++ z ∷ []) (sym is)) ∙ map-append f (take i xs) (x ∷ []))

@@ -3,7 +3,7 @@
 -- tree.
 use Rattle.std.{specs.Prelude.{IfSome, nat_le, nat_lt, not, codes, is_some, slice_get, option_map, option_and_then}, specs.List.{AllByRecursion}}
 use Rattle.std.proofs.Common.{◌≡◌, ◌<◌, ◌∙◌, ◌+◌, arith, refl, sym, ap, subst, ℕ, List, [], ◌∷◌, ◌++◌, append_assoc, length, length-append, map, Bool, true, false, cond, Option, Some, None, Ok}
-use Rattle.std.{proofs.lemmas.Bool.Decides.{nat_tests}, proofs.lemmas.List.{length-map, map-append}, proofs.lemmas.Option.{slice_get_within}}
+use Rattle.std.{proofs.lemmas.Bool.{not-false}, proofs.lemmas.Bool.Decides.{nat_tests}, proofs.lemmas.List.{length-map, map-append}, proofs.lemmas.Option.{slice_get_within}}
 use Rattle.mob_ast.{specs.declared.types.Word.{Word}, specs.declared.types.TypeWord.{TypeWord}, specs.declared.types.SqlType.{SqlType}, specs.declared.expression.Node.{Node}}
 use Rattle.mob_ast.specs.Trees.{Tree, tree, Trees, none as no_trees, more as more_trees}
 use Rattle.mob_operators.{specs.declared.operator.Op.{Op}, specs.declared.operator.Spelling.{Spelling}, specs.Lookup.{found_in}, specs.Table.{table, is_irrational}}
@@ -20,7 +20,7 @@ use Rattle.mob_grammar.{specs.Places.{IsWithin, nothing, same, literal_place, tr
 use Rattle.mob_grammar.proofs.Within.{within_all, within_back}
 use Rattle.mob_typing.specs.Stands.{operators_in}
 use Rattle.mob_typing.specs.WellTyped.{column_type, from_type, HasNamedType, HasNamedTypes, IsNumberLiteral, the_number, HasDivisor, is_division, FitsArguments, IsOperated}
-use Rattle.mob_typing.proofs.Walk.{GivesOrStops, gives, stops, then, also, passes, finds, not_false, adds_none, adds_one, adds_within, adds_both, Steps, Stays, still}
+use Rattle.mob_typing.proofs.Walk.{GivesOrStops, gives, stops, then, also, passes, finds, adds_none, adds_one, adds_within, adds_both, Steps, Stays, still}
 use Rattle.mob_typing.proofs.OperatorRows.{is_of_table, found_of_table, names_nothing, reads_nothing, row_fits, division_alone, has_row, own_cast, keeps_number, sign_keeps, behind_sign}
 use Rattle.mob_typing.proofs.Sound.{slice_more, slice_behind, slice_map, both_true, all_above, all_below, entry_stands, part_here, constant_here, literal_stays, operands_hold}
 use Rattle.mob_typing.proofs.Sound.{all_operated, all_placed, types_are, IsSound, sound_stays}
@@ -299,7 +299,7 @@ module _ (At : ℕ → Type 0) (tables : List ColumnList) (all : List (List ℕ 
   finished_walked (node.Cast w) p args ts cs at sites h =
       then (finds kind.UnknownName w.name.place (type_named w.name.text w.inner) sites.0) (λ ty is.
       then (passes (not (can_cast_all (types_of ts) ty)) kind.NoSuchOperator p at) (λ _ can.
-      gives (node_sound op.Cast ty p args cs ts h tt (refl, refl) (ap (λ tys. can_cast_all tys ty) (types_are ts) ∙ not_false (can_cast_all (types_of ts) ty) can) at, tt)))
+      gives (node_sound op.Cast ty p args cs ts h tt (refl, refl) (ap (λ tys. can_cast_all tys ty) (types_are ts) ∙ not-false (can_cast_all (types_of ts) ty) can) at, tt)))
   finished_walked node.Not p args ts cs at sites h = plainly_applied form.Word (codes "not") p args ts cs at h
   finished_walked node.And p args ts cs at sites h = plainly_applied form.Word (codes "and") p args ts cs at h
   finished_walked node.Or p args ts cs at sites h = plainly_applied form.Word (codes "or") p args ts cs at h

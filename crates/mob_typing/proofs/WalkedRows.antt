@@ -1,6 +1,6 @@
 -- The walk over the rows of an INSERT.
 use Rattle.std.{specs.Prelude.{IfSome, not, codes}, specs.List.{AllByRecursion, AllZip, flat_map}, proofs.Common.{◌≡◌, ◌==◌, refl, ap, ℕ, suc, List, [], ◌∷◌, ◌++◌, length, Option, Some, None}}
-use Rattle.std.proofs.lemmas.Bool.{eqb-true}
+use Rattle.std.proofs.lemmas.Bool.{eqb-true, not-false}
 use Rattle.mob_list.proofs.Each.{each_parts}
 use Rattle.mob_ast.{specs.declared.types.TypeWord.{TypeWord}, specs.declared.types.SqlType.{SqlType}, specs.declared.expression.Node.{Node}}
 use Rattle.mob_ast.specs.Trees.{Tree, tree, Trees, none as no_trees, more as more_trees, RowParts}
@@ -8,7 +8,7 @@ use Rattle.mob_operators.specs.Lookup.{same_type}
 use Rattle.mob_typed.{specs.declared.typed.ConstText.{ConstText}, specs.Statements.{ColumnList}}
 use Rattle.mob_expression.{specs.Words.{literal_type}, specs.Expressions.{is_signed}}
 use Rattle.mob_typing.{specs.Statements.{lone_number, signed_value, bool_value, typed_value, node_value, tree_value, row_values, typed_row, typed_rows}, specs.WellTyped.{IsOfColumn}}
-use Rattle.mob_typing.proofs.Walk.{GivesOrStops, gives, stops, then, also, passes, finds, not_false, adds_none, adds_one, adds_within, adds_both, Steps, still}
+use Rattle.mob_typing.proofs.Walk.{GivesOrStops, gives, stops, then, also, passes, finds, adds_none, adds_one, adds_within, adds_both, Steps, still}
 use Rattle.mob_typing.proofs.Sound.{constant_here, value_stays, row_stays}
 use Rattle.mob_grammar.{specs.Places.{IsWithin, nothing, other, same, literal_place, tree_places, trees_places, row_places}, specs.Sites.{node_sites, tree_sites, trees_sites, row_sites}}
 use Rattle.mob_grammar.proofs.Within.{within_all}
@@ -73,7 +73,7 @@ module _ (At : ℕ → Type 0) (n : ℕ) where
   row_walked : (columns : ColumnList) (r : RowParts) (cs : List ConstText) → AllByRecursion At (row_sites r) → GivesOrStops At (Steps n (row_places r) (λ ds vs. AllZip (IsOfColumn ds) columns vs) cs) (typed_row n columns r cs)
   row_walked columns r cs h =
       then (passes (not (length r.values == length columns)) kind.BadCount r.place h.0) (λ _ as_many.
-      also (values_walked columns r.values cs (eqb-true (length r.values) (length columns) (not_false (length r.values == length columns) as_many)) h.1)
+      also (values_walked columns r.values cs (eqb-true (length r.values) (length columns) (not-false (length r.values == length columns) as_many)) h.1)
       (λ x q. record { adds = adds_within (other (within_all (flat_map tree_places r.values))) q.adds; sound = q.sound }))
 
   pub rows_walked : (columns : ColumnList) (rs : List RowParts) (cs : List ConstText) → AllByRecursion At (flat_map row_sites rs)

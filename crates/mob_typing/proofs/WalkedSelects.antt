@@ -2,7 +2,7 @@
 use Rattle.std.{specs.Prelude.{IfSome, not, nat_le, nat_lt, slice_get, slice_range, option_map, option_and_then}, specs.List.{AllByRecursion, AllZip, IsDistinct, flat_map, list_any}}
 use Rattle.std.specs.Str.{bytes_eq}
 use Rattle.std.proofs.Common.{◌≡◌, ◌==◌, ◌≤◌, ◌<◌, ◌+◌, ◌-◌, ◌^◌, ◌∙◌, ◌⊎◌, inl, inr, ◌||◌, refl, sym, ap, subst, arith, Bool, true, false, cond, ℕ, zero, suc, List, [], ◌∷◌, ◌++◌, append_assoc}
-use Rattle.std.{proofs.Common.{append-nil, length, length-append, map, take, drop, Option, Some, None, Result, Ok, Err}, proofs.lemmas.Bool.{leb-false, or_parts}}
+use Rattle.std.{proofs.Common.{append-nil, length, length-append, map, take, drop, Option, Some, None, Result, Ok, Err}, proofs.lemmas.Bool.{leb-false, not-false, or_parts}}
 use Rattle.std.{proofs.lemmas.Bool.Decides.{nat_tests}, proofs.lemmas.List.{length-map, length-drop, length-take-le, take-append-drop, nil_from_length}, proofs.lemmas.List.Folds.{drop_split}}
 use Rattle.std.proofs.lemmas.Option.{slice_get_within}
 use Rattle.mob_ast.{specs.declared.types.Word.{Word}, specs.declared.types.SqlType.{SqlType}, specs.Trees.{Tree, tree, Trees, ItemParts, every, one, count_all, FromParts, KeyParts, SelectParts}}
@@ -17,7 +17,7 @@ use Rattle.mob_expression.specs.Steps.{one_more}
 use Rattle.mob_typing.{specs.Names.{table_of}, specs.Selects.{from_name, from_table, from_tables, typed_select}, specs.Stands.{operators_in, aggregate_place, query_operators}}
 use Rattle.mob_typing.specs.WellTyped.{column_type, from_type, HasNamedTypes, IsOperated, condition_alone, AreOfSources, column_in, columns_in, IsGroup, IsAggregateOf, IsTypedItem, IsTypedKey}
 use Rattle.mob_typing.specs.WellTyped.{IsTypedQuery, IsTypedDeletion}
-use Rattle.mob_typing.proofs.Walk.{GivesOrStops, gives, stops, then, also, passes, finds, not_false, Adds, adds_none, adds_within, adds_both, Steps, Stays, still, all_stay}
+use Rattle.mob_typing.proofs.Walk.{GivesOrStops, gives, stops, then, also, passes, finds, Adds, adds_none, adds_within, adds_both, Steps, Stays, still, all_stay}
 use Rattle.mob_typing.{proofs.Apart.{entry_last}, proofs.Sound.{slice_map, entry_stands, IsSound, both_true, sound_stays}}
 use Rattle.mob_typing.proofs.WalkedExpressions.{AreThere, numbers_of, IsPart, IsFound, column_walked, arguments_walked, expression_walked}
 use Rattle.mob_clauses.specs.Conditions.{condition, is_bool, tree_place, source_start, seen_by_on, joins_from, typed_joins}
@@ -55,7 +55,7 @@ zip_both R [] (y ∷ ys) us vs h k = absurd h
 zip_both R (x ∷ xs) [] us vs h k = absurd h
 zip_both R (x ∷ xs) (y ∷ ys) us vs h k = (h.0, zip_both R xs ys us vs h.1 k)
 
-zip_on : {A B : Type 0} (R S : A → B → Type 0) → ((x : A) (y : B) → R x y → S x y) → (xs : List A) (ys : List B) → AllZip R xs ys → AllZip S xs ys
+pub zip_on : {A B : Type 0} (R S : A → B → Type 0) → ((x : A) (y : B) → R x y → S x y) → (xs : List A) (ys : List B) → AllZip R xs ys → AllZip S xs ys
 zip_on R S f [] [] h = tt
 zip_on R S f [] (y ∷ ys) h = absurd h
 zip_on R S f (x ∷ xs) [] h = absurd h
@@ -146,7 +146,7 @@ module _ (At : ℕ → Type 0) (tables : List ColumnList) (all : List (List ℕ 
   pub some_condition_walked : (t : Tree) (cs : List ConstText) → AllByRecursion At (tree_sites t) → GivesOrStops At (Steps s.statement (tree_places t) IsCondition cs) (condition s (Some t) cs)
   some_condition_walked t cs h =
       then (expression_walked At tables all there s part t cs h) (λ r q.
-      then (passes (not (is_bool (type_of r.0))) kind.NoSuchOperator (tree_place t) (own_place At t h)) (λ _ is. gives (record { adds = q.adds; sound = (r.0, refl, q.sound, not_false (is_bool (type_of r.0)) is) })))
+      then (passes (not (is_bool (type_of r.0))) kind.NoSuchOperator (tree_place t) (own_place At t h)) (λ _ is. gives (record { adds = q.adds; sound = (r.0, refl, q.sound, not-false (is_bool (type_of r.0)) is) })))
 
 -- the part of FROM that the ON of table n sees
 module _ (s : ScopeParts) (k n : ℕ) (start : k ≤ n) (within : n < length s.from) where
@@ -361,7 +361,7 @@ module _ (At : ℕ → Type 0) (tables : List ColumnList) (s : ScopeParts) (begi
         by (Err w) is (stops at) = stops at
         by (Ok f) is (gives found) =
             then (passes (not (is_key f.ty)) kind.NoSuchOperator p h.0) (λ _ key. gives (
-              (λ cs. record { named = (found.0, tt); operated = (refl, tt); placed = (h.0, tt); above = both_true (nat_le s.first f.from) true found.1.0 refl; below = both_true (nat_lt f.from past) true found.1.1 refl }, (refl, not_false (is_key f.ty) key)),
+              (λ cs. record { named = (found.0, tt); operated = (refl, tt); placed = (h.0, tt); above = both_true (nat_le s.first f.from) true found.1.0 refl; below = both_true (nat_lt f.from past) true found.1.1 refl }, (refl, not-false (is_key f.ty) key)),
               sym (ap column_numbers is),
             ))
     group_walked (tree nd p args) h = stops h.0
@@ -422,10 +422,10 @@ module _ (At : ℕ → Type 0) (tables : List ColumnList) (s : ScopeParts) (begi
             then {Q = Steps n (key_places k) (λ ds t. Holds ds t × ((is_key (type_of t) ≡ true) × (is_ungrouped g t ≡ false))) cs}
             (then (expression_walked At tables s.from there s whole k.value cs h) (λ r q.
             then (passes (not (is_key (type_of r.0))) kind.NoSuchOperator (tree_place k.value) place) (λ _ key.
-            then (passes (is_ungrouped g r.0) kind.NoSuchOperator (tree_place k.value) place) (λ _ own. gives (record { adds = q.adds; sound = (q.sound, (not_false (is_key (type_of r.0)) key, own)) })))))
+            then (passes (is_ungrouped g r.0) kind.NoSuchOperator (tree_place k.value) place) (λ _ own. gives (record { adds = q.adds; sound = (q.sound, (not-false (is_key (type_of r.0)) key, own)) })))))
             (λ r q. gives (record { adds = q.adds; sound = ((q.sound.0, λ _. q.sound.1.0), q.sound.1) }))
         by (Some x) is =
-            then {Q = λ r. (r ≡ (x.1.0, cs)) × (is_key x.1.1 ≡ true)} (then (passes (not (is_key x.1.1)) kind.NoSuchOperator (tree_place k.value) place) (λ _ key. gives (refl, not_false (is_key x.1.1) key)))
+            then {Q = λ r. (r ≡ (x.1.0, cs)) × (is_key x.1.1 ≡ true)} (then (passes (not (is_key x.1.1)) kind.NoSuchOperator (tree_place k.value) place) (λ _ key. gives (refl, not-false (is_key x.1.1) key)))
             (λ r q.
             let alias = alias_stands o k.value x is in
             let y = alias.0 in
@@ -527,7 +527,7 @@ module _ (At : ℕ → Type 0) (tables : List ColumnList) (s : ScopeParts) (begi
 
     -- an expression that is not outside the groups is one of them
     of_groups : (b : Bool) (columns : List ColumnNumbers) (t : TypedTree) → is_ungrouped (cond b (Some columns) None) t ≡ false → b ≡ true → is_column columns t ≡ true
-    of_groups true columns t h so = not_false (is_column columns t) h
+    of_groups true columns t h so = not-false (is_column columns t) h
     of_groups false columns t h so = absurd (cc)
 
     query_typed : (cs : List ConstText) (o : OutputLists) (js : List (Option TypedTree)) (c : Option TypedTree) (gr : List TypedTree) (ks : List (TypedTree × Bool)) (l : Option ℕ) → length s.from ≤ 4 → IsDistinct bytes_eq (names_of s.from) → length x.from ≡ length s.from

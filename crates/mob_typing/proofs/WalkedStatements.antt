@@ -2,7 +2,7 @@
 -- of a mistake.
 use Rattle.std.{specs.Prelude.{not, codes, nat_le, slice_get, option_map, option_and_then}, specs.List.{AllByRecursion, IsDistinct, flat_map}, specs.Str.{bytes_eq}}
 use Rattle.std.proofs.Common.{◌≡◌, ◌≤◌, ◌<◌, ◌+◌, ◌∙◌, refl, sym, ap, subst, arith, ℕ, List, [], ◌∷◌, ◌++◌, append-nil, length, length-append, map, true, Option, Some, None, Result}
-use Rattle.std.{proofs.lemmas.Bool.{leb-false}, proofs.lemmas.List.{length-map, map-append}, proofs.lemmas.Option.{slice_get_within}}
+use Rattle.std.{proofs.lemmas.Bool.{leb-false, not-false}, proofs.lemmas.List.{length-map, map-append}, proofs.lemmas.Option.{slice_get_within}}
 use Rattle.mob_list.proofs.Each.{each_parts}
 use Rattle.mob_ast.{specs.declared.types.Word.{Word}, specs.declared.types.Quoted.{Quoted}, specs.declared.types.TypeWord.{TypeWord}, specs.declared.types.SqlType.{SqlType}}
 use Rattle.mob_ast.specs.Trees.{RowParts, StatementParts, empty, create_table, create_index, insert, copy, delete, select, explain}
@@ -12,7 +12,7 @@ use Rattle.mob_scope.{specs.declared.fault.Mistake.{Mistake}, specs.Names.{colum
 use Rattle.mob_expression.specs.Words.{type_named}
 use Rattle.mob_typing.{specs.Names.{NameLists, table_of}, specs.Statements.{Made, with_column, with_columns, made_table, made_index, inserted, good_delimiter, copied, keeping, typed_statement}}
 use Rattle.mob_typing.{specs.Stands.{operators_of}, specs.WellTyped.{IsTypedStatement, tables_behind, table_made, index_made}}
-use Rattle.mob_typing.{proofs.Walk.{GivesOrStops, gives, then, also, passes, finds, not_false, adds_none, Steps}, proofs.Apart.{name_last, none_named, entry_last}, proofs.Sound.{entry_stands}}
+use Rattle.mob_typing.{proofs.Walk.{GivesOrStops, gives, then, also, passes, finds, adds_none, Steps}, proofs.Apart.{name_last, none_named, entry_last}, proofs.Sound.{entry_stands}}
 use Rattle.mob_typing.{proofs.WalkedRows.{rows_walked}, proofs.WalkedSelects.{named, table_there, delete_walked, select_walked}}
 use Rattle.mob_grammar.{specs.Places.{IsWithin, nothing as none_within, same, tree_places, row_places, statement_places}, specs.Sites.{string_sites, column_sites, row_sites, statement_sites}}
 use Rattle.mob_grammar.proofs.Within.{within_back}
@@ -118,7 +118,7 @@ module _ (At : ℕ → Type 0) where
         gives (λ consts. record {
           typed =
               ap (option_and_then (λ (columns : ColumnList). option_map (λ k. k.1) (slice_get columns c.0))) (table_there names.tables table.text t there) ∙ ap (option_map (λ (k : List ℕ × SqlType). k.1)) entry.1
-              ∙ ap (λ ty. Some ty) (entry.2 ∙ point_alone c.1 (not_false (same_type c.1 sql.TPoint) point));
+              ∙ ap (λ ty. Some ty) (entry.2 ∙ point_alone c.1 (not-false (same_type c.1 sql.TPoint) point));
           behind = refl;
           tables = sym (append-nil (names_of names.tables));
           indexes = refl;
