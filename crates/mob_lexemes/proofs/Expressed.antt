@@ -64,8 +64,8 @@ is_calm (separated m f) k = cond (is_quiet m) (is_calm f (only_mark m ∪ k)) fa
 abbrev end_kinds : TokenKinds
 end_kinds = only_mark Semicolon
 
--- Outside SELECT and DELETE the form has no expression. If it is the last of a statement, one of them
--- may begin in it.
+-- Outside SELECT and DELETE the form has no expression. If it is the last of a statement, one of
+-- them may begin in it.
 abbrev is_skipped : Bool → {a : Sort} → Form a → Bool
 is_skipped last (built a v) = true
 is_skipped last (mark m) = cond (begins_expressions m) false true
