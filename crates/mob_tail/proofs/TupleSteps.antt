@@ -82,6 +82,6 @@ fails_at s first zero (a ∷ old) (b ∷ now) c f lt is h k = inl (subst (λ z. 
 fails_at s first (suc n) (a ∷ old) (b ∷ now) c f lt is h k = inr (b.state, h.0.state, fails_at s first n old now c f (omega (arith, lt)) is h.1 k)
 
 -- a value of the state, if it is so for each kind
-pub held_value : (c : AnswerColumn) (x : State) (r : Value) → IsKeptOf c x r → (v : Value) → ((kind : AggKind) (r : Value) → IsKeptIn kind x r → v ≡ r) → v ≡ r
-held_value (e, None) x r h v f = f CountAll r (subst (λ z. IsKeptIn CountAll z r) (sym h) refl)
-held_value (e, Some agg) x r h v f = f agg.kind r h
+pub kept_value : (c : AnswerColumn) (x : State) (r : Value) → IsKeptOf c x r → (v : Value) → ((kind : AggKind) (r : Value) → IsKeptIn kind x r → v ≡ r) → v ≡ r
+kept_value (e, None) x r h v f = f CountAll r (subst (λ z. IsKeptIn CountAll z r) (sym h) refl)
+kept_value (e, Some agg) x r h v f = f agg.kind r h
