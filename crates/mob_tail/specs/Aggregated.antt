@@ -131,7 +131,7 @@ sum_numbers (MovingInt m) = flat_map (λ s. s.span.lower ∷ s.span.upper ∷ s.
 sum_numbers (MovingFrac m) = flat_map (λ s. s.span.lower ∷ s.span.upper ∷ s.course.from ∷ s.course.to ∷ []) m
 sum_numbers _ = []
 
--- the entries of adding a to r, where u is the sum: those of `+`, and over time the numbers of the sum
+-- the entries of adding a to r, where u is the sum: those of `+`, and over time the numbers of u
 abbrev pub wide_adding_entries : AggKind → SqlType → Value → Value → Value → List Entry
 wide_adding_entries TAnd ty r a u = []
 wide_adding_entries TOr ty r a u = []

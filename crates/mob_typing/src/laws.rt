@@ -13,8 +13,8 @@ pub fn scripts_are_well_typed()
 {}
 
 /// A refusal of a name or a type is at a site of the tree of the statement that it names: the place
-/// of a node, a word or a string. Each operator and each aggregate of a typed script is at a site of
-/// the tree of its statement.
+/// of a node, a word or a string. Each operator and each aggregate of a typed script is at a site
+/// of the tree of its statement.
 pub fn places_are_sites()
     ensures refusals { TypingRefusesAtSites }
     ensures operators { OperatorsAreAtSites }
