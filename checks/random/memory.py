@@ -12,7 +12,9 @@ size. The others read the table of their example. It needs gcc. The rules:
 - its notes are the line of that status;
 - under status 0 it writes what the run writes that is refused nothing;
 - under any other status mobsql writes the first few whole answers of that run, and the other
-  programs write nothing.
+  programs write nothing;
+- with --wide mobsql asks for as much memory as without it for nearness whose steps fit 62 bits, and
+  for more if one does not.
 
 It ends with 0 where no run broke a rule.
 """
@@ -21,7 +23,7 @@ import subprocess
 import sys
 import tempfile
 
-from trials import ROOT, all_of, ran, status_of
+from trials import ROOT, all_of, ran, read, status_of
 
 HERE = f"{ROOT}/checks/random/memory"
 SECONDS = 60
@@ -32,6 +34,12 @@ NOTES = {
     5: [b"no memory\n"],
 }
 ASKED = "[POINT(0 0)@2001-01-01, POINT(9 0)@2001-01-02]"
+# With 1000000000 in place of FAR each step fits. With 3000000000 the squares do not.
+NEAR = [
+    "SELECT eDwithin(tgeompoint 'POINT(FAR 1)@2001-01-01', geometry 'POINT(0 0)', FAR) AS x;",
+    "SELECT nearestApproachSquared(tgeompoint '[POINT(-FAR 1)@2001-01-01, POINT(FAR 1)@2001-01-02]',"
+    " geometry 'POINT(0 0)') AS x;",
+]
 # the arguments of each program, and its inputs
 RUNS = {
     "mobsql": [([], f"{HERE}/script.sql"), (["--wide"], f"{HERE}/wide.sql")],
@@ -42,12 +50,12 @@ RUNS = {
 }
 
 
-def run(program, words, table, shim, refused):
+def run(program, words, text, shim, refused):
     """The status, answer and note of a run, and how many allocations it asked for."""
-    with tempfile.TemporaryDirectory() as folder, open(table, "rb") as lines:
+    with tempfile.TemporaryDirectory() as folder:
         count = os.path.join(folder, "count")
         environment = {"LD_PRELOAD": shim, "REFUSE": str(refused), "COUNT": count}
-        seen = ran([program, *words], lines.read(), SECONDS, cwd=HERE, env=environment)
+        seen = ran([program, *words], text, SECONDS, cwd=HERE, env=environment)
         with open(count, "rb") as file:
             return seen, int.from_bytes(file.read(), "little")
 
@@ -77,8 +85,9 @@ def fault(whole, parts, seen):
 
 
 def trial(program, words, table, shim):
-    """Runs the program once for each allocation. The status is that of this script."""
-    (status, whole, note), most = run(program, words, table, shim, 0)
+    """Runs the program once for each allocation. It answers the status of this script."""
+    text = read(table)
+    (status, whole, note), most = run(program, words, text, shim, 0)
     if status != 0 or note:
         sys.exit(f"with all its memory the run ends with status {status}: {note!r}")
     if most == 0:
@@ -87,12 +96,27 @@ def trial(program, words, table, shim):
     parts = fronts(whole) if os.path.basename(program) == "mobsql" else [b""]
 
     def one(number):
-        seen, _ = run(program, words, table, shim, number)
+        seen, _ = run(program, words, text, shim, number)
         broken = fault(whole, parts, seen)
         broken = broken and f"allocation {number} refused: the run {broken}"
         return status_of(seen), broken
 
     return all_of(one, range(1, most + 1))
+
+
+def paths(program, shim):
+    """Whether numbers of any size are made where a step does not fit, and only there."""
+    for query in NEAR:
+        small, large = (query.replace("FAR", it).encode() for it in ("1000000000", "3000000000"))
+        without, with_it, more = (
+            run(program, words, text, shim, 0)
+            for words, text in (([], small), (["--wide"], small), (["--wide"], large)))
+        print(f"{query}: {without[1]}, {with_it[1]} and {more[1]} allocations", flush=True)
+        if any(it[0][0] != 0 for it in (without, with_it, more)):
+            return False
+        if not without[1] == with_it[1] < more[1]:
+            return False
+    return True
 
 
 def main():
@@ -105,6 +129,8 @@ def main():
         shim, source = os.path.join(folder, "refuse.so"), f"{HERE}/refuse.c"
         build = ["gcc", "-O2", "-shared", "-fPIC", "-o", shim, source, "-ldl"]
         subprocess.run(build, check=True)
+        if name == "mobsql" and not paths(program, shim):
+            sys.exit("with --wide other runs ask for more memory")
         return max(trial(program, words + divided, table, shim) for words, table in RUNS[name])
 
 
