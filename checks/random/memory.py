@@ -37,8 +37,8 @@ ASKED = "[POINT(0 0)@2001-01-01, POINT(9 0)@2001-01-02]"
 # With 1000000000 in place of FAR each step fits. With 3000000000 the squares do not.
 NEAR = [
     "SELECT eDwithin(tgeompoint 'POINT(FAR 1)@2001-01-01', geometry 'POINT(0 0)', FAR) AS x;",
-    "SELECT nearestApproachSquared(tgeompoint '[POINT(-FAR 1)@2001-01-01, POINT(FAR 1)@2001-01-02]',"
-    " geometry 'POINT(0 0)') AS x;",
+    "SELECT nearestApproachSquared(tgeompoint '[POINT(-FAR 1)@2001-01-01, POINT(FAR 1)@2001-01-02]'"
+    ", geometry 'POINT(0 0)') AS x;",
 ]
 # the arguments of each program, and its inputs
 RUNS = {
