@@ -13,8 +13,8 @@ size. The others read the table of their example. It needs gcc. The rules:
 - under status 0 it writes what the run writes that is refused nothing;
 - under any other status mobsql writes the first few whole answers of that run, and the other
   programs write nothing;
-- with --wide mobsql asks for as much memory as without it for nearness whose steps fit 62 bits, and
-  for more if one does not.
+- with --wide mobsql asks as often for memory as without it for nearness whose steps fit 62 bits
+  (beside reading the option), and more often if one does not.
 
 It ends with 0 where no run broke a rule.
 """
@@ -106,15 +106,17 @@ def trial(program, words, table, shim):
 
 def paths(program, shim):
     """Whether numbers of any size are made where a step does not fit, and only there."""
+    def asked(words, text):
+        (status, _, _), count = run(program, words, text.encode(), shim, 0)
+        return count if status == 0 else sys.exit(f"status {status}: {words} {text}")
+
+    word = asked(["--wide"], "") - asked([], "")
     for query in NEAR:
-        small, large = (query.replace("FAR", it).encode() for it in ("1000000000", "3000000000"))
-        without, with_it, more = (
-            run(program, words, text, shim, 0)
-            for words, text in (([], small), (["--wide"], small), (["--wide"], large)))
-        print(f"{query}: {without[1]}, {with_it[1]} and {more[1]} allocations", flush=True)
-        if any(it[0][0] != 0 for it in (without, with_it, more)):
-            return False
-        if not without[1] == with_it[1] < more[1]:
+        small, large = (query.replace("FAR", it) for it in ("1000000000", "3000000000"))
+        narrow = asked([], small) + word
+        wide, larger = asked(["--wide"], small), asked(["--wide"], large)
+        print(f"{query} {narrow}, {wide} and {larger} allocations", flush=True)
+        if not narrow == wide < larger:
             return False
     return True
 
@@ -130,7 +132,7 @@ def main():
         build = ["gcc", "-O2", "-shared", "-fPIC", "-o", shim, source, "-ldl"]
         subprocess.run(build, check=True)
         if name == "mobsql" and not paths(program, shim):
-            sys.exit("with --wide other runs ask for more memory")
+            sys.exit("with --wide memory is asked for where each step fits, or only there")
         return max(trial(program, words + divided, table, shim) for words, table in RUNS[name])
 
 

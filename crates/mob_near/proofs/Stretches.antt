@@ -293,7 +293,7 @@ none_if : (D : Ratio) (ps : List PointPiece) (shared : Bool) (o : Option Bool) �
 none_if D ps shared o e s h = h ∙ ap (λ z. cond z (Some false) None) s ∙ ap (λ z. cond (are_some ps) (Some z) None) e ∙ sym (walked_reach D ps)
 
 module _ (v w : List (Slice PlaneLine)) (hv : IsRisingInTime (λ c. c.from) (λ c. c.to) v) (hw : IsRisingInTime (λ c. c.from) (λ c. c.to) w) where
-  pieces_clear : PiecesAreClear (λ p. p.span) (pieces (Slices v) (Slices w))
+  pieces_clear : PiecesAreClear (λ (p : PointPiece). p.span) (pieces (Slices v) (Slices w))
   pieces_clear = moves_clear (shared_pieces (λ s. s.span) (λ s. s.span) v w) (clear v w hv hw)
 
   pieces_hold : AllByRecursion IsHeld (pieces (Slices v) (Slices w))

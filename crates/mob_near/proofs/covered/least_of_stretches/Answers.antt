@@ -1,14 +1,18 @@
-use Rattle.std.proofs.Common.{rules}
+use Rattle.std.proofs.Common.{◌≡◌, rules}
+use Rattle.mob_span.specs.Walk.{lefts_of, rights_of}
 use Rattle.mob_near.proofs.Stretches.{runs_all, least_start, runs_next, runs_counted, all_counted}
 use Rattle.mob_near.proofs.covered.least_of_stretches.Goals as goal
 
 pub loop-both-init : goal.loop-both-init
-loop-both-init c = record {
-  goes = search rules;
-  ends = search rules;
-  hold = runs_all c.args.v.now c.args.w.now c.args.over_v.now c.args.over_w.now _ _ c.new-both-items.ensures.left c.new-both-items.ensures.right c.requires.left_covers c.requires.right_covers;
-  rest = least_start c.args.v.now c.args.w.now c.args.over_v.now c.args.over_w.now _ _ c.new-both-items.ensures.left c.new-both-items.ensures.right c.requires.left_covers c.requires.right_covers;
-}
+loop-both-init c =
+    let left : lefts_of c.into_iter-both-iterator.result ≡ c.args.over_v.now = search rules in
+    let right : rights_of c.into_iter-both-iterator.result ≡ c.args.over_w.now = search rules in
+    record {
+      goes = search rules;
+      ends = search rules;
+      hold = runs_all c.args.v.now c.args.w.now c.args.over_v.now c.args.over_w.now _ _ left right c.requires.left_covers c.requires.right_covers;
+      rest = least_start c.args.v.now c.args.w.now c.args.over_v.now c.args.over_w.now _ _ left right c.requires.left_covers c.requires.right_covers;
+    }
 
 pub loop-both-preserved : goal.loop-both-preserved
 loop-both-preserved c = record {

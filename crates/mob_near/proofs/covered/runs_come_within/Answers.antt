@@ -1,14 +1,18 @@
-use Rattle.std.proofs.Common.{rules, sym, ◌∙◌}
+use Rattle.std.proofs.Common.{◌≡◌, rules, sym, ◌∙◌}
+use Rattle.mob_span.specs.Walk.{lefts_of, rights_of}
 use Rattle.mob_near.proofs.Stretches.{walked_start, reach_start, walked_next, piece_missed, piece_hit, pieces_missed}
 use Rattle.mob_near.proofs.covered.runs_come_within.Goals as goal
 
 pub loop-met-init : goal.loop-met-init
-loop-met-init c = record {
-  goes = search rules;
-  ends = search rules;
-  hold = walked_start c.args.v.now c.args.w.now _ _ c.new-met-items.ensures.left c.new-met-items.ensures.right c.requires.left c.requires.right;
-  rest = reach_start c.args.v.now c.args.w.now _ _ c.new-met-items.ensures.left c.new-met-items.ensures.right c.args.square.now;
-}
+loop-met-init c =
+    let left : lefts_of c.into_iter-met-iterator.result ≡ c.args.v.now = search rules in
+    let right : rights_of c.into_iter-met-iterator.result ≡ c.args.w.now = search rules in
+    record {
+      goes = search rules;
+      ends = search rules;
+      hold = walked_start c.args.v.now c.args.w.now _ _ left right c.requires.left c.requires.right;
+      rest = reach_start c.args.v.now c.args.w.now _ _ left right c.args.square.now;
+    }
 
 pub loop-met-preserved : goal.loop-met-preserved
 loop-met-preserved c = record {

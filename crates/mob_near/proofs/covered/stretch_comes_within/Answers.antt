@@ -8,8 +8,8 @@ returns-then-are_beyond c = record { value = none_reach c.args.v.now c.args.w.no
 pub run_of-requires-clause-room : goal.run_of-requires-clause-room
 run_of-requires-clause-room c = c.requires.left_run.room
 
-pub run_of-2-requires-clause-room : goal.run_of-2-requires-clause-room
-run_of-2-requires-clause-room c = c.requires.right_run.room
+pub run_of-requires-2-clause-room : goal.run_of-requires-2-clause-room
+run_of-requires-2-clause-room c = c.requires.right_run.room
 
 pub returns : goal.returns
 returns c = record { value = reach_as c.args.square.now (run_of c.args.v.now c.args.over_v.now) (run_of c.args.w.now c.args.over_w.now) c.run_of.result.now c.run_of-2.result.now c.runs_come_within.result c.run_of.ensures.run c.run_of-2.ensures.run c.runs_come_within.ensures.value }
