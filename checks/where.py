@@ -105,7 +105,8 @@ CASES = [
         "script.sql:2:10\n"
         "    SELECT 3 * 3;\n"
         "             ^\n"
-        "value: The number that is given does not fit. Give fewer decimal places.\n" + MORE,
+        "value: The number that is given does not fit. Give fewer decimal places, or use a larger "
+        "unit.\n" + MORE,
     ),
     # The name is after 7 + 100 characters. Two dots and the last 58 of them are shown, which are 5
     # terms and 8 characters. Of the rest 30 are shown, and two dots.
