@@ -1,6 +1,6 @@
 //! The nearest approach of two moving points: whether they are ever within a distance, and the
-//! squared distance of their nearest approach, which includes excluded ends. `sql` has the operators
-//! of SQL by these.
+//! squared distance of their nearest approach, which includes excluded ends. `sql` has the
+//! operators of SQL by these.
 //!
 //! `ever_within` and `approach_squared` refuse a step of more than 62 bits. `ever_within_wide`,
 //! `approach_wide` and `least_exact` give the same results in numbers of any size.
