@@ -1,31 +1,9 @@
 -- A list has one stable order.
 use Rattle.std.{specs.List.{filter}, specs.List.Sorted.{IsSortedBy, ties}, specs.Cmp.{IsStrictWeakOrder}}
-use Rattle.std.{proofs.Common.{◌≡◌, ℕ, suc, ◌+◌, ◌<◌, Bool, true, false, List, [], ◌∷◌, length, get_or, refl, sym, ap, subst, ◌∙◌, arith}, proofs.lemmas.List.Sorted.{sorted_far}}
+use Rattle.std.proofs.Common.{◌≡◌, Bool, true, false, List, [], ◌∷◌, refl, sym, ap, subst, ◌∙◌}
+use Rattle.mob_list.proofs.Rising.{Leads, Rises, rises_sorted}
 
 module _ {X : Type 0} (lt : X → X → Bool) (order : IsStrictWeakOrder lt) where
-  -- no entry is less than x
-  abbrev Leads : X → List X → Type 0
-  Leads x [] = Unit {0}
-  Leads x (y ∷ ys) = (lt y x ≡ false) × Leads x ys
-
-  -- no entry is less than one before it
-  abbrev Rises : List X → Type 0
-  Rises [] = Unit {0}
-  Rises (x ∷ xs) = Leads x xs × Rises xs
-
-  leads_each : (x : X) (ys : List X) → ((k : ℕ) (d : X) → k < length ys → lt (get_or ys k d) x ≡ false) → Leads x ys
-  leads_each x [] f = tt
-  leads_each x (y ∷ ys) f = (f 0 y (omega arith), leads_each x ys (λ k d h. f (suc k) d (omega arith)))
-
-  rises_sorted : (xs : List X) → IsSortedBy lt xs → Rises xs
-  rises_sorted [] up = tt
-  rises_sorted (x ∷ xs) up = (
-    leads_each x xs (λ k d h. sorted_far lt order (x ∷ xs) up 0 (suc k) d (omega arith) (omega arith)),
-    rises_sorted xs (λ k d low h.
-        let next : suc k + 1 ≡ suc (k + 1) = omega arith in
-        subst (λ n. lt (get_or (x ∷ xs) n d) (get_or (x ∷ xs) (suc k) d) ≡ false) next (up (suc k) d (omega arith) (omega arith))),
-  )
-
   self : (x : X) → lt x x ≡ false
   self x = by (lt x x) refl
     where
@@ -43,7 +21,7 @@ module _ {X : Type 0} (lt : X → X → Bool) (order : IsStrictWeakOrder lt) whe
   fails p x xs h = rw h refl
 
   -- the first entry that passes a test is not less than one that leads the list
-  led : (x y : X) (p : X → Bool) (zs rest : List X) → Leads x zs → filter p zs ≡ y ∷ rest → lt y x ≡ false
+  led : (x y : X) (p : X → Bool) (zs rest : List X) → Leads lt x zs → filter p zs ≡ y ∷ rest → lt y x ≡ false
   led x y p [] rest h e = absurd (cc e)
   led x y p (z ∷ zs) rest h e = by (p z) refl (λ k. led x y p zs rest h.1 k)
     where
@@ -58,7 +36,7 @@ module _ {X : Type 0} (lt : X → X → Bool) (order : IsStrictWeakOrder lt) whe
       by true k = let q = sym (passes (ties lt x) y ys k) ∙ s x ∙ passes (ties lt x) y zs k in cc q
       by false k = sym (fails (ties lt x) y ys k) ∙ s x ∙ fails (ties lt x) y zs k
 
-  one_rise : (ys zs : List X) → Rises ys → Rises zs → ((x : X) → filter (ties lt x) ys ≡ filter (ties lt x) zs) → ys ≡ zs
+  one_rise : (ys zs : List X) → Rises lt ys → Rises lt zs → ((x : X) → filter (ties lt x) ys ≡ filter (ties lt x) zs) → ys ≡ zs
   one_rise [] [] a b s = refl
   one_rise [] (z ∷ zs) a b s = let q = s z ∙ passes (ties lt z) z zs (tie z z (self z) (self z)) in absurd (cc q)
   one_rise (y ∷ ys) [] a b s = let q = sym (s y) ∙ passes (ties lt y) y ys (tie y y (self y) (self y)) in absurd (cc q)
@@ -74,4 +52,4 @@ module _ {X : Type 0} (lt : X → X → Bool) (order : IsStrictWeakOrder lt) whe
       λ i. same i ∷ rest i
 
   pub one_order : (ys zs : List X) → IsSortedBy lt ys → IsSortedBy lt zs → ((x : X) → filter (ties lt x) ys ≡ filter (ties lt x) zs) → ys ≡ zs
-  one_order ys zs a b s = one_rise ys zs (rises_sorted ys a) (rises_sorted zs b) s
+  one_order ys zs a b s = one_rise ys zs (rises_sorted lt order ys a) (rises_sorted lt order zs b) s

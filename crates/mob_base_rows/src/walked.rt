@@ -7,7 +7,7 @@ use std::alloc::Global;
 /// How many children the root has.
 fn children_of_root(tree: &RTree) -> usize {
     match tree.root() {
-        Some(root) => tree.part(root).len(),
+        Some(root) => tree.children(root).len(),
         None => 0,
     }
 }
@@ -17,10 +17,10 @@ fn children_below(tree: &RTree) -> usize {
     let Some(root) = tree.root() else {
         return 0;
     };
-    let kid = tree.part(root)[0];
+    let kid = tree.children(root)[0];
     match kid.1 {
         Child::Entry(_) => 0,
-        Child::Node(number) => tree.part(number).len(),
+        Child::Node(number) => tree.children(number).len(),
     }
 }
 

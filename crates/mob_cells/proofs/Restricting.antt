@@ -68,7 +68,7 @@ module _ (parts : Ratio → List Ratio) where
   abbrev EndsFit : SpanOf → Type 0
   EndsFit c = AllFit (at_ends parts c)
 
-  roots_fit : (rs : List Ratio) → AllFit (flat_map parts rs) → AllByRecursion (λ t. AllFit (parts t)) rs
+  pub roots_fit : (rs : List Ratio) → AllFit (flat_map parts rs) → AllByRecursion (λ t. AllFit (parts t)) rs
   roots_fit [] h = tt
   roots_fit (r ∷ rs) h = (all_first (parts r) (flat_map parts rs) h, roots_fit rs (all_second (parts r) (flat_map parts rs) h))
 
@@ -81,14 +81,14 @@ module _ (parts : Ratio → List Ratio) where
 
   -- if the values at the ends of the piece and at the roots fit, so do those at the ends of each
   -- cell
-  cells_fit : (s : SpanOf) (rs : List Ratio) (cells : List SpanOf) → EndsFit s → AllByRecursion (λ t. AllFit (parts t)) rs → AllByRecursion (λ c. IsCut s rs c.lower × IsCut s rs c.upper) cells → AllByRecursion EndsFit cells
+  pub cells_fit : (s : SpanOf) (rs : List Ratio) (cells : List SpanOf) → EndsFit s → AllByRecursion (λ t. AllFit (parts t)) rs → AllByRecursion (λ c. IsCut s rs c.lower × IsCut s rs c.upper) cells → AllByRecursion EndsFit cells
   cells_fit s rs [] a h k = tt
   cells_fit s rs (c ∷ cells) a h k =
       let l = all_first (parts s.lower) (parts s.upper) a in
       let u = all_second (parts s.lower) (parts s.upper) a in
       (all_both (parts c.lower) (parts c.upper) (cut_fits s rs c.lower l u h k.0.0) (cut_fits s rs c.upper l u h k.0.1), cells_fit s rs cells a h k.1)
 
-  end_fits : (r : Ratio) (cells : List SpanOf) → AllByRecursion EndsFit cells → IsSomeEnd r cells → AllFit (parts r)
+  pub end_fits : (r : Ratio) (cells : List SpanOf) → AllByRecursion EndsFit cells → IsSomeEnd r cells → AllFit (parts r)
   end_fits r [] h i = absurd i
   end_fits r (c ∷ cells) h i = elim i [
     | inl k ↦ elim k [ inl e ↦ subst (λ z. AllFit (parts z)) e (all_first (parts c.lower) (parts c.upper) h.0) | inr e ↦ subst (λ z. AllFit (parts z)) e (all_second (parts c.lower) (parts c.upper) h.0) ]

@@ -24,7 +24,7 @@ abbrev pub changes : (Ratio → Bool) → List SpanOf → List Ratio
 changes meets [] = []
 changes meets (c ∷ cells) = changes_behind meets c cells
 
--- a span with the cell behind it; without a span, the cell
+-- a span joined with the cell after it; without a span, the cell
 abbrev pub with_cell : Option SpanOf → SpanOf → SpanOf
 with_cell None c = c
 with_cell (Some k) c = record { lower = k.lower; upper = c.upper; lower_inc = k.lower_inc; upper_inc = c.upper_inc }

@@ -1,6 +1,6 @@
 -- The sign of a linear function at an instant, from the instant at which it changes.
 use Rattle.std.{specs.Prelude.{◌≡◌, Bool, true, false, cond, not, ◌&&◌, ◌||◌, Some, None, refl}, specs.declared.cmp.Ordering.{Ordering}, specs.declared.cmp.Ordering.TheVariants.{Less, Equal, Greater}}
-use Rattle.std.{specs.Ordering.{is_eq}, proofs.Common.{arith, ap, sym, ◌∙◌, true≢false}}
+use Rattle.std.{specs.Ordering.{is_eq}, proofs.Common.{arith, ap, sym, ◌∙◌, true≢false}, proofs.Math.Bool.{or-true}}
 use Rattle.mob_ratio.{specs.Ratio.{Ratio}, specs.Order.{before, same}, specs.Sign.{nil, sign_of, opposite, root_at, sign_on}, proofs.Order.{before-self, before-back, before-neither}}
 use Rattle.mob_span.specs.Span.{SpanOf, has}
 use Rattle.mob_cells.{specs.declared.linear.Ends.{Ends}, specs.Roots.{IsLevel, root_of, function_at}, specs.Cells.{instant_span, is_cell_of, NoneWithin}, proofs.Keeps.{kept}}
@@ -56,11 +56,7 @@ signs_by false false c d h p q = absurd (true≢false p)
 signs_by a b false false h p q = absurd (true≢false q)
 signs_by true b c true h p q = absurd (true≢false h)
 signs_by true b true false h p q = refl
-signs_by false true true d h p q = absurd (true≢false (sym (or_true (false && d)) ∙ h))
-  where
-    or_true : (x : Bool) → (x || true) ≡ true
-    or_true true = refl
-    or_true false = refl
+signs_by false true true d h p q = absurd (true≢false (sym (or-true (false && d)) ∙ h))
 signs_by false true false true h p q = refl
 
 same_sign : (f0 f1 : Ratio) → opposite f0 f1 ≡ false → is_eq (sign_of f0) ≡ false → is_eq (sign_of f1) ≡ false → sign_of f0 ≡ sign_of f1

@@ -1,5 +1,5 @@
 -- A slice and the time of a box.
-use Rattle.std.{specs.Prelude.{◌≡◌, Bool, true, false, cond, not, ◌&&◌, ◌||◌, List, [], ◌∷◌, ◌++◌, Option, Some, None, MatchOption, Result, Ok, Err, MatchResult, refl}, proofs.lemmas.Bool.{and_parts}}
+use Rattle.std.{specs.Prelude.{◌≡◌, Bool, true, false, cond, not, ◌&&◌, ◌||◌, List, [], ◌∷◌, ◌++◌, Option, Some, None, MatchOption, Result, Ok, Err, MatchResult, refl}, proofs.lemmas.Bool.{and_parts}, proofs.Math.Bool.{or-false}}
 use Rattle.std.proofs.Common.{arith, ap, sym, ◌∙◌, subst, inl, inr, true≢false, append_assoc, append-nil}
 use Rattle.mob_ratio.{specs.Ratio.{Ratio}, specs.Order.{before, up_to}, proofs.Order.{before-self, before-back, before-trans, before-neither}}
 use Rattle.mob_frac.specs.Formula.{AllFit}
@@ -73,17 +73,9 @@ module _ (s m : SpanOf) (inside : is_inside s m ≡ true) (some : has_instant m 
   span_list b r = cond b (r ∷ []) []
 
   three_cells : (a b : Bool) → has_instant (front_span s m) ≡ a → has_instant (back_span s m) ≡ b → AreCells s (span_list a (front_span s m) ++ m ∷ span_list b (back_span s m))
-  three_cells true true ha hb = record { clear = (ha, front_clear, (some, back_clear, (hb, tt, tt))); inside = (front_inside, (inside, (back_inside, tt))); covers = λ t. ap (λ z. has (front_span s m) t || (has m t || z)) (or_false (has (back_span s m) t)) ∙ covers_all t }
-    where
-      or_false : (b : Bool) → (b || false) ≡ b
-      or_false true = refl
-      or_false false = refl
+  three_cells true true ha hb = record { clear = (ha, front_clear, (some, back_clear, (hb, tt, tt))); inside = (front_inside, (inside, (back_inside, tt))); covers = λ t. ap (λ z. has (front_span s m) t || (has m t || z)) (or-false (has (back_span s m) t)) ∙ covers_all t }
   three_cells true false ha hb = record { clear = (ha, front_clear, (some, tt, tt)); inside = (front_inside, (inside, tt)); covers = λ t. ap (λ z. has (front_span s m) t || (has m t || z)) (sym (no_instant (back_span s m) t hb)) ∙ covers_all t }
-  three_cells false true ha hb = record { clear = (some, back_clear, (hb, tt, tt)); inside = (inside, (back_inside, tt)); covers = λ t. ap (λ z. has m t || z) (or_false (has (back_span s m) t)) ∙ ap (λ z. z || (has m t || has (back_span s m) t)) (sym (no_instant (front_span s m) t ha)) ∙ covers_all t }
-    where
-      or_false : (b : Bool) → (b || false) ≡ b
-      or_false true = refl
-      or_false false = refl
+  three_cells false true ha hb = record { clear = (some, back_clear, (hb, tt, tt)); inside = (inside, (back_inside, tt)); covers = λ t. ap (λ z. has m t || z) (or-false (has (back_span s m) t)) ∙ ap (λ z. z || (has m t || has (back_span s m) t)) (sym (no_instant (front_span s m) t ha)) ∙ covers_all t }
   three_cells false false ha hb = record { clear = (some, tt, tt); inside = (inside, tt); covers = λ t. ap (λ z. has m t || z) (sym (no_instant (back_span s m) t hb)) ∙ ap (λ z. z || (has m t || has (back_span s m) t)) (sym (no_instant (front_span s m) t ha)) ∙ covers_all t }
 
   -- an instant of the part is not in the parts around it

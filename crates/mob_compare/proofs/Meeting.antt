@@ -1,6 +1,6 @@
 -- When courses satisfy a test of their order on a piece.
 use Rattle.std.{specs.Prelude.{◌≡◌, ◌↔◌, Bool, true, false, cond, ◌&&◌, ◌||◌, refl}, specs.declared.cmp.Ordering.{Ordering}, specs.declared.cmp.Ordering.TheVariants.{Less, Equal, Greater}}
-use Rattle.std.{proofs.Common.{arith, ap, sym, ◌∙◌, true≢false}, proofs.lemmas.Bool.{false_from_ne_true}}
+use Rattle.std.{proofs.Common.{arith, ap, sym, ◌∙◌, true≢false}, proofs.lemmas.Bool.{false_from_ne_true, and_parts}}
 use Rattle.mob_ratio.{specs.Ratio.{Ratio}, specs.Order.{same}, specs.Sign.{nil, sign_of}, proofs.Order.{same_exact}}
 use Rattle.mob_span.{specs.Span.{SpanOf, has, has_instant}, proofs.SpanLemmas.{some_instant}}
 use Rattle.mob_slice.{specs.Comparison.{gaps_at}, specs.declared.comparison.Gaps.{Gaps}, specs.declared.comparison.Gaps.TheVariants.{Constant, One, Two}}
@@ -58,10 +58,7 @@ two_to : (test : Ordering → Bool) (s : SpanOf) (f e : Ends) → has_instant s 
 two_to test s f e i true ea h =
     let m = (both_nil_exact s f e i).0 (grind (arith, ea)) in
     (m.0, m.1, rw ((same_exact (function_at s f m.0) nil).1 m.2, (same_exact (function_at s e m.0) nil).1 m.3) (grind (arith, ea)))
-two_to test s f e i false ea h = apart_to test s f e i (grind (arith, h)) (takes_sign s f Less) (takes_sign s f Greater) (takes_sign s e Less) refl refl refl (second (test Less) (takes_sign s f Less || takes_sign s f Greater || takes_sign s e Less || takes_sign s e Greater) h)
-  where
-    second : (a b : Bool) → (a && b) ≡ true → b ≡ true
-    second a b h = grind (arith, h)
+two_to test s f e i false ea h = apart_to test s f e i (grind (arith, h)) (takes_sign s f Less) (takes_sign s f Greater) (takes_sign s e Less) refl refl refl (and_parts (test Less) (takes_sign s f Less || takes_sign s f Greater || takes_sign s e Less || takes_sign s e Greater) h).1
 
 -- a function that is not 0 at an instant of the span takes one of the two other signs
 other_sign : (s : SpanOf) (f : Ends) (t : Ratio) → has_instant s ≡ true → has s t ≡ true → same (function_at s f t) nil ≡ false → (o : Ordering) → sign_of (function_at s f t) ≡ o → (takes_sign s f Less || takes_sign s f Greater) ≡ true

@@ -1,6 +1,6 @@
 -- The signs of a linear function follow from its ends.
 use Rattle.std.{specs.Prelude.{◌≡◌, Bool, true, false, cond, not, ◌&&◌, ◌||◌, refl}, specs.declared.cmp.Ordering.{Ordering}, specs.declared.cmp.Ordering.TheVariants.{Less, Equal, Greater}}
-use Rattle.std.{proofs.Common.{arith, ap, sym, ◌∙◌, subst, true≢false}, proofs.lemmas.Bool.{or_left, or_right}}
+use Rattle.std.{proofs.Common.{arith, ap, sym, ◌∙◌, subst, true≢false}, proofs.lemmas.Bool.{and_parts, or_left, or_right}}
 use Rattle.mob_ratio.{specs.Ratio.{Ratio}, specs.Order.{before, same}, specs.Line.{line_at}, specs.Sign.{nil, opposite, root_at, sign_of, sign_on, IsRoot}}
 use Rattle.mob_ratio.{proofs.Order.{before-back, before-trans, before-neither, before-differ, before-differ-back, between, same_exact, up_to-self}, proofs.Signs.{root_holds, sign_open, sign_below, sign_above, sign_nil}}
 use Rattle.mob_compare.specs.Taken.{sign_is, takes_inside}
@@ -145,14 +145,8 @@ above_to f g l u h k false false p e = let w = subst (λ z. (z || before nil g) 
 equal_to : (f g l u : Ratio) → before l u ≡ true → (opposite f g || (same f nil && same g nil)) ≡ true → (p : Bool) → opposite f g ≡ p → IsTakenInside f g l u Equal
 equal_to f g l u h k true p = at_root f g l u h p
 equal_to f g l u h k false p =
-    let w = subst (λ z. (z || (same f nil && same g nil)) ≡ true) p k in
-    level_at f g l u Equal h p (rw (first_of (same f nil) (same g nil) w) (ap sign_of ((same_exact g nil).0 (second_of (same f nil) (same g nil) w)) ∙ sign_nil))
-  where
-    first_of : (a b : Bool) → (a && b) ≡ true → a ≡ true
-    first_of a b h = grind (arith, h)
-
-    second_of : (a b : Bool) → (a && b) ≡ true → b ≡ true
-    second_of a b h = grind (arith, h)
+    let w = and_parts (same f nil) (same g nil) (subst (λ z. (z || (same f nil && same g nil)) ≡ true) p k) in
+    level_at f g l u Equal h p (rw w.0 (ap sign_of ((same_exact g nil).0 w.1) ∙ sign_nil))
 
 -- and a sign that follows from them is taken there
 pub inside_to : (f g l u : Ratio) (o : Ordering) → before l u ≡ true → takes_inside f g o ≡ true → IsTakenInside f g l u o

@@ -1,9 +1,9 @@
 -- Sums and products whose common divisors are divided out before multiplying.
-use Rattle.std.{specs.Int.{◌∣◌}, proofs.Common.{◌≡◌, ℕ, zero, suc, ◌+◌, ◌-◌, ◌*◌, ◌/◌, ◌<◌, ℤ, pos, ◌+ℤ◌, ◌*ℤ◌, ◌<ℤ◌, nat_abs, int_div, arith, ap, sym, subst, ◌∙◌, ◌⊎◌, inl, inr}}
+use Rattle.std.{specs.Int.{◌∣◌}, proofs.Common.{◌≡◌, ℕ, ◌+◌, ◌-◌, ◌*◌, ◌/◌, ◌<◌, ℤ, pos, ◌+ℤ◌, ◌*ℤ◌, ◌<ℤ◌, nat_abs, int_div, arith, ap, sym, subst, ◌∙◌, ◌⊎◌, inl, inr}}
 use Rattle.std.{proofs.lemmas.Bool.{cases_eq}, proofs.lemmas.Int.{unsigned_abs-mul}}
 use Rattle.mob_ratio.{specs.Gcd.{gcd}, specs.GcdLaws.{gcd-is, gcd_comm, gcd_pos, gcd_reduced, dvd_of_coprime}, specs.LowestLaws.{lowest_in, abs-div}, specs.Ratio.{Ratio, over, ◌+ℚ◌, ◌*ℚ◌}}
 use Rattle.mob_ratio.{proofs.IntRing.{linear, products}, proofs.RatioLemmas.{den_pos, lowest_gcd, over-same, over-cross, over-mul, over-parts}, proofs.ProductLemmas.{coprime-mul, coprime-dvd}}
-use Rattle.mob_frac.specs.Fits.{IsLowest}
+use Rattle.mob_frac.{specs.Fits.{IsLowest}, proofs.Shares.{factor_positive}}
 use native.Mathlib.Nat.{dvd_refl, eq-one_of_dvd-one, mul_assoc, div-mul_cancel, mul-div_cancel, dvd-mul_right, dvd-mul_left, dvd-add, dvd-sub, dvd_trans, mul-pos, mul_comm}
 
 pub den_positive : (q : Ratio) (d : ℤ) → d ≡ pos q.den → pos 0 <ℤ d
@@ -85,10 +85,6 @@ unlike a b t e = record {
   positive = gcd_pos a.den b.den (den_pos b);
   top = e;
 }
-
-factor_positive : (p s d : ℕ) → p * s ≡ d → 0 < d → 0 < p
-factor_positive zero s d e h = absurd (omega (arith, e))
-factor_positive (suc p) s d e h = omega arith
 
 top_lowest : (a b : Ratio) (s p q : ℕ) (t : ℤ) → IsUnlike a b s p q t → gcd (nat_abs (over t s).num) (p * (q * (over t s).den)) ≡ 1
 top_lowest a b s p q t h =

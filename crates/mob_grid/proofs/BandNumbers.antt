@@ -1,25 +1,13 @@
 -- Each number is in one band.
 use Rattle.std.{specs.Int.{int_div_euclid}, proofs.Common.{◌≡◌, ◌↔◌, inl, inr, ℕ, ◌*◌, ◌<◌, true, ℤ, pos, negsuc, ◌+ℤ◌, ◌*ℤ◌, ◌≤ℤ◌, ◌<ℤ◌, arith, refl, sym, ap, subst, ◌∙◌}}
 use Rattle.std.{proofs.lemmas.Int.{ints}, proofs.lemmas.Bool.{and_parts, and_from, not_from_false}}
-use Rattle.mob_ratio.{specs.Ratio.{Ratio, over, whole, ◌*ℚ◌, ◌/ℚ◌, ◌<ℚ◌, ◌≤ℚ◌}, specs.Order.{before, up_to}, specs.Sign.{nil}, proofs.IntRing.{linear, products, add_mul}}
+use Rattle.mob_ratio.{specs.Ratio.{Ratio, over, whole, ◌*ℚ◌, ◌/ℚ◌, ◌<ℚ◌, ◌≤ℚ◌}, specs.Order.{before, up_to}, specs.Sign.{nil}, proofs.Quotients.{quotient_from, quotient_until}, proofs.IntRing.{linear, products}}
 use Rattle.mob_ratio.{proofs.Clear.{cleared, whole-over, over_le, over_lt, one_positive, same_lt}, proofs.RatioLemmas.{den_pos, over-self, over-mul}}
 use Rattle.mob_ratio.{proofs.Field.{cases_lt, not_both, lt_of_mul_pos, lt_mul_pos, le_of_eq, le_trans, le_lt, le_refl}, proofs.Divide.{div-mul, over-pos}}
 use Rattle.mob_ratio.proofs.Order.{before-lt, lt-before, not-up_to-le, le-up_to}
 use Rattle.mob_frac.specs.Fits.{ratio}
 use Rattle.mob_grid.specs.Bands.{InBand, in_band, floor_of, band_of}
 use native.Mathlib.Nat.{mul-pos}
-
--- ---- floors of whole numbers
-quotient_from : (a : ℤ) (k : ℕ) → 0 < k → (int_div_euclid a (pos k) *ℤ pos k) ≤ℤ a
-quotient_from (pos a) k h = omega (arith, ints)
-quotient_from (negsuc a) k h = omega (arith, ints)
-
-quotient_next : (a : ℤ) (k : ℕ) → 0 < k → a <ℤ ((int_div_euclid a (pos k) *ℤ pos k) +ℤ (pos 1 *ℤ pos k))
-quotient_next (pos a) k h = omega (arith, ints)
-quotient_next (negsuc a) k h = omega (arith, ints)
-
-quotient_until : (a : ℤ) (k : ℕ) → 0 < k → a <ℤ ((int_div_euclid a (pos k) +ℤ pos 1) *ℤ pos k)
-quotient_until a k h = subst (λ z. a <ℤ z) (sym (add_mul (int_div_euclid a (pos k)) (pos 1) (pos k))) (quotient_next a k h)
 
 -- ---- floors
 pub mul_le : (a b c : Ratio) → nil <ℚ c → a ≤ℚ b → (a *ℚ c) ≤ℚ (b *ℚ c)

@@ -1,6 +1,6 @@
 -- What the gap of two boxes says about their contents.
 use Rattle.std.{specs.Prelude.{cond, not, IfSome}, proofs.Common.{◌≡◌, ◌⊎◌, inl, inr, Bool, true, false, Option, Some, None, arith, refl, sym, ap, ◌∙◌, subst}}
-use Rattle.std.proofs.lemmas.Bool.{and_parts, false_from_ne_true}
+use Rattle.std.proofs.lemmas.Bool.{and_parts, false_from_ne_true, not-false}
 use Rattle.mob_ratio.{specs.Ratio.{Ratio, ◌+ℚ◌, ◌-ℚ◌, ◌*ℚ◌, ◌≤ℚ◌}, specs.Order.{before, up_to}, specs.Sign.{nil}, proofs.IntRing.{linear}, proofs.Clear.{clear4, cleared}, proofs.Field.{not_both}}
 use Rattle.mob_ratio.{proofs.Order.{not-up_to-le, le-up_to, before-lt}, proofs.Convex.{square_le, add_le}}
 use Rattle.mob_span.specs.Span.{SpanOf, InSpan}
@@ -97,11 +97,7 @@ together : (b q : BoxOf) → are_apart b.time q.time ≡ false → AreApart b q 
 together b q h (s, r, es, er, none) = by_times b.time q.time s r es er h none
   where
     by_times : (o p : Option SpanOf) (s r : SpanOf) → o ≡ Some s → p ≡ Some r → are_apart o p ≡ false → ((t : Ratio) → InSpan s t → InSpan r t → ⊥) → ⊥
-    by_times o p s r e f h none = let w = (spans_meet_exact s r).0 (opposite (spans_meet s r) (subst (λ z. not (where_both spans_meet (Some s) z) ≡ false) f (subst (λ z. not (where_both spans_meet z p) ≡ false) e h))) in none w.0 w.1 w.2
-      where
-        opposite : (b : Bool) → not b ≡ false → b ≡ true
-        opposite true e = refl
-        opposite false e = absurd cc
+    by_times o p s r e f h none = let w = (spans_meet_exact s r).0 (not-false (spans_meet s r) (subst (λ z. not (where_both spans_meet (Some s) z) ≡ false) f (subst (λ z. not (where_both spans_meet z p) ≡ false) e h))) in none w.0 w.1 w.2
 
 least_gap : (b q : BoxOf) → area_stands b.space ≡ true → area_stands q.space ≡ true → are_apart b.time q.time ≡ false → IsLeastGap b q (space_gap b.space q.space)
 unfolding exact_or_nil

@@ -1,5 +1,5 @@
 -- The distance of two ranges on one axis.
-use Rattle.std.{specs.Prelude.{cond, not}, proofs.Common.{◌≡◌, ◌⊎◌, inl, inr, Bool, true, false, arith, refl, sym, ap, ◌∙◌, subst}}
+use Rattle.std.{specs.Prelude.{cond}, proofs.Common.{◌≡◌, ◌⊎◌, inl, inr, Bool, true, false, arith, refl, sym, ap, ◌∙◌, subst}, proofs.lemmas.Bool.{not-false}}
 use Rattle.mob_ratio.{specs.Ratio.{Ratio, ◌-ℚ◌, ◌*ℚ◌, ◌<ℚ◌, ◌≤ℚ◌}, specs.Order.{before, up_to, smaller, greater}, specs.Sign.{nil}, proofs.IntRing.{linear}}
 use Rattle.mob_ratio.{proofs.Clear.{clear1, clear2, clear4, cleared}, proofs.Field.{le_trans, le_refl, le_of_lt, mul_comm, sub_self, square-turned}, proofs.Order.{not-up_to-le, up_to-le, before-lt}}
 use Rattle.mob_ratio.proofs.Convex.{square_le, le_mul_pos, sub_le}
@@ -19,11 +19,7 @@ pub record AreSplit (a b c d g : Ratio) : Type 0 where
   pub way : ((d <ℚ a) × (g ≡ a -ℚ d)) ⊎ ((b <ℚ c) × (g ≡ c -ℚ b))
 
 flip : (a b : Ratio) (h : up_to a b ≡ false) → b <ℚ a
-flip a b h = before-lt b a (opposite (before b a) h)
-  where
-    opposite : (t : Bool) → not t ≡ false → t ≡ true
-    opposite true e = refl
-    opposite false e = absurd cc
+flip a b h = before-lt b a (not-false (before b a) h)
 
 le_not : (a b : Ratio) → a ≤ℚ b → b <ℚ a → ⊥
 le_not = clear2 _ (λ D x y p h k. let h' = simp cleared at h in let k' = simp cleared at k in omega (arith, linear))

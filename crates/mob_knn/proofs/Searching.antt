@@ -1,7 +1,7 @@
 -- The invariant of a search, and its consequences at the end.
 use Rattle.std.{specs.Prelude.{cond, Contains, sum_by, ◌==◌, ◌&&◌, ◌||◌, nat_lt, All}, specs.List.{flat_map, AllByRecursion}, specs.List.Sorted.{IsPermutation}}
 use Rattle.std.proofs.Common.{length-append, map, ◌≡◌, ◌⊎◌, inl, inr, ℕ, suc, ◌+◌, ◌<◌, ◌≤◌, Bool, true, false, List, [], ◌∷◌, ◌++◌, length, Option, Some, None, arith, refl, sym, ap, ◌∙◌, subst}
-use Rattle.std.{proofs.Common.{true≢false}, proofs.lemmas.List.{length-map}, proofs.lemmas.List.Concat.{flat_map-append}}
+use Rattle.std.{proofs.Common.{true≢false}, proofs.Math.Bool.{or-true}, proofs.lemmas.List.{length-map}, proofs.lemmas.List.Concat.{flat_map-append}}
 use Rattle.std.{proofs.lemmas.List.Elements.{All-contains, Contains-append_cases, Contains-append_left, Contains-append_right}, proofs.lemmas.List.Sorted.{Contains-permutation}}
 use Rattle.std.proofs.lemmas.List.Sums.{sum_by-append, sum_by-cons}
 use Rattle.mob_list.{proofs.Each.{each_more}, proofs.Entries.{first_in, later_in, none_in, which_in, all_by_each, Contains-flat, flat-Contains}}
@@ -36,15 +36,11 @@ last_push [] x = refl
 last_push (y ∷ []) x = refl
 last_push (y ∷ z ∷ xs) x = last_push (z ∷ xs) x
 
-or_true : (b : Bool) → (b || true) ≡ true
-or_true true = refl
-or_true false = refl
-
 pub nearer_before : (o x : ℕ × Ratio) → before o.1 x.1 ≡ true → nearer o x ≡ true
 nearer_before o x h = rw h refl
 
 pub nearer_level : (o x : ℕ × Ratio) → o.1 ≡ x.1 → o.0 < x.0 → nearer o x ≡ true
-nearer_level o x e lt = ap (λ z. before o.1 x.1 || (z && nat_lt o.0 x.0)) ((same_exact o.1 x.1).1 e) ∙ ap (λ z. before o.1 x.1 || z) (lt-ltb o.0 x.0 lt) ∙ or_true (before o.1 x.1)
+nearer_level o x e lt = ap (λ z. before o.1 x.1 || (z && nat_lt o.0 x.0)) ((same_exact o.1 x.1).1 e) ∙ ap (λ z. before o.1 x.1 || z) (lt-ltb o.0 x.0 lt) ∙ or-true (before o.1 x.1)
 
 one_sum : {A : Type 0} (p : A → ℕ) (x : A) → sum_by p (x ∷ []) ≡ p x
 one_sum p x = let c = sum_by-cons p x [] in omega (arith, c)

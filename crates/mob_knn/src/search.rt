@@ -78,7 +78,7 @@ fn advance<L: Ledger>(
     ensures err { IfErr result (OnCause (λ f. IsEntry first.now.what f.0 × HasUnfitPart trips.now (operand_of asked.now) f.0 f.1)) }
 {
     match first.what {
-        WaitingKind::Node(n) => open(heap, tree.part(n), &first.key, area),
+        WaitingKind::Node(n) => open(heap, tree.children(n), &first.key, area),
         WaitingKind::Entry(row) => look(alloc, trips, asked, row, heap, steps),
         WaitingKind::Answer(row) => tell(found, row, first.key),
     }
@@ -125,8 +125,8 @@ fn search<L: Ledger>(
 ///
 /// A step is one call of `approach_squared`. There is at most one for each row whose gap is at most
 /// the last answer's approach, or, if there are fewer than `k` answers, for each row that is not
-/// apart from `asked`. The fault names a row only if a part of its trip does not fit, and fewer than
-/// `k` rows have an approach below that row's gap. `NoMemory` comes if an allocation fails.
+/// apart from `asked`. The fault names a row only if a part of its trip does not fit, and fewer
+/// than `k` rows have an approach below that row's gap. `NoMemory` comes if an allocation fails.
 pub fn nearest<L: Ledger>(
     alloc: Global,
     tree: &RTree,

@@ -116,12 +116,12 @@ one_then_head p test h text v said = subst (Stops test) (sym (said.whole ∙ ap 
 abbrev pub HasByte : {A : Type 0} → Language A → Type 0
 HasByte {A} l = (text : Text) (v : A) → l text v → text ≡ [] → ⊥
 
+pub front_nil : (a b : Text) → a ++ b ≡ [] → a ≡ []
+front_nil [] b e = refl
+front_nil (c ∷ cs) b e = absurd cc
+
 pub then_byte : {A B : Type 0} {l : Language A} (m : Language B) → HasByte l → HasByte (l ▷ m)
 then_byte m h text v said e = h said.front v.0 said.first (front_nil said.front said.back (sym said.whole ∙ e))
-  where
-    front_nil : (a b : Text) → a ++ b ≡ [] → a ≡ []
-    front_nil [] b e = refl
-    front_nil (c ∷ cs) b e = absurd cc
 
 pub means_byte : {A B : Type 0} (f : A → B) {l : Language A} → HasByte l → HasByte (Means f l)
 means_byte f h text v said e = h text said.meant said.said e

@@ -1,5 +1,5 @@
 -- A comparison holds at some instant of two operands exactly if it does on some piece.
-use Rattle.std.{specs.Prelude.{◌≡◌, ◌⊎◌, ◌↔◌, ◌||◌, Bool, true, false, List, [], ◌∷◌, Option, Some, None, refl}, specs.List.{AllByRecursion}, proofs.Common.{ap, sym, ◌∙◌, subst, true≢false, inl, inr}}
+use Rattle.std.{specs.Prelude.{◌≡◌, ◌⊎◌, ◌↔◌, ◌||◌, Bool, true, false, List, [], ◌∷◌, Option, Some, None, refl}, specs.List.{AllByRecursion}, proofs.Common.{ap, sym, ◌∙◌, subst, true≢false, inl, inr}, proofs.lemmas.Bool.{or_right}}
 use Rattle.mob_ratio.specs.Ratio.{Ratio}
 use Rattle.mob_span.{specs.Span.{SpanOf, has}, specs.Pieces.{PiecesAreClear, piece_at}, specs.Meets.{PieceOf}, proofs.SpanLemmas.{some_instant}}
 use Rattle.mob_slice.{specs.Sides.{SideOf, OperandOf, side_at, pieces, given_at, has_slices}, proofs.Options.{none_some}}
@@ -18,17 +18,13 @@ module _ {P : Type 0} (span : P → SpanOf) (holds : P → Ratio → Bool) (meet
   or_cases true b h = inl refl
   or_cases false b h = inr h
 
-  second_or : (a b : Bool) → b ≡ true → (a || b) ≡ true
-  second_or true b h = refl
-  second_or false b h = h
-
   -- the answer is true exactly if it was before or a piece passes at some instant
   abbrev pub IsSaid : Bool → Bool → List P → Type 0
   IsSaid b a ps = (b ≡ true) ↔ ((a ≡ true) ⊎ ((t : Ratio) × PassesAt ps t))
 
   said_from : (a : Bool) (p : P) (ps : List P) (t : Ratio) → IsExactOn p → PassesAt (p ∷ ps) t → (((a || meets p) ≡ true) ⊎ ((t : Ratio) × PassesAt ps t))
   said_from a p ps t e m = elim (which_at span p ps t m.0 m.1) [
-    | inl k ↦ inl (second_or a (meets p) (e.1 (t, k.0, subst (λ z. holds z t ≡ true) (sym k.1) m.2)))
+    | inl k ↦ inl (or_right a (meets p) (e.1 (t, k.0, subst (λ z. holds z t ≡ true) (sym k.1) m.2)))
     | inr k ↦ inr (t, (m.0, k, m.2))
   ]
 

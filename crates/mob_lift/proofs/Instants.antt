@@ -2,7 +2,7 @@
 use Rattle.std.{specs.Prelude.{◌≡◌, Bool, true, false, ◌||◌, ◌&&◌}, proofs.Common.{arith, refl, sym, ◌∙◌}}
 use Rattle.mob_span.{specs.Span.{SpanOf, has, has_instant}, specs.Neighbours.{Meets}, specs.Meet.{ends_before}, proofs.Insides.{inner_has}}
 use Rattle.mob_ratio.{specs.Ratio.{Ratio}, specs.Order.{before, up_to}, proofs.Order.{before-self, before-back, before-trans, before-neither, between, up_to-self}}
-use Rattle.mob_lift.proofs.Regions.{StartAlike, gap, remains}
+use Rattle.mob_lift.proofs.Regions.{StartAlike, gap, high_within, remains}
 
 -- t lies from the first to the last
 abbrev pub is_from_to : Ratio → Ratio → Ratio → Bool
@@ -56,13 +56,10 @@ one_shared a b c s k m e f j =
 pub remains_shared : (a b c : SpanOf) (t : Ratio) → OneShared a b c → Meets a c → has (remains b c) t ≡ true → has c t ≡ true
 remains_shared a b c t o m h = let e : b.upper ≡ c.lower = o.at ∙ m.at_one in grind (arith, e, o.b_closed, o.c_closed, before-back c.lower t, before-back b.upper t)
 
-high_shared : (b d c : SpanOf) (t : Ratio) → ends_before c (gap b d) ≡ false → has (gap b d) t ≡ true → (before t c.upper || (c.upper_inc && up_to t c.upper)) ≡ true
-high_shared b d c t e h = grind (arith, before-trans t d.lower c.upper, before-neither t d.lower, before-neither d.lower c.upper, before-back t c.upper, before-back d.lower c.upper, before-back t d.lower)
-
 pub gap_shared : (a b c d : SpanOf) (t : Ratio) → OneShared a b c → Meets a c → ends_before c (gap b d) ≡ false → has (gap b d) t ≡ true → has c t ≡ true
 gap_shared a b c d t o m k h =
     let e : b.upper ≡ c.lower = o.at ∙ m.at_one in
-    let high = high_shared b d c t k h in
+    let high = high_within b d c t k h in
     let low : (before c.lower t || (c.lower_inc && up_to c.lower t)) ≡ true = grind (arith, e, o.b_closed, o.c_closed, before-back c.lower t, before-back b.upper t) in
     rw (low, high) refl
 

@@ -70,7 +70,7 @@ gap_after a c t h = grind (arith, before-back a.upper t, before-neither a.upper 
 pub gap_left : (a c : SpanOf) (t : Ratio) → has (gap a c) t ≡ true → is_left t c ≡ true
 gap_left a c t h = grind (arith, before-back t c.lower)
 
-high_within : (a c b : SpanOf) (t : Ratio) → ends_before b (gap a c) ≡ false → has (gap a c) t ≡ true → (before t b.upper || (b.upper_inc && up_to t b.upper)) ≡ true
+pub high_within : (a c b : SpanOf) (t : Ratio) → ends_before b (gap a c) ≡ false → has (gap a c) t ≡ true → (before t b.upper || (b.upper_inc && up_to t b.upper)) ≡ true
 high_within a c b t e h = grind (arith, before-trans t c.lower b.upper, before-neither t c.lower, before-neither c.lower b.upper, before-back t c.lower, before-back c.lower b.upper, before-back t b.upper)
 
 low_within : (a b : SpanOf) (t : Ratio) → StartAlike a b → has_instant a ≡ true → (before a.upper t || (not a.upper_inc && up_to a.upper t)) ≡ true → (before b.lower t || (b.lower_inc && up_to b.lower t)) ≡ true

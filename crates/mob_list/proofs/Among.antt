@@ -1,7 +1,7 @@
 -- A search in sorted numbers.
-use Rattle.std.{specs.Prelude.{◌≢◌, Contains, is_ok, nat_lt}, specs.Ordering.{nat_cmp}, specs.List.Sorted.{IsBinarySearchResult, IsNonDecreasing}}
+use Rattle.std.{specs.Prelude.{◌≢◌, Contains, is_ok}, specs.Ordering.{nat_cmp}, specs.List.Sorted.{IsBinarySearchResult, IsNonDecreasing}}
 use Rattle.std.proofs.Common.{arith, ◌≡◌, ◌↔◌, ◌⊎◌, inl, inr, ◌∙◌, refl, sym, ap, subst, true≢false, ℕ, zero, suc, ◌<◌, ◌≤◌, ◌==◌, ◌||◌, Bool, true, false, length, List, [], ◌∷◌, get_or, Result, Ok}
-use Rattle.std.{proofs.Common.{Err}, proofs.lemmas.List.Sorted.{searched}, proofs.lemmas.Bool.{eq-eqb, eqb-true, or_cases, or_left, or_right, ltb-true, ltb-false, ne_eqb}}
+use Rattle.std.{proofs.Common.{Err}, proofs.lemmas.List.Sorted.{searched}, proofs.lemmas.Bool.{eq-eqb, eqb-true, or_cases, or_left, or_right, cases_lt, ne_eqb}}
 use Rattle.mob_list.{specs.Live.{is_among}, proofs.Entries.{first_in, later_in, none_in, which_in}}
 
 pub at_among : (xs : List ℕ) (x i : ℕ) → i < length xs → get_or xs i 0 ≡ x → is_among x xs ≡ true
@@ -21,15 +21,8 @@ pub found_among : (xs : List ℕ) (x : ℕ) (r : Result ℕ ℕ) → IsBinarySea
 found_among xs x (Ok i) h rise = let at = searched xs x (Ok i) h (λ i j le lt. rise i j 0 le lt) in sym (at_among xs x i at.0 at.1)
 found_among xs x (Err i) h rise =
     let at = searched xs x (Err i) h (λ i j le lt. rise i j 0 le lt) in
-    sym (not_at xs x (λ k lt e. apart at.1 at.2 k lt e (ltb_or k i)))
+    sym (not_at xs x (λ k lt e. apart at.1 at.2 k lt e (cases_lt k i)))
   where
-    ltb_or : (k i : ℕ) → (k < i) ⊎ (i ≤ k)
-    ltb_or k i = by (nat_lt k i) refl
-      where
-        by : (b : Bool) → nat_lt k i ≡ b → (k < i) ⊎ (i ≤ k)
-        by true t = inl (ltb-true k i t)
-        by false t = inr (ltb-false k i t)
-
     apart : ((k : ℕ) → k < i → get_or xs k 0 < x) → ((k : ℕ) → i ≤ k → k < length xs → x < get_or xs k 0) → (k : ℕ) → k < length xs → get_or xs k 0 ≡ x → (k < i) ⊎ (i ≤ k) → ⊥
     apart below above k lt e (inl l) = let b = below k l in omega (arith, b, e)
     apart below above k lt e (inr l) = let b = above k l lt in omega (arith, b, e)

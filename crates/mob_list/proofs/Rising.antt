@@ -1,8 +1,32 @@
--- Numbers that increase strictly.
-use Rattle.std.{specs.List.{AllByRecursion}, specs.List.Sorted.{IsNonDecreasing, IsStrictlyIncreasing}, proofs.Common.{arith, ℕ, zero, suc, ◌<◌, ◌≤◌, length, List, [], ◌∷◌, get_or}}
-use Rattle.std.proofs.lemmas.List.Sorted.{IsNonDecreasingBy-from_default}
+-- Lists that rise by a test, and numbers that increase strictly.
+use Rattle.std.{specs.List.{AllByRecursion}, specs.List.Sorted.{IsNonDecreasing, IsSortedBy, IsStrictlyIncreasing}, specs.Cmp.{IsStrictWeakOrder}, proofs.lemmas.List.Sorted.{IsNonDecreasingBy-from_default, sorted_far}}
+use Rattle.std.proofs.Common.{◌≡◌, arith, ℕ, zero, suc, ◌+◌, ◌<◌, ◌≤◌, Bool, false, length, List, [], ◌∷◌, get_or, subst}
 use Rattle.mob_list.proofs.Each.{each_on}
 use native.Mathlib.Numerals.{unary_clauses}
+
+module _ {X : Type 0} (lt : X → X → Bool) where
+  -- no entry is less than x
+  abbrev pub Leads : X → List X → Type 0
+  Leads x [] = Unit {0}
+  Leads x (y ∷ ys) = (lt y x ≡ false) × Leads x ys
+
+  -- no entry is less than one before it
+  abbrev pub Rises : List X → Type 0
+  Rises [] = Unit {0}
+  Rises (x ∷ xs) = Leads x xs × Rises xs
+
+  leads_each : (x : X) (ys : List X) → ((k : ℕ) (d : X) → k < length ys → lt (get_or ys k d) x ≡ false) → Leads x ys
+  leads_each x [] f = tt
+  leads_each x (y ∷ ys) f = (f 0 y (omega arith), leads_each x ys (λ k d h. f (suc k) d (omega arith)))
+
+  pub rises_sorted : IsStrictWeakOrder lt → (xs : List X) → IsSortedBy lt xs → Rises xs
+  rises_sorted order [] up = tt
+  rises_sorted order (x ∷ xs) up = (
+    leads_each x xs (λ k d h. sorted_far lt order (x ∷ xs) up 0 (suc k) d (omega arith) (omega arith)),
+    rises_sorted order xs (λ k d low h.
+        let next : suc k + 1 ≡ suc (k + 1) = omega arith in
+        subst (λ n. lt (get_or (x ∷ xs) n d) (get_or (x ∷ xs) (suc k) d) ≡ false) next (up (suc k) d (omega arith) (omega arith))),
+  )
 
 -- the numbers after the first increase too
 pub tail_rises : (x : ℕ) (xs : List ℕ) → IsStrictlyIncreasing (x ∷ xs) → IsStrictlyIncreasing xs

@@ -16,7 +16,7 @@ module _ (store : Store) (from : List ℕ) (terms : Terms) (p q : List ℕ) wher
       ap (λ row. read_as ty (value_or_null (option_and_then (λ values. slice_get values column) (option_and_then (λ rows. option_and_then (row_of_number rows) row) (rows_of_place (scene store from p terms) place))))) (agree place (eq-eqb place place refl))
   leaf_same _ ty agree = refl
 
-  one_same : (o : Op) (ty : SqlType) (ts : List SqlType) (a v : Value) → GivesOfOne (scene store from p terms) o ty ts a v → GivesOfOne (scene store from q terms) o ty ts a v
+  pub one_same : (o : Op) (ty : SqlType) (ts : List SqlType) (a v : Value) → GivesOfOne (scene store from p terms) o ty ts a v → GivesOfOne (scene store from q terms) o ty ts a v
   one_same op.AsText ty ts a v h = h
   one_same _ ty ts a v h = h
 

@@ -1,7 +1,7 @@
 -- Where all parts fit in the narrow mode they fit in the wide one, and the values are the same.
 use Rattle.std.{specs.Prelude.{◌⊎◌}, proofs.Common.{◌≡◌, inl, inr, refl, Bool, true, false, ℕ, ℤ, List, [], ◌∷◌, Option, Some, None, Result, Ok, Err}}
 use Rattle.mob_ratio.specs.Ratio.{Ratio}
-use Rattle.mob_frac.{specs.Fits.{Fits}, specs.Formula.{AllFit}, proofs.Fits.{fits_or}}
+use Rattle.mob_frac.{specs.Formula.{AllFit}, proofs.Fits.{all_fit_or}}
 use Rattle.mob_ast.specs.declared.types.SqlType.{SqlType}
 use Rattle.mob_operators.specs.declared.operator.Op.{Op}
 use Rattle.mob_slice.{specs.Entries.{Entry, IsFirst}, specs.declared.formula.Formula.{Formula}, specs.declared.mode.Mode.TheVariants.{Narrow, Wide}}
@@ -21,18 +21,9 @@ use Rattle.mob_operators.specs.declared.operator.Op.TheVariants as op
 -- ---- entries
 
 -- each list of entries has a first formula with a part that does not fit, or none
-parts_or : (parts : List Ratio) → AllFit parts ⊎ (¬ AllFit parts)
-parts_or [] = inl tt
-parts_or (q ∷ parts) = by (fits_or q) (parts_or parts)
-  where
-    by : Fits q ⊎ (¬ Fits q) → AllFit parts ⊎ (¬ AllFit parts) → AllFit (q ∷ parts) ⊎ (¬ AllFit (q ∷ parts))
-    by (inl h) (inl k) = inl (h, k)
-    by (inl h) (inr k) = inr (λ all. k all.1)
-    by (inr h) k = inr (λ all. h all.0)
-
 pub some_first : (entries : List Entry) → (f : Option Formula) × IsFirst entries f
 some_first [] = (None, refl)
-some_first (e ∷ entries) = by (parts_or e.parts) (some_first entries)
+some_first (e ∷ entries) = by (all_fit_or e.parts) (some_first entries)
   where
     by : AllFit e.parts ⊎ (¬ AllFit e.parts) → (f : Option Formula) × IsFirst entries f → (f : Option Formula) × IsFirst (e ∷ entries) f
     by (inl h) k = (k.0, inl (h, k.1))

@@ -1,6 +1,6 @@
 -- A point inside closed rings is in each area that contains their corners.
 use Rattle.std.{specs.Prelude.{All, suc, length, slice_get, ◌-◌}, specs.List.{AllByRecursion, list_any}}
-use Rattle.std.{proofs.Common.{◌≡◌, Bool, true, false, not, ◌&&◌, ◌||◌, List, [], ◌∷◌, ◌++◌, Option, Some, arith, refl, sym, ap, ◌∙◌, subst, inl, inr, true≢false}, proofs.lemmas.Bool.{or_parts}}
+use Rattle.std.{proofs.Common.{◌≡◌, Bool, true, false, not, ◌&&◌, ◌||◌, List, [], ◌∷◌, ◌++◌, Option, Some, arith, refl, sym, ap, ◌∙◌, subst, inl, inr, true≢false}, proofs.lemmas.Bool.{not-false, or_parts}}
 use Rattle.mob_list.proofs.Each.{each_on, each_parts}
 use Rattle.mob_ratio.{specs.Ratio.{Ratio, ◌+ℚ◌, ◌-ℚ◌, neg_ℚ, ◌*ℚ◌, ◌<ℚ◌, ◌≤ℚ◌}, specs.Order.{before, up_to}, specs.Sign.{nil}, proofs.IntRing.{linear}, proofs.Clear.{clear1, clear6, cleared}}
 use Rattle.mob_ratio.{proofs.Field.{cases_lt, le_lt, lt_le, neg_lt}, proofs.Order.{lt-before, before-lt, up_to-le, before-back, before-from}, proofs.Convex.{mul_lt, mul_le, sub_lt, sub_le, add_lt_le}}
@@ -137,11 +137,7 @@ get_last a [] = refl
 get_last a (b ∷ rest) = get_last b rest
 
 one_point : (a b : Point) (o : Option Point) → o ≡ Some b → not (are_one (Some a) o) ≡ false → a ≡ b
-one_point a b o e h = (same_point_exact a b).0 (opposite (same_point a b) (subst (λ z. not (are_one (Some a) z) ≡ false) e h))
-  where
-    opposite : (c : Bool) → not c ≡ false → c ≡ true
-    opposite true f = refl
-    opposite false f = absurd (true≢false f)
+one_point a b o e h = (same_point_exact a b).0 (not-false (same_point a b) (subst (λ z. not (are_one (Some a) z) ≡ false) e h))
 
 ends_at_first : (a : Point) (rest : List Point) → is_open_ring (a ∷ rest) ≡ false → a ≡ last_from a rest
 ends_at_first a rest h =

@@ -2,7 +2,7 @@
 use Rattle.std.{proofs.Common.{◌≡◌, ℕ, [], ◌∷◌, ◌++◌, length, Bool, true, false, Option, Some, None, refl, sym, ap, subst, ◌∙◌, rules, arith, codes, inl, inr}, proofs.lemmas.Bool.Decides.{nat_tests}}
 use Rattle.mob_language.{specs.Language.{Text, Language, Maybe, behind, is_blank, within_blanks, is_digit, is_number_sign, is_exponent_letter}, specs.Readers.{within_blanks_at}}
 use Rattle.mob_language.proofs.Exact.{Exact, Stops, means_exact}
-use Rattle.mob_language.proofs.Heads.{NoHead, Apart, HasByte, IsEnd, then_head, means_head, maybe_head, where_head, one_head, many_head, means_byte, within_exact, blanks_stop}
+use Rattle.mob_language.proofs.Heads.{NoHead, Apart, HasByte, front_nil, IsEnd, then_head, means_head, maybe_head, where_head, one_head, many_head, means_byte, within_exact, blanks_stop}
 use Rattle.mob_numeral.{specs.declared.numeral.Figures.{Figures}, specs.declared.numeral.Exponent.{Exponent}, specs.declared.numeral.Tail.{Tail}, specs.declared.numeral.Tail.TheVariants.{Decimal}}
 use Rattle.mob_numeral.{specs.declared.numeral.Numeral.{Numeral}, specs.Figures.{digits}, specs.Number.{number, tail, has_digits}, specs.NumberReaders.{numeral_at}}
 use Rattle.mob_numeral.{specs.Fitting.{fitting_value, number_value, number_value_at}, proofs.NumberExact.{number_exact, continues, tail_head}}
@@ -36,11 +36,7 @@ pub back_nil : (a b : Text) → a ++ b ≡ [] → b ≡ []
 back_nil [] b h = h
 back_nil (c ∷ cs) b h = absurd cc
 
-pub front_nil : (a b : Text) → a ++ b ≡ [] → a ≡ []
-front_nil [] b h = refl
-front_nil (c ∷ cs) b h = absurd cc
-
-no_figures : (text : Text) (f : Figures) → digits text f → text ≡ [] → f.count ≡ 0
+pub no_figures : (text : Text) (f : Figures) → digits text f → text ≡ [] → f.count ≡ 0
 no_figures text f d e = ap (λ (x : Figures). x.count) d.is ∙ ap length (sym d.said.said.is ∙ e)
 
 not_enough : (w : Figures) (e : Option Exponent) → w.count ≡ 0 → has_digits w (Decimal None e) ≡ true → ⊥

@@ -1,5 +1,5 @@
 -- The signs that compare over time use the pair of their operands.
-use Rattle.std.proofs.Common.{◌≡◌, Bool, true, false, true≢false, [], ◌∷◌, sym, refl}
+use Rattle.std.proofs.Common.{◌≡◌, ◌||◌, Bool, true, true≢false, [], ◌∷◌, sym, refl}
 use Rattle.mob_slice.{specs.LineComparison.{point_relates, number_relates}, specs.declared.comparison.Rel.{Rel}}
 use Rattle.mob_ast.{specs.declared.types.Cmp.{Cmp}, specs.declared.types.SqlType.{SqlType}}
 use Rattle.mob_operators.specs.declared.operator.Op.{Op}
@@ -8,54 +8,18 @@ use Rattle.mob_compare.{specs.declared.sql.when.When.{When}, specs.Sql.Signs.{Is
 use Rattle.mob_meaning.specs.Types.{common_type}
 use Rattle.mob_catalog.specs.OwnTypes.{IsValueOf}
 use Rattle.mob_operands.specs.Rows.{AreNeverTogether, NullIsDue, IsAnswer}
-use Rattle.mob_operands.proofs.Together.{asked_type, asked_row, truth_pair_answers, text_pair_answers, point_pair_answers, int_pair_answers, line_pair_answers}
+use Rattle.mob_operands.proofs.Together.{are_truths, are_texts, are_points, are_ints, are_lines, asked_type, asked_row, truth_pair_answers, text_pair_answers, point_pair_answers, int_pair_answers, line_pair_answers}
 use Rattle.mob_ast.specs.declared.types.Cmp.TheVariants as cmp
 use Rattle.mob_ast.specs.declared.types.SqlType.TheVariants as sql
 
 -- two types whose values are ordered over time: numbers and texts, at least one of which is
 -- temporal
 abbrev pub are_signed : SqlType → SqlType → Bool
-are_signed sql.TInt sql.TInt = true
-are_signed sql.TInt sql.Int = true
-are_signed sql.Int sql.TInt = true
-are_signed sql.TFrac sql.TFrac = true
-are_signed sql.TFrac sql.TInt = true
-are_signed sql.TInt sql.TFrac = true
-are_signed sql.TFrac sql.Int = true
-are_signed sql.Int sql.TFrac = true
-are_signed sql.TFrac sql.Numeric = true
-are_signed sql.Numeric sql.TFrac = true
-are_signed sql.TInt sql.Numeric = true
-are_signed sql.Numeric sql.TInt = true
-are_signed sql.TText sql.TText = true
-are_signed sql.TText sql.Text = true
-are_signed sql.Text sql.TText = true
-are_signed _ _ = false
+are_signed t u = are_ints t u || (are_lines t u || are_texts t u)
 
 -- or compared over time: truth values and points too
 abbrev pub are_any : SqlType → SqlType → Bool
-are_any sql.TBool sql.TBool = true
-are_any sql.TBool sql.Bool = true
-are_any sql.Bool sql.TBool = true
-are_any sql.TPoint sql.TPoint = true
-are_any sql.TPoint sql.Point = true
-are_any sql.Point sql.TPoint = true
-are_any sql.TInt sql.TInt = true
-are_any sql.TInt sql.Int = true
-are_any sql.Int sql.TInt = true
-are_any sql.TFrac sql.TFrac = true
-are_any sql.TFrac sql.TInt = true
-are_any sql.TInt sql.TFrac = true
-are_any sql.TFrac sql.Int = true
-are_any sql.Int sql.TFrac = true
-are_any sql.TFrac sql.Numeric = true
-are_any sql.Numeric sql.TFrac = true
-are_any sql.TInt sql.Numeric = true
-are_any sql.Numeric sql.TInt = true
-are_any sql.TText sql.TText = true
-are_any sql.TText sql.Text = true
-are_any sql.Text sql.TText = true
-are_any _ _ = false
+are_any t u = are_truths t u || (are_points t u || are_signed t u)
 
 abbrev pub are_compared_by : Cmp → SqlType → SqlType → Bool
 are_compared_by cmp.Eq t u = are_any t u

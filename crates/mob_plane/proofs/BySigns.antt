@@ -1,7 +1,7 @@
 -- Signs decide membership in a polygon.
 use Rattle.std.{specs.Prelude.{◌≡◌, refl, Bool, true, false, cond, not, ◌&&◌, ◌||◌, ℕ, zero, suc, ◌%◌, ◌<◌, nat_eq, List, [], ◌∷◌, length}, specs.List.{list_any, filter}}
 use Rattle.std.{specs.declared.cmp.Ordering.{Ordering}, specs.declared.cmp.Ordering.TheVariants.{Less, Greater}, specs.Ordering.{is_lt, is_gt}, proofs.Common.{arith, sym, ap, ◌∙◌}}
-use Rattle.std.proofs.Math.Nat.{suc-mod}
+use Rattle.std.{proofs.Math.Nat.{suc-mod}, proofs.Math.Bool.{or-false}}
 use Rattle.mob_ratio.{specs.Ratio.{Ratio, ◌-ℚ◌}, specs.Order.{before}, specs.Sign.{sign_of, nil}, proofs.Order.{before-back, before-from}, proofs.Signs.{lt_sign, gt_sign, eq_sign, lt_diff, gt_diff}}
 use Rattle.mob_plane.{specs.Turns.{turn}, specs.Rings.{all_edges}, specs.Membership.{lies_between, lies_on, is_one_alone, passes_height, crossing_at, passes_right, is_odd, inside}}
 use Rattle.mob_plane.{specs.EdgeWise.{signs_at, signs_to, is_between, is_on, crosses, some_on, odd_cross, inside_by, same_order}, specs.declared.point.Point.{Point}}
@@ -22,13 +22,9 @@ on_is a b p = rw (eq_sign (turn a b p), ← between_is a.x b.x p.x, ← between_
 
 -- ---- an edge to the right
 
-or_false : (a : Bool) → (a || false) ≡ a
-or_false true = refl
-or_false false = refl
-
 crosses_cases : (ya yb left right far : Bool) → (ya ≡ true → yb ≡ false → far ≡ right) → (yb ≡ true → ya ≡ false → far ≡ left) → (is_one_alone ya yb && far) ≡ ((ya && (not yb && right)) || (yb && (not ya && left)))
 crosses_cases true true left right far f g = refl
-crosses_cases true false left right far f g = f refl refl ∙ sym (or_false right)
+crosses_cases true false left right far f g = f refl refl ∙ sym (or-false right)
 crosses_cases false true left right far f g = g refl refl
 crosses_cases false false left right far f g = refl
 

@@ -2,7 +2,7 @@
 use Rattle.std.{specs.Prelude.{◌≡◌, ◌⊎◌, Bool, true, false, cond, ◌&&◌, not, List, [], ◌∷◌, ◌++◌, map, Option, Some, None, Result, Ok, Err, refl}, specs.List.{flat_map, filter, AllByRecursion}}
 use Rattle.std.proofs.Common.{ap, sym, ◌∙◌, subst, inl, inr, ⊎_elim, true≢false}
 use Rattle.mob_ratio.specs.Ratio.{Ratio}
-use Rattle.mob_frac.{specs.Formula.{AllFit}, proofs.Fits.{fits_or}}
+use Rattle.mob_frac.{specs.Formula.{AllFit}, proofs.Fits.{all_fit_or}}
 use Rattle.mob_span.{specs.Span.{SpanOf, has, has_instant}, specs.Neighbours.{is_inside}, specs.Meet.{meet_of}, specs.Meets.{PieceOf, shared_pieces}, specs.Sets.{in_some, IsSpanSet}}
 use Rattle.mob_span.{specs.Remainders.{AreRemainders, remainders_of}, proofs.Insides.{inside_has}, proofs.Shared.{row}, proofs.Leaving.{set_clear}, proofs.RemainderEnds.{remainders_cut, spans_cut}}
 use Rattle.mob_slice.{specs.Course.{IsCourse}, specs.Slices.{value_at}, specs.Sides.{at_ends}, specs.Cut.{slice_parts}, specs.Entries.{IsFirst, IsJudged}, specs.declared.slice.Slice.{Slice}}
@@ -28,11 +28,6 @@ outside_values value start end v slices h spans remainders a g r = record {
   values = λ t. r.values t ∙ ap (λ b. where_wanted true (λ x. b) (value_at value v t)) (g t) ∙ by_hull (value_at value v t) (has h t) (in_some spans t) (λ n. gone value h v t a n);
 }
 
--- the parts of a formula fit or do not
-parts_or : (parts : List Ratio) → AllFit parts ⊎ (¬ AllFit parts)
-parts_or [] = inl tt
-parts_or (q ∷ parts) = ⊎_elim (λ m. ⊎_elim (λ n. inl (m, n)) (λ n. inr (λ f. n f.1)) (parts_or parts)) (λ m. inr (λ f. m f.0)) (fits_or q)
-
 module _ {C : Type 0} (parts : C → Ratio → Ratio → Ratio → List Ratio) where
   -- every cut at the ends of the pieces fits
   abbrev pub CutsFit : List (PieceOf (Slice C) SpanOf) → Type 0
@@ -52,7 +47,7 @@ module _ {C : Type 0} (parts : C → Ratio → Ratio → Ratio → List Ratio) w
 
   first_fails : (ps : List (PieceOf (Slice C) SpanOf)) → (¬ CutsFit ps) → IsFirst (flat_map (entry_of_cut parts) ps) (Some F1)
   first_fails [] n = absurd (n tt)
-  first_fails (p ∷ ps) n = ⊎_elim (λ m. inl (m, first_fails ps (λ k. n (m, k)))) (λ m. inr (m, refl)) (parts_or (at_ends (slice_parts parts p.left) p.span))
+  first_fails (p ∷ ps) n = ⊎_elim (λ m. inl (m, first_fails ps (λ k. n (m, k)))) (λ m. inr (m, refl)) (all_fit_or (at_ends (slice_parts parts p.left) p.span))
 
   -- if two lists of cuts fit or fail together, they give the same error
   judged_alike : {V : Type 0} (ps qs : List (PieceOf (Slice C) SpanOf)) (r : Result V (Fault Formula)) → (CutsFit ps → CutsFit qs) → (CutsFit qs → CutsFit ps) → IsJudged (flat_map (entry_of_cut parts) ps) r → IsJudged (flat_map (entry_of_cut parts) qs) r

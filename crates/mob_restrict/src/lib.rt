@@ -1,6 +1,6 @@
 //! Restriction by time and by value: a temporal value at the instants of a set or of a value, or at
-//! all others. Also the instants at which it is defined, and the coordinates of a moving point. `sql`
-//! has the operators of SQL by these.
+//! all others. Also the instants at which it is defined, and the coordinates of a moving point.
+//! `sql` has the operators of SQL by these.
 #![tactic(auto)]
 
 mod by_time;

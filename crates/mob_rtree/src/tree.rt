@@ -213,8 +213,9 @@ impl RTree {
         Some(self.root.node)
     }
 
-    /// The children of a node that can be reached from the root; there are at most 16.
-    pub fn part(&self, node: u32) -> &[(StBox, Child)]
+    /// The children of a node that can be reached from the root; there are at most 16. Each entry
+    /// below the node is below one of them, under a box that covers it.
+    pub fn children(&self, node: u32) -> &[(StBox, Child)]
         requires reached { IsReachedNode self.now.nodes self.now.root node }
         ensures children { result.now ≡ children self.now.nodes node }
         ensures few { length result.now ≤ 16 }

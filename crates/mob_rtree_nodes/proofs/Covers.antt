@@ -1,7 +1,7 @@
 -- Boxes over many boxes, and reordered children.
 use Rattle.std.{specs.Prelude.{All, sum_by, count_by, IsPermutation}, specs.List.{refill, remove}}
-use Rattle.std.proofs.Common.{◌≡◌, refl, ℕ, zero, suc, ◌+◌, ◌<◌, ◌≤◌, Bool, true, false, cond, not, ◌&&◌, ◌==◌, List, [], ◌∷◌, ◌++◌, length, get_or, set, take, drop, arith, ap, sym, ◌∙◌}
-use Rattle.std.{proofs.lemmas.Bool.{true≢false}, proofs.lemmas.Bool.Decides.{nat_tests}, proofs.lemmas.List.Sums.{sum_by-cons, sum_by-remove, sum_by-set, sum_by-append, get_or-le-sum_by}}
+use Rattle.std.proofs.Common.{◌≡◌, refl, ℕ, zero, suc, ◌+◌, ◌<◌, ◌≤◌, Bool, true, false, cond, not, ◌==◌, List, [], ◌∷◌, ◌++◌, length, get_or, set, take, drop, arith, ap, sym, ◌∙◌}
+use Rattle.std.{proofs.lemmas.Bool.{true≢false, and_parts}, proofs.lemmas.Bool.Decides.{nat_tests}, proofs.lemmas.List.Sums.{sum_by-cons, sum_by-remove, sum_by-set, sum_by-append, get_or-le-sum_by}}
 use Rattle.std.{proofs.lemmas.List.{length-set}, proofs.lemmas.List.Elements.{All-more, All-weaker}, proofs.lemmas.List.Sorted.{sum_by-IsPermutation, length_permutation}}
 use Rattle.mob_stbox.{specs.Boxes.{BoxOf, contains, cover, is_whole}, proofs.BoxLaws.{cover_whole, cover_over_left, cover_over_right, cover_least, over_trans}}
 use Rattle.mob_rtree_nodes.specs.Tree.{Kid, IsLeastOver, is_fit, is_kind}
@@ -46,16 +46,8 @@ counts_less {X = X} s t says (x ∷ xs) none =
     one true false f = absurd (true≢false (sym (f refl)))
     one false false f = omega arith
 
-pub left_true : (a b : Bool) → (a && b) ≡ true → a ≡ true
-left_true true b h = refl
-left_true false b h = h
-
-pub right_true : (a b : Bool) → (a && b) ≡ true → b ≡ true
-right_true true b h = h
-right_true false b h = absurd (true≢false (sym h))
-
 pub fit_whole : (h : ℕ) (kids : List Kid) → count_by (λ k. not (is_fit h k)) kids ≡ 0 → count_by (λ k. not (is_whole k.0)) kids ≡ 0
-fit_whole h kids none = counts_less (is_fit h) (λ k. is_whole k.0) (λ k e. left_true (is_whole k.0) (is_kind h k.1) e) kids none
+fit_whole h kids none = counts_less (is_fit h) (λ k. is_whole k.0) (λ k e. (and_parts (is_whole k.0) (is_kind h k.1) e).0) kids none
 
 take_front : {X : Type 0} (n : ℕ) (xs ys : List X) → n ≡ length xs → take n (xs ++ ys) ≡ xs
 take_front zero [] ys e = refl

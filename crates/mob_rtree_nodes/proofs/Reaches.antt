@@ -1,13 +1,13 @@
 -- From the root each entry is reached as often as it occurs.
 use Rattle.std.specs.Prelude.{All, sum_by, flat_map}
 use Rattle.std.proofs.Common.{◌≡◌, refl, ℕ, zero, suc, ◌+◌, ◌<◌, ◌≤◌, Bool, true, false, cond, List, [], ◌∷◌, ◌++◌, length, get_or, map, arith, ap, sym, ◌∙◌, subst, Option, Some, None}
-use Rattle.std.{proofs.lemmas.Bool.{true≢false}, proofs.lemmas.List.{get_or_default}, proofs.lemmas.List.Sums.{sum_by-cons, sum_by-append, get_or-le-sum_by}}
+use Rattle.std.{proofs.lemmas.Bool.{true≢false, and_parts}, proofs.lemmas.List.{get_or_default}, proofs.lemmas.List.Sums.{sum_by-cons, sum_by-append, get_or-le-sum_by}}
 use Rattle.std.{proofs.lemmas.List.Concat.{flat_map-cons, flat_map_single}, proofs.lemmas.List.Elements.{All-head, All-tail, All-append, All-cons, All-nil}}
 use Rattle.mob_stbox.{specs.Boxes.{BoxOf, contains, is_whole}, proofs.BoxLaws.{over_self, over_trans, over_whole}}
 use Rattle.mob_rtree_nodes.specs.Tree.{Kid, EntryOf, entry_of, target, Ref, IsTree, IsSoundNode, entries_list, kids_at, height_at, walk_sum, is_fit, is_kind, AreSame, IsLeastOver}
 use Rattle.mob_rtree_nodes.specs.Reach.{Branch, branch_of, root_number, children, branch_height, gathered, entries_under, entries_below, StandsAtDepth, IsReachedNode, is_root, is_child, IsLeaf}
 use Rattle.mob_rtree_nodes.{specs.Reach.{HaveOneDepth, IsSpread}, specs.declared.node.Child.{Child}, specs.declared.node.Child.TheVariants.{Node, Entry}, specs.declared.node.TreeNode.{TreeNode}}
-use Rattle.mob_rtree_nodes.{proofs.Sums.{mapped_sum, kids_of, height_of, node_at, sound_at}, proofs.Covers.{none_fails, right_true}, proofs.Walks.{tied_same, tied_height, alive}}
+use Rattle.mob_rtree_nodes.{proofs.Sums.{mapped_sum, kids_of, height_of, node_at, sound_at}, proofs.Covers.{none_fails}, proofs.Walks.{tied_same, tied_height, alive}}
 use Rattle.mob_rtree_nodes.proofs.Roots.{root_there, root_height, root_alive, walk_entries}
 
 pub children_is : (ps : List TreeNode) (n : ℕ) → children (map branch_of ps) n ≡ kids_at ps n
@@ -46,7 +46,7 @@ kind_at : (ps : List TreeNode) (n i : ℕ) (p : TreeNode) (k : Kid) → All IsSo
 kind_at ps n i p k sound inside is within at =
     let s = sound_at ps n p inside is sound in
     let f = none_fails (is_fit p.height) p.kids.items i k s.fit within in
-    right_true (is_whole k.0) (is_kind p.height k.1) (ap (λ (k : Kid). is_fit p.height k) at ∙ f)
+    (and_parts (is_whole k.0) (is_kind p.height k.1) (ap (λ (k : Kid). is_fit p.height k) at ∙ f)).1
 
 entry_low : (h : ℕ) (id : ℕ) → is_kind h (Entry id) ≡ true → h ≡ 0
 entry_low zero id e = refl

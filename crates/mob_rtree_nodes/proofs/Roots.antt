@@ -1,13 +1,13 @@
 -- The root, and the contents of the whole tree.
 use Rattle.std.specs.Prelude.{MatchOption, All, sum_by, count_by, nat_le}
 use Rattle.std.proofs.Common.{◌≡◌, refl, ℕ, suc, ◌+◌, ◌<◌, ◌≤◌, Bool, true, false, cond, not, ◌==◌, ◌&&◌, List, [], ◌∷◌, length, get_or, map, arith, ap, sym, ◌∙◌, subst, Some, None, eq-eqb, inl, inr}
-use Rattle.std.{proofs.lemmas.Bool.{cases_lt, ne_eqb}, proofs.lemmas.Bool.Decides.{nat_tests}, proofs.lemmas.List.Sums.{sum_by-cons, sum_by-append}, proofs.lemmas.List.Concat.{flat_map-cons}}
+use Rattle.std.{proofs.lemmas.Bool.{cases_lt, ne_eqb, and_parts}, proofs.lemmas.Bool.Decides.{nat_tests}, proofs.lemmas.List.Sums.{sum_by-cons, sum_by-append}, proofs.lemmas.List.Concat.{flat_map-cons}}
 use Rattle.std.proofs.lemmas.List.Elements.{All-head, All-tail, All-cons, All-nil, All-weaker}
 use Rattle.mob_stbox.{specs.Boxes.{BoxOf, overlaps, contains, cover, is_whole}, proofs.BoxLaws.{cover_whole, cover_over_left, cover_over_right, cover_least, over_self, over_overlaps}}
 use Rattle.mob_rtree_nodes.specs.Tree.{areas_list, if_live_list, is_kind, GoesUp, Kid, EntryOf, entry_of, target, if_live, is_fit, Ref, IsTree, IsSoundNode, IsLeastOver, nodes_sum, kids_sum, refs_sum}
 use Rattle.mob_rtree_nodes.{specs.Tree.{entries_sum, entries_list, kids_at, height_at, IsGrown, more_sum, IsPut, walk_sum, AreFound, IsAdded}, specs.declared.node.TreeNode.{TreeNode}}
 use Rattle.mob_rtree_nodes.{specs.declared.node.Child.TheVariants.{Node}, specs.declared.insert.Grown.{Grown}}
-use Rattle.mob_rtree_nodes.{proofs.Sums.{mapped_sum, live_le, live_some, live_is, live_zero, kids_of, height_of, node_at, nodes_none, nodes_one}, proofs.Covers.{left_true}}
+use Rattle.mob_rtree_nodes.{proofs.Sums.{mapped_sum, live_le, live_some, live_is, live_zero, kids_of, height_of, node_at, nodes_none, nodes_one}}
 use Rattle.mob_rtree_nodes.{proofs.Walks.{one_same, self_is, cond_nil, walk_all, own_upto, entries_of}, proofs.Inserts.{node_fit, put_in, put_all, ref_of, links_of, leaf_of}}
 
 -- the root exists
@@ -76,7 +76,7 @@ tree_some root old tree kid g new by m some r kids height area number after put 
     let k : Kid = (g.area, Node root.node) in
     let low_r : r.height ≤ root.height + 1 = omega (arith, height) in
     let m-fit : is_fit (root.height + 1) m ≡ true = ap (λ h. is_fit (h + 1) m) (sym (root_height root old tree)) ∙ subst (λ o. MatchOption o (0 ≤ 0) (λ k. is_fit (height_at old root.node + 1) k ≡ true)) some by.more in
-    let m-whole : is_whole m.0 ≡ true = left_true (is_whole m.0) (is_kind (root.height + 1) m.1) m-fit in
+    let m-whole : is_whole m.0 ≡ true = (and_parts (is_whole m.0) (is_kind (root.height + 1) m.1) m-fit).0 in
     record {
       once = λ F.
           let f : Kid → ℕ = λ k. F (record { area = k.0; node = target k.1; height = root.height }) in
@@ -193,7 +193,7 @@ pub tree_one : (kid : Kid) (r : TreeNode) → is_fit 0 kid ≡ true → r.kids.i
 tree_one kid r fit kids flat area =
     record {
       once = λ F. omega (arith, sum_by-cons (links_of F) r [], live_is r.kids.items (F (ref_of r 0)) (omega (arith, ap (λ (l : List Kid). length l) kids)), ap (λ h. kids_sum F h r.kids.items) flat, ap (λ a. F (record { area = a; node = 0; height = 0 })) area, ap (λ h. F (record { area = r.area; node = 0; height = h })) flat);
-      sound = All-cons IsSoundNode r [] (record { whole = ap is_whole area ∙ left_true (is_whole kid.0) (is_kind 0 kid.1) fit; least = λ live. subst (IsLeastOver r.area) (sym kids) (λ d all. ap (contains d) area ∙ all 0 kid (omega arith)); fit = ap (λ (l : List Kid). count_by (λ k. not (is_fit r.height k)) l) kids ∙ one_fit r.height kid (ap (λ h. is_fit h kid) flat ∙ fit); over = subst (λ l. All (λ k. contains r.area k.0 ≡ true) l) (sym kids) (All-cons (λ k. contains r.area k.0 ≡ true) kid [] (ap (λ a. contains a kid.0) area ∙ over_self kid.0) (All-nil (λ k. contains r.area k.0 ≡ true))) }) (All-nil IsSoundNode);
+      sound = All-cons IsSoundNode r [] (record { whole = ap is_whole area ∙ (and_parts (is_whole kid.0) (is_kind 0 kid.1) fit).0; least = λ live. subst (IsLeastOver r.area) (sym kids) (λ d all. ap (contains d) area ∙ all 0 kid (omega arith)); fit = ap (λ (l : List Kid). count_by (λ k. not (is_fit r.height k)) l) kids ∙ one_fit r.height kid (ap (λ h. is_fit h kid) flat ∙ fit); over = subst (λ l. All (λ k. contains r.area k.0 ≡ true) l) (sym kids) (All-cons (λ k. contains r.area k.0 ≡ true) kid [] (ap (λ a. contains a kid.0) area ∙ over_self kid.0) (All-nil (λ k. contains r.area k.0 ≡ true))) }) (All-nil IsSoundNode);
       low = All-cons (λ p. p.height ≤ 0) r [] (omega (arith, flat)) (All-nil (λ p. p.height ≤ 0));
     }
 

@@ -1,14 +1,14 @@
 -- How sums over a tree change when an entry is removed.
 use Rattle.std.{specs.Prelude.{All, sum_by, count_by}, specs.List.{remove}}
 use Rattle.std.proofs.Common.{◌≡◌, refl, ℕ, zero, suc, ◌+◌, ◌<◌, ◌≤◌, Bool, true, false, cond, ◌==◌, ◌&&◌, List, [], ◌∷◌, length, get_or, set, take, arith, ap, sym, ◌∙◌, subst, eq-eqb, take_all}
-use Rattle.std.{proofs.lemmas.Bool.{and_from, eqb-true}, proofs.lemmas.List.{length-set, get_or-set_other}}
+use Rattle.std.{proofs.lemmas.Bool.{and_from, and_parts, eqb-true}, proofs.lemmas.List.{length-set, get_or-set_other}}
 use Rattle.std.{proofs.lemmas.List.Sums.{sum_by-cons, sum_by-set, sum_by-remove, sum_by_more, get_or-le-sum_by}, proofs.lemmas.List.Elements.{All-set}}
 use Rattle.mob_stbox.{specs.Boxes.{BoxOf, contains, is_whole, same_box}, specs.SameBoxes.{same_self, same_is}, proofs.BoxLaws.{over_self, over_trans}}
 use Rattle.mob_rtree_nodes.specs.Tree.{Kid, EntryOf, entry_of, target, if_live, Ref, IsTree, IsSoundNode, IsReplaced, nodes_sum, kids_sum, refs_sum, entries_sum, entries_list, kids_at, height_at}
 use Rattle.mob_rtree_nodes.specs.Tree.{walk_sum, step_sum, GoesUp}
 use Rattle.mob_rtree_nodes.{specs.Removes.{is_entry, hit, is_whole_left, kid_left, node_left, IsNodeLeft, IsSettled, IsSettledAt, IsShrunk, IsRemoved, IsTakenOut}, specs.Builds.{leaf_sum}}
 use Rattle.mob_rtree_nodes.{specs.declared.node.TreeNode.{TreeNode}, specs.declared.remove.Removed.{Removed}, specs.declared.remove.Removed.TheVariants.{Missing, Narrowed, Emptied}}
-use Rattle.mob_rtree_nodes.{proofs.Sums.{kids_of, height_of, node_at, live_is}, proofs.Covers.{left_true, right_true}, proofs.Walks.{tied_same, tied_height, walk_steps, all_dead, entries_of}}
+use Rattle.mob_rtree_nodes.{proofs.Sums.{kids_of, height_of, node_at, live_is}, proofs.Walks.{tied_same, tied_height, walk_steps, all_dead, entries_of}}
 use Rattle.mob_rtree_nodes.proofs.Inserts.{Lower, lower, ref_of, live_of, links_of, leaf_of, nodes_set, low_one, inner_leaf, same_read}
 use Rattle.mob_rtree_nodes.proofs.Roots.{root_there, root_same, entries_listed, walk_entries, passed_sum}
 
@@ -238,6 +238,6 @@ found_beneath {p = p} b s missing = let st = s.settled p b.kept in subst (IsNode
 
 pub held_is : (b : BoxOf) (id : ℕ) (k : Kid) → is_entry b id k ≡ true → entry_of k ≡ (b, id)
 held_is b id k h =
-    let e : k.0 ≡ b = same_is k.0 b (left_true (same_box k.0 b) (target k.1 == id) h) in
-    let f : target k.1 ≡ id = eqb-true (target k.1) id (right_true (same_box k.0 b) (target k.1 == id) h) in
+    let e : k.0 ≡ b = same_is k.0 b (and_parts (same_box k.0 b) (target k.1 == id) h).0 in
+    let f : target k.1 ≡ id = eqb-true (target k.1) id (and_parts (same_box k.0 b) (target k.1 == id) h).1 in
     ap (λ a. (a, target k.1)) e ∙ ap (λ n. (b, n)) f

@@ -2,8 +2,8 @@
 use Rattle.std.{specs.Prelude.{nat_eq}, proofs.Common.{◌≡◌, ℕ, [], ◌∷◌, ◌++◌, Bool, true, false, None, refl, sym, ap, subst, ◌∙◌, append_assoc, rules, codes}}
 use Rattle.mob_language.specs.Language.{Text, Language, ◌▷◌, Word, AreAll, Separated, blanks, is_blank}
 use Rattle.mob_language.proofs.Exact.{Exact, Stops, Any, then_exact, means_exact, word_exact, one_exact, many_exact, many_again}
-use Rattle.mob_language.proofs.Heads.{NoHead, Apart, HasByte, stops_less, byte_stops, byte_head, means_head, one_head, then_byte, means_byte, then_byte_stops, one_byte, word_byte, spaced_exact}
-use Rattle.mob_numeral.proofs.WholeTexts.{back_nil, front_nil}
+use Rattle.mob_language.proofs.Heads.{NoHead, Apart, HasByte, front_nil, stops_less, byte_stops, byte_head, means_head, one_head, then_byte, means_byte, then_byte_stops, one_byte, word_byte, spaced_exact}
+use Rattle.mob_numeral.proofs.WholeTexts.{back_nil}
 use Rattle.mob_scalar.{specs.Brackets.{comma, is_close, opening, is_open, closing, comma_at, opening_at, closing_at, open_brace_at, close_brace_at}, proofs.MomentExact.{Closes}}
 use Rattle.mob_scalar.proofs.Closing.{Ends, sign_closes}
 

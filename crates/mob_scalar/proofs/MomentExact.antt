@@ -1,5 +1,5 @@
 -- The reader of moments accepts exactly the texts of moments.
-use Rattle.std.{specs.Prelude.{◌||◌, nat_eq}, proofs.Common.{◌≡◌, ℕ, suc, [], ◌∷◌, length, Bool, true, false, Option, None, refl, sym, ap, ◌∙◌, arith, rules, codes}, proofs.lemmas.Bool.{eqb-true}}
+use Rattle.std.{specs.Prelude.{◌||◌, nat_eq}, proofs.Common.{◌≡◌, ℕ, suc, [], ◌∷◌, Bool, true, false, Option, None, refl, arith, rules, codes}, proofs.lemmas.Bool.{eqb-true}}
 use Rattle.mob_language.specs.Language.{Text, Language, ◌▷◌, Maybe, Means, Where, Word, OneOf, behind, is_blank, is_digit, is_number_sign}
 use Rattle.mob_language.specs.Readers.{TextReader, then_at, maybe_at, word_at, behind_at}
 use Rattle.mob_language.proofs.Exact.{Exact, Stops, then_exact, maybe_exact, means_exact, where_exact, one_exact, word_exact, many_stops}
@@ -7,7 +7,7 @@ use Rattle.mob_language.proofs.Heads.{NoHead, Apart, Nothing, HasByte, exact_les
 use Rattle.mob_language.proofs.Heads.{word_head, one_head, many_head, one_nothing, word_nothing, then_nothing, means_nothing, where_nothing, or_nothing, then_stops, after_any, maybe_stops, or_stops}
 use Rattle.mob_language.proofs.Heads.{then_byte, means_byte, where_byte, then_byte_stops, byte_head, one_byte, or_byte}
 use Rattle.mob_numeral.{specs.declared.numeral.Figures.{Figures}, specs.Blanks.{some_blanks, some_blanks_at}, specs.Figures.{digits}, specs.NumberReaders.{digits_at}}
-use Rattle.mob_numeral.{proofs.SomeBlanks.{some_blanks_exact, some_blanks_byte}, proofs.NumberExact.{digits_base, left, right}, proofs.WholeTexts.{sign_blank}}
+use Rattle.mob_numeral.{proofs.SomeBlanks.{some_blanks_exact, some_blanks_byte}, proofs.NumberExact.{digits_base, left, right}, proofs.WholeTexts.{sign_blank, no_figures}}
 use Rattle.mob_scalar.{specs.declared.stamp.Part.{Part}, specs.declared.stamp.Offset.{Offset}, specs.Calendar.{has_count, number_in, fixed, civil_of, is_civil, date}}
 use Rattle.mob_scalar.specs.CalendarReaders.{fixed_at, dash_at, date_at}
 use Rattle.mob_scalar.specs.Moment.{is_below, two_digits_below, point_part, is_point_part, fraction_part, is_fraction_part, part, clock_of, clock, offset_of, utc, is_z, zone, is_t, gap, time_of, time}
@@ -232,13 +232,8 @@ unfolding gap_at t_at blanks_language
 gap_exact = or_stops blanks_exact (exact_less (means_exact (λ (c : ℕ). tt) (one_exact is_t)) (λ rest after. tt)) blanks_none (means_head (one_head t_blank)) (λ c e. e)
 
 pub fixed_byte : (k : ℕ) → HasByte (fixed (suc k))
-fixed_byte k text v said e = no_count k said.meant said.said.holds (counted text said.meant said.said.said e)
+fixed_byte k text v said e = no_count k said.meant said.said.holds (no_figures text said.meant said.said.said e)
   where
-    counted : (t : Text) (f : Figures) → digits t f → t ≡ [] → f.count ≡ 0
-    counted t f d e =
-        let nil : d.meant ≡ [] = sym d.said.said.is ∙ e in
-        ap (λ (x : Figures). x.count) d.is ∙ ap length nil
-
     no_count : (n : ℕ) (f : Figures) → has_count (suc n) f ≡ true → f.count ≡ 0 → ⊥
     no_count n f h z = let e = eqb-true f.count (suc n) h in absurd (omega (arith, e, z))
 

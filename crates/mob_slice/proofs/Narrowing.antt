@@ -1,22 +1,9 @@
 -- Where the parts of a formula fit, so do the numbers that it gives.
-use Rattle.std.{specs.Prelude.{◌≡◌, Bool, true, false, cond, not, ◌&&◌, ◌||◌, List, [], ◌∷◌, ◌++◌, None}, proofs.Common.{refl, sym, subst, inl, inr}}
+use Rattle.std.{specs.Prelude.{◌≡◌, Bool, true, false, cond, not, ◌&&◌, ◌||◌, List, [], ◌∷◌, None}, proofs.Common.{refl, sym, subst, inl, inr}}
 use Rattle.mob_ratio.{specs.Ratio.{Ratio}, specs.Order.{before, same}, specs.Line.{line_at}, proofs.LineAt.{line_at-quotient}}
-use Rattle.mob_frac.{specs.Fits.{Fits}, specs.Formula.{AllFit, line_parts, inner_parts}}
+use Rattle.mob_frac.{specs.Fits.{Fits}, specs.Formula.{AllFit, line_parts, inner_parts}, proofs.Fitting.{all_both, all_first, all_second}}
 use Rattle.mob_slice.{specs.Entries.{IsFirst}, specs.Lines.{line_parts_of, plane_parts_of}, specs.Modes.{entry_given}, specs.Numbers.{line_numbers, line_numbers_of, plane_numbers_of}}
 use Rattle.mob_slice.{specs.declared.line.Line.{Line}, specs.declared.line.PlaneLine.{PlaneLine}}
-
--- the parts of two lists fit where those of both do, and the other way
-pub fit_both : (xs ys : List Ratio) → AllFit xs → AllFit ys → AllFit (xs ++ ys)
-fit_both [] ys h k = k
-fit_both (x ∷ xs) ys h k = (h.0, fit_both xs ys h.1 k)
-
-pub fit_front : (xs ys : List Ratio) → AllFit (xs ++ ys) → AllFit xs
-fit_front [] ys h = tt
-fit_front (x ∷ xs) ys h = (h.0, fit_front xs ys h.1)
-
-pub fit_back : (xs ys : List Ratio) → AllFit (xs ++ ys) → AllFit ys
-fit_back [] ys h = h
-fit_back (x ∷ xs) ys h = fit_back xs ys h.1
 
 -- the last part of F1 is the value
 value_fits : (x0 x1 l u t : Ratio) → before l u ≡ true → AllFit (inner_parts x0 x1 l u t) → Fits (line_at x0 x1 l u t)
@@ -36,9 +23,9 @@ number_narrows c l u t h = line_narrows c.from c.to l u t h
 
 pub point_narrows : (c : PlaneLine) (l u t : Ratio) → AllFit (plane_parts_of c l u t) → AllFit (plane_numbers_of c l u t)
 point_narrows c l u t h =
-    fit_both (line_numbers c.from.x c.to.x l u t) (line_numbers c.from.y c.to.y l u t)
-    (line_narrows c.from.x c.to.x l u t (fit_front (line_parts c.from.x c.to.x l u t) (line_parts c.from.y c.to.y l u t) h))
-    (line_narrows c.from.y c.to.y l u t (fit_back (line_parts c.from.x c.to.x l u t) (line_parts c.from.y c.to.y l u t) h))
+    all_both (line_numbers c.from.x c.to.x l u t) (line_numbers c.from.y c.to.y l u t)
+    (line_narrows c.from.x c.to.x l u t (all_first (line_parts c.from.x c.to.x l u t) (line_parts c.from.y c.to.y l u t) h))
+    (line_narrows c.from.y c.to.y l u t (all_second (line_parts c.from.x c.to.x l u t) (line_parts c.from.y c.to.y l u t) h))
 
 -- numbers that fit have no first fault, and the other way
 pub given_fits : (numbers : List Ratio) → AllFit numbers → IsFirst (entry_given numbers) None

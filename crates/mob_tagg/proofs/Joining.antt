@@ -6,14 +6,10 @@ use Rattle.mob_span.proofs.SpanLemmas.{some_instant}
 use Rattle.mob_lift.specs.OneNormal.{OneNormal}
 use Rattle.mob_tagg.{specs.United.{united_by, AreUnited}, specs.Aggregates.{put_there, values_at, made_of, IsAggregate, JoinsBy, total, count, all_hold, some_holds}}
 
-append_none : {B : Type 0} (xs : List B) → xs ++ [] ≡ xs
-append_none [] = refl
-append_none (x ∷ xs) = ap (λ z. x ∷ z) (append_none xs)
-
 module _ {B Z : Type 0} (op : Z → Z → Z) (f : List B → Z) (joins : JoinsBy op f) where
   pub made_both : (xs ys : List B) → made_of f (xs ++ ys) ≡ united_by op (made_of f xs) (made_of f ys)
   made_both [] ys = refl
-  made_both (x ∷ xs) [] = ap (made_of f) (append_none (x ∷ xs))
+  made_both (x ∷ xs) [] = ap (made_of f) (append-nil (x ∷ xs))
   made_both (x ∷ xs) (y ∷ ys) = ap Some (joins x xs y ys)
 
 pub values_both : {V B : Type 0} (there : V → Ratio → Option B) (vs ws : List V) (t : Ratio) → values_at there (vs ++ ws) t ≡ values_at there vs t ++ values_at there ws t
@@ -44,7 +40,7 @@ module _ {V B D Z : Type 0} (there : V → Ratio → Option B) (result : D → R
   -- values that are undefined at every instant add nothing
   pub aggregate_same : (vs ws : List V) (r : Option (List (Slice D))) → ((t : Ratio) → values_at there ws t ≡ []) → Of vs r → Of (vs ++ ws) r
   aggregate_same vs ws None e h = λ t. values_both there vs ws t ∙ ap (λ z. z ++ values_at there ws t) (h t) ∙ e t
-  aggregate_same vs ws (Some r) e h = (h.0, λ t. h.1 t ∙ ap (made_of f) (sym (values_both there vs ws t ∙ ap (λ z. values_at there vs t ++ z) (e t) ∙ append_none (values_at there vs t))))
+  aggregate_same vs ws (Some r) e h = (h.0, λ t. h.1 t ∙ ap (made_of f) (sym (values_both there vs ws t ∙ ap (λ z. values_at there vs t ++ z) (e t) ∙ append-nil (values_at there vs t))))
 
   -- the first values that are defined somewhere
   pub aggregate_first : (vs ws : List V) (r : Option (List (Slice D))) → ((t : Ratio) → values_at there vs t ≡ []) → Of ws r → Of (vs ++ ws) r

@@ -1,22 +1,11 @@
 -- The instant of a written moment is in the years 0001 to 9999.
-use Rattle.std.{specs.Int.{int_div_euclid}, proofs.Common.{◌≡◌, sym, subst, ap, ◌∙◌, ◌*◌, ◌<◌, ℕ, ℤ, pos, negsuc, ◌+ℤ◌, ◌-ℤ◌, ◌*ℤ◌, ◌<ℤ◌, ◌≤ℤ◌, arith}, proofs.lemmas.Int.{ints}}
-use Rattle.mob_ratio.{specs.Ratio.{over, whole, ◌+ℚ◌}, proofs.IntRing.{add_mul, le_cancel, linear, lt_cancel, lt_times, products}, proofs.RatioLemmas.{den_pos, over-add, over-cross}}
+use Rattle.std.{specs.Int.{int_div_euclid}, proofs.Common.{◌≡◌, ap, ◌∙◌, ◌*◌, ◌<◌, ℕ, ℤ, pos, ◌+ℤ◌, ◌-ℤ◌, ◌*ℤ◌, ◌<ℤ◌, ◌≤ℤ◌, arith}, proofs.lemmas.Int.{ints}}
+use Rattle.mob_ratio.{specs.Ratio.{over, whole, ◌+ℚ◌}, proofs.Quotients.{quotient_from, quotient_until}, proofs.IntRing.{le_cancel, linear, lt_cancel, lt_times, products}, proofs.RatioLemmas.{den_pos, over-add, over-cross}}
 use Rattle.mob_language.specs.Language.{Text}
 use Rattle.mob_scalar.{specs.declared.stamp.Stamp.{Stamp}, specs.Moment.{instant, is_year_second, moment, seconds}, specs.MomentText.{HasDate, second_of, whole_seconds}}
 use Rattle.mob_scalar.proofs.MomentBounds.{moment_small}
 
 -- ---- the greatest whole number at most this
-floor_from : (a : ℤ) (k : ℕ) → 0 < k → (int_div_euclid a (pos k) *ℤ pos k) ≤ℤ a
-floor_from (pos a) k h = omega (arith, ints)
-floor_from (negsuc a) k h = omega (arith, ints)
-
-floor_next : (a : ℤ) (k : ℕ) → 0 < k → a <ℤ ((int_div_euclid a (pos k) *ℤ pos k) +ℤ (pos 1 *ℤ pos k))
-floor_next (pos a) k h = omega (arith, ints)
-floor_next (negsuc a) k h = omega (arith, ints)
-
-floor_until : (a : ℤ) (k : ℕ) → 0 < k → a <ℤ ((int_div_euclid a (pos k) +ℤ pos 1) *ℤ pos k)
-floor_until a k h = subst (λ z. a <ℤ z) (sym (add_mul (int_div_euclid a (pos k)) (pos 1) (pos k))) (floor_next a k h)
-
 le_lt : (a b c : ℤ) → a ≤ℤ b → b <ℤ c → a <ℤ c
 le_lt a b c h k = omega (arith, ints)
 
@@ -27,8 +16,8 @@ floor_is : (a n : ℤ) (k : ℕ) → 0 < k → (n *ℤ pos k) ≤ℤ a → a <�
 floor_is a n k some from until =
     let m = int_div_euclid a (pos k) in
     between m n
-    (lt_cancel m (n +ℤ pos 1) k (le_lt (m *ℤ pos k) a ((n +ℤ pos 1) *ℤ pos k) (floor_from a k some) until))
-    (lt_cancel n (m +ℤ pos 1) k (le_lt (n *ℤ pos k) a ((m +ℤ pos 1) *ℤ pos k) from (floor_until a k some)))
+    (lt_cancel m (n +ℤ pos 1) k (le_lt (m *ℤ pos k) a ((n +ℤ pos 1) *ℤ pos k) (quotient_from a k some) until))
+    (lt_cancel n (m +ℤ pos 1) k (le_lt (n *ℤ pos k) a ((m +ℤ pos 1) *ℤ pos k) from (quotient_until a k some)))
 
 -- ---- a whole number of seconds and a part of one
 -- n + r/d with r below d, in lowest terms, has the whole number n

@@ -1,5 +1,5 @@
 -- The groups of sorted pieces are the pieces tile by tile, and their values are the split.
-use Rattle.std.{specs.Prelude.{Option, Some, None}, specs.List.{filter, AllByRecursion}, specs.List.Sorted.{IsStableBy, ties}, specs.Ordering.{is_lt, ordering_reverse}}
+use Rattle.std.{specs.Prelude.{Option, Some, None}, specs.List.{filter, AllByRecursion}, specs.List.Sorted.{IsStableBy, ties}}
 use Rattle.std.specs.declared.cmp.Ordering.TheVariants.{Less}
 use Rattle.std.proofs.Common.{◌≡◌, ◌≢◌, inl, inr, Bool, true, false, true≢false, List, [], ◌∷◌, ◌++◌, refl, sym, ap, subst, ◌∙◌, cond, append_assoc, append-nil}
 use Rattle.std.proofs.lemmas.Bool.{false_from_ne_true}
@@ -11,10 +11,9 @@ use Rattle.mob_slice.{specs.Slices.{value_at, IsRisingInTime, IsClearOf}, specs.
 use Rattle.mob_slice.{specs.declared.line.PlaneLine.{PlaneLine}, proofs.Orders.{ordered-clear}}
 use Rattle.mob_cells.specs.Restricted.{where_wanted, kept_value}
 use Rattle.mob_grid.{specs.Tiles.{GridOf, IsGrid, InTile, in_tile, tile_of, compare_tiles}, specs.declared.tile.Tile.{Tile}, proofs.Ranges.{tile_has, tile_is, in_tile_exact}}
-use Rattle.mob_grid.proofs.TileOrder.{tile_itself, tiles_total}
 use Rattle.mob_tile.{specs.declared.pieces.TilePiece.{TilePiece}, specs.Pieces.{piece_slices, IsInItsTile, AreTilePieces}}
 use Rattle.mob_tile.specs.Groups.{piece_before, same_tile, IsByTile, group_with, tile_groups, IsTileGroup, IsPartOfGroup, IsPartPushed, AreParts, IsGrouping}
-use Rattle.mob_tile.{specs.Split.{IsTilePart, IsSplit, HasTile}, proofs.TileOrder.{same_is, same_self, less_differs, less_differs_back, then_less, less_trans, ties_same, rises_sorted}}
+use Rattle.mob_tile.{specs.Split.{IsTilePart, IsSplit, HasTile}, proofs.TileOrder.{same_is, same_self, less_differs, less_differs_back, less_one_way, not_less_self, then_less, less_trans, ties_same, rises_sorted}}
 use Rattle.mob_tile.proofs.TileOrder as order
 
 abbrev tile_in : TilePiece → Tile
@@ -73,12 +72,6 @@ module _ (src : Tile → Value) where
   made_of a taken [] some l up e f = ((sym (append-nil taken) ∙ sym e, some), tt)
   made_of a taken (q ∷ qs) some l up e f = by (same_tile a q.tile) refl (λ e' f'. made_of a (taken ++ q.slice ∷ []) qs (not_empty taken q.slice) l.1 up.1 e' f') (λ e' f'. made_of q.tile (q.slice ∷ []) qs (λ z. absurd cc) up.0 up.1 e' f')
     where
-      own : (c : Tile) → is_lt (compare_tiles c c) ≡ false
-      own c = ap is_lt (tile_itself c)
-
-      not_back : (c b : Tile) → compare_tiles c b ≡ Less → is_lt (compare_tiles b c) ≡ false
-      not_back c b k = ap is_lt (tiles_total.antisymm b c ∙ ap ordering_reverse k)
-
       by : (b : Bool) → same_tile a q.tile ≡ b → (src a ≡ (taken ++ q.slice ∷ []) ++ of_tile a qs → ((b : Tile) → compare_tiles a b ≡ Less → src b ≡ of_tile b qs) → AreOf src (group_with a (taken ++ q.slice ∷ []) qs)) → (src q.tile ≡ q.slice ∷ of_tile q.tile qs → ((b : Tile) → compare_tiles q.tile b ≡ Less → src b ≡ of_tile b qs) → AreOf src (group_with q.tile (q.slice ∷ []) qs)) → AreOf src (cond b (group_with a (taken ++ q.slice ∷ []) qs) ((a, taken) ∷ group_with q.tile (q.slice ∷ []) qs))
       by true h same other =
           let one : a ≡ q.tile = same_is a q.tile h in
@@ -86,10 +79,10 @@ module _ (src : Tile → Value) where
           (λ b k. f b k ∙ fails b q qs (less_differs_back q.tile b (subst (λ z. compare_tiles z b ≡ Less) one k)))
       by false h same other =
           let next : compare_tiles a q.tile ≡ Less = then_less a q.tile h l.0 in
-          let none : of_tile a (q ∷ qs) ≡ [] = none_later a q.tile (q ∷ qs) next (own q.tile, up.0) in (
+          let none : of_tile a (q ∷ qs) ≡ [] = none_later a q.tile (q ∷ qs) next (not_less_self q.tile, up.0) in (
             (sym (append-nil taken) ∙ ap (λ z. taken ++ z) (sym none) ∙ sym e, some),
             other (f q.tile next ∙ passes q.tile q qs (same_self q.tile))
-                (λ b k. f b (less_trans a q.tile b next (not_back q.tile b k)) ∙ fails b q qs (less_differs_back q.tile b k)),
+                (λ b k. f b (less_trans a q.tile b next (less_one_way q.tile b k)) ∙ fails b q qs (less_differs_back q.tile b k)),
           )
 
 rise_of : (a : Tile) (taken : Value) (qs : List TilePiece) → Leads a qs → Rises qs → Rise (group_with a taken qs)

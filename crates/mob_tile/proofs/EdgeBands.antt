@@ -2,7 +2,7 @@
 use Rattle.std.specs.declared.cmp.Ordering.TheVariants.{Less, Equal, Greater}
 use Rattle.std.{proofs.Common.{◌≡◌, ◌⊎◌, inl, inr, Bool, true, false, ℤ, pos, ◌+ℤ◌, arith, refl, sym, ap, subst, ◌∙◌, ◌&&◌, ◌||◌, not, cond}, proofs.lemmas.Bool.{and_parts}}
 use Rattle.mob_ratio.{specs.Ratio.{Ratio, ◌-ℚ◌, ◌<ℚ◌}, specs.Order.{before, up_to, smaller}, specs.Line.{line_at}, specs.Sign.{nil, opposite, root_at, sign_of}}
-use Rattle.mob_ratio.proofs.Order.{before-lt, lt-before, before-back, before-trans, before-neither, up_to-le, not-up_to-le, smaller_left, smaller_right, before-within}
+use Rattle.mob_ratio.proofs.Order.{before-lt, lt-before, before-back, up_to-le, up_to-trans, not-up_to-le, smaller_left, smaller_right, before-within}
 use Rattle.mob_ratio.{proofs.Field.{le_of_lt, le_trans, lt_le}, proofs.LineAt.{line_at-level, line_at-part}, proofs.Signs.{line_at-diff, sign-diff, compared}}
 use Rattle.mob_ratio.proofs.Between.{within, IsWithin, start_below, end_below, HasBelow}
 use Rattle.mob_span.{specs.Span.{SpanOf, has}, specs.Neighbours.{is_inside}, proofs.Insides.{inner_has}}
@@ -33,12 +33,9 @@ smaller_is a b = by (before b a) refl
 pub between_ends : (a b l u t : Ratio) → before l u ≡ true → up_to l t ≡ true → up_to t u ≡ true → up_to (smaller a b) (line_at a b l u t) ≡ true
 between_ends a b l u t h i j = by (within a b l u t h i j) (before b a) refl
   where
-    upto_trans : (x y z : Ratio) → up_to x y ≡ true → up_to y z ≡ true → up_to x z ≡ true
-    upto_trans x y z h k = grind (arith, h, k, before-trans z x y, before-neither x y, before-trans y z x, before-neither y z)
-
     by : IsWithin a b (line_at a b l u t) → (d : Bool) → before b a ≡ d → up_to (smaller a b) (line_at a b l u t) ≡ true
-    by w true e = upto_trans (smaller a b) b (line_at a b l u t) (smaller_right a b) (w.falling (grind (arith, e, before-back b a))).0
-    by w false e = upto_trans (smaller a b) a (line_at a b l u t) (smaller_left a b) (w.rising (grind (arith, e))).0
+    by w true e = up_to-trans (smaller a b) b (line_at a b l u t) (smaller_right a b) (w.falling (grind (arith, e, before-back b a))).0
+    by w false e = up_to-trans (smaller a b) a (line_at a b l u t) (smaller_left a b) (w.rising (grind (arith, e))).0
 
 -- ---- no edge divides the cell
 less_is : (x y : Ratio) → compared x y ≡ Less → before x y ≡ true

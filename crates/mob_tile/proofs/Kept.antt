@@ -1,15 +1,15 @@
 -- The pieces of a slice on its cells, and of all slices.
-use Rattle.std.{specs.List.{AllByRecursion, flat_map}, specs.Prelude.{Contains}, proofs.Common.{◌≡◌, ◌⊎◌, inl, inr, true, List, [], ◌∷◌, ◌++◌, refl, sym, ap, subst, ◌∙◌, Some, None}}
+use Rattle.std.{specs.List.{AllByRecursion, flat_map}, proofs.Common.{◌≡◌, ◌⊎◌, inl, inr, true, List, [], ◌∷◌, ◌++◌, refl, sym, ap, subst, ◌∙◌, Some, None}}
 use Rattle.mob_ratio.specs.Ratio.{Ratio}
 use Rattle.mob_frac.specs.Formula.{AllFit}
 use Rattle.mob_span.{specs.Span.{SpanOf, has}, specs.Neighbours.{is_inside}}
 use Rattle.mob_plane.specs.declared.point.Point.{Point}
 use Rattle.mob_slice.{specs.declared.formula.Formula.TheVariants.{F1}, specs.Slices.{IsRisingInTime}, specs.Cut.{slice_value, slice_parts}, specs.Sides.{HasValues, at_ends}}
 use Rattle.mob_slice.{specs.Lines.{plane_value_of, plane_parts_of}, specs.PlaneLaws.{plane_laws}, specs.Entries.{IsFirst, IsPartFault}, specs.declared.slice.Slice.{Slice}}
-use Rattle.mob_slice.{specs.declared.line.PlaneLine.{PlaneLine}, specs.OnPiece.{AreKeptOn}, specs.declared.formula.Formula.{Formula}, proofs.Cuts.{all_both, all_first, all_second}}
+use Rattle.mob_slice.{specs.declared.line.PlaneLine.{PlaneLine}, specs.OnPiece.{AreKeptOn}, specs.declared.formula.Formula.{Formula}, proofs.Cuts.{all_both}}
 use Rattle.mob_slice.proofs.OnOnePiece.{one_kept}
-use Rattle.mob_list.{specs.Faults.{OnCause}, specs.declared.fault.Fault.{Fault}, proofs.Each.{each_both}, proofs.Entries.{none_in, which_in}}
-use Rattle.mob_cells.{specs.Cells.{IsCut, IsSomeEnd}, proofs.Making.{are_cells}, proofs.Restricting.{IsMade, made_step, made_end, kept_fault}}
+use Rattle.mob_list.{specs.Faults.{OnCause}, specs.declared.fault.Fault.{Fault}, proofs.Each.{each_both}}
+use Rattle.mob_cells.{specs.Cells.{IsSomeEnd}, proofs.Making.{are_cells}, proofs.Restricting.{IsMade, made_step, made_end, roots_fit, cells_fit, end_fits, kept_fault}}
 use Rattle.mob_cells.proofs.BySlices.{IsLeft, left_step, left_end, IsFitting, fitting_start, fitting_step, fitting_fails, fitting_end}
 use Rattle.mob_grid.{specs.Tiles.{GridOf, InTile, tile_of}, specs.declared.tile.Tile.{Tile}, specs.declared.tile.TileRange.{TileRange}}
 use Rattle.mob_tile.{specs.declared.pieces.TilePiece.{TilePiece}, specs.Edges.{tile_cuts_of, entry_of_values, entries_of_slice}}
@@ -50,29 +50,14 @@ module _ (s : Slice PlaneLine) where
   high_fits : AllFit (parts s.span.upper)
   high_fits = subst AllFit (sym (plane_laws.upper_parts s.course s.span.lower s.span.upper)) tt
 
-  in_fits : (t : Ratio) (rs : List Ratio) → AllFit (flat_map parts rs) → Contains rs t → AllFit (parts t)
-  in_fits t [] h i = absurd (none_in t i)
-  in_fits t (r ∷ rs) h i = elim (which_in r rs t i) [ inl e ↦ subst (λ z. AllFit (parts z)) e (all_first (parts r) (flat_map parts rs) h) | inr k ↦ in_fits t rs (all_second (parts r) (flat_map parts rs) h) k ]
-
-  cut_fits : (rs : List Ratio) (t : Ratio) → AllFit (flat_map parts rs) → IsCut s.span rs t → AllFit (parts t)
-  cut_fits rs t h i = elim i [ inl e ↦ subst (λ z. AllFit (parts z)) (sym e) low_fits | inr k ↦ elim k [ inl e ↦ subst (λ z. AllFit (parts z)) (sym e) high_fits | inr j ↦ in_fits t rs h j ] ]
-
-  cells_fit : (rs : List Ratio) (cells : List SpanOf) → AllFit (flat_map parts rs) → AllByRecursion (λ c. IsCut s.span rs c.lower × IsCut s.span rs c.upper) cells → AllByRecursion EndsFit cells
-  cells_fit rs [] h k = tt
-  cells_fit rs (c ∷ cells) h k = (all_both (parts c.lower) (parts c.upper) (cut_fits rs c.lower h k.0.0) (cut_fits rs c.upper h k.0.1), cells_fit rs cells h k.1)
-
-  end_fits : (r : Ratio) (cells : List SpanOf) → AllByRecursion EndsFit cells → IsSomeEnd r cells → AllFit (parts r)
-  end_fits r [] h i = absurd i
-  end_fits r (c ∷ cells) h i = elim i [
-    | inl k ↦ elim k [ inl e ↦ subst (λ z. AllFit (parts z)) e (all_first (parts c.lower) (parts c.upper) h.0) | inr e ↦ subst (λ z. AllFit (parts z)) e (all_second (parts c.lower) (parts c.upper) h.0) ]
-    | inr k ↦ end_fits r cells h.1 k
-  ]
+  ends_fit : EndsFit s.span
+  ends_fit = all_both (parts s.span.lower) (parts s.span.upper) low_fits high_fits
 
   cuts_fit : (rs : List Ratio) (cells : List SpanOf) → AllByRecursion EndsFit cells → AllByRecursion (λ r. (r ≡ s.span.lower) ⊎ ((r ≡ s.span.upper) ⊎ IsSomeEnd r cells)) rs → AllFit (flat_map parts rs)
   cuts_fit [] cells h k = tt
   cuts_fit (r ∷ rs) cells h k = all_both (parts r) (flat_map parts rs) (elim k.0 [
     | inl e ↦ subst (λ z. AllFit (parts z)) (sym e) low_fits
-    | inr j ↦ elim j [ inl e ↦ subst (λ z. AllFit (parts z)) (sym e) high_fits | inr i ↦ end_fits r cells h i ]
+    | inr j ↦ elim j [ inl e ↦ subst (λ z. AllFit (parts z)) (sym e) high_fits | inr i ↦ end_fits parts r cells h i ]
   ]) (cuts_fit rs cells h k.1)
 
 -- ---- the loop over cells
@@ -108,7 +93,7 @@ module _ (g : GridOf) (s : Slice PlaneLine) where
 
   pub piecing_fails : (cells rest later : List SpanOf) (c : SpanOf) (out : List TilePiece) (f : Fault Formula) → rest ≡ c ∷ later → IsPartFault F1 (at_ends (slice_parts plane_parts_of s) c) f → AreTileCells g s (tile_cuts_of g s) cells → IsPiecing g s cells rest out → OnCause (λ z. IsFirst (entry_of_values g s ∷ []) (Some z)) f
   piecing_fails cells rest later c out f e h k m =
-      kept_fault (at_ends (slice_parts plane_parts_of s) c) (flat_map (slice_parts plane_parts_of s) (tile_cuts_of g s)) f h (λ n z. n (subst (AllByRecursion (EndsFit s)) e (m.fail (cells_fit s (tile_cuts_of g s) cells z k.cut.only))).0)
+      kept_fault (at_ends (slice_parts plane_parts_of s) c) (flat_map (slice_parts plane_parts_of s) (tile_cuts_of g s)) f h (λ n z. n (subst (AllByRecursion (EndsFit s)) e (m.fail (cells_fit (slice_parts plane_parts_of s) s.span (tile_cuts_of g s) cells (ends_fit s) (roots_fit (slice_parts plane_parts_of s) (tile_cuts_of g s) z) k.cut.only))).0)
 
   pub piecing_end : (cells rest : List SpanOf) (out : List TilePiece) → rest ≡ [] → AreTileCells g s (tile_cuts_of g s) cells → IsPiecing g s cells rest out → ArePiecesOf g s out × IsFirst (entry_of_values g s ∷ []) None
   piecing_end cells rest out e k m = (

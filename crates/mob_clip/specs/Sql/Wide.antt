@@ -8,18 +8,9 @@ use Rattle.mob_span.{specs.Span.{SpanOf, has_instant}, specs.Meet.{meet_of}}
 use Rattle.mob_slice.{specs.Cut.{slice_parts, slice_value}, specs.Entries.{Entry}, specs.Lines.{plane_value_of}, specs.Modes.{entry_given}, specs.Numbers.{plane_numbers_of}, specs.Sides.{at_ends}}
 use Rattle.mob_slice.{specs.declared.line.PlaneLine.{PlaneLine}, specs.declared.slice.Slice.{Slice}}
 use Rattle.mob_cells.specs.Changes.{cells_of, spans_where}
-use Rattle.mob_stbox.{specs.Areas.{in_area}, specs.Boxes.{BoxOf}, specs.Expansion.{parts_of_expansion}, specs.declared.area.Area.{Area}}
-use Rattle.mob_value.{specs.ValueBoxes.{OnBox}, specs.declared.value.Value.{Value}, specs.declared.value.Value.TheVariants.{Number, Box, MovingPoint, Polygon}}
+use Rattle.mob_stbox.{specs.Areas.{in_area}, specs.declared.area.Area.{Area}}
+use Rattle.mob_value.{specs.declared.value.Value.{Value}, specs.declared.value.Value.TheVariants.{Box, MovingPoint, Polygon}}
 use Rattle.mob_clip.{specs.Areas.{area_ends}, specs.Polygons.{edges_ends}}
-
--- the one entry of expandSpace: the new sides
-abbrev pub given_outward : BoxOf → Value → List Entry
-given_outward b (Number d) = entry_given (parts_of_expansion b d)
-given_outward b _ = []
-
--- what holds of the entries of expandSpace
-abbrev pub OnWideExpansion : Value → Value → (List Entry → Type 0) → Type 0
-OnWideExpansion a d P = OnBox a (λ b. P (given_outward b d)) (P [])
 
 -- the part of a slice on a span: both instants, and the points there that the slice does not hold
 abbrev pub part_numbers : Slice PlaneLine → SpanOf → List Ratio

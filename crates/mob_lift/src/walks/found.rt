@@ -59,8 +59,8 @@ impl<C: Course> Found<C> {
     }
 }
 
-/// The value of a slice at an instant, as `limit` returns it. It is copied if it is the one that was
-/// found.
+/// The value of a slice at an instant, as `limit` returns it. It is copied if it is the one that
+/// was found.
 pub fn limit_found<C: Course>(
     alloc: Global,
     slice: &Slice<C>,

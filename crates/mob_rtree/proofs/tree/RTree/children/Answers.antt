@@ -1,7 +1,7 @@
 use Rattle.std.proofs.Common.{◌∙◌, ap, sym, subst, arith}
 use Rattle.mob_rtree.specs.Shape.{Shape}
 use Rattle.mob_rtree_nodes.{specs.Tree.{ref}, specs.Reach.{IsReachedNode, IsSpread, children}, proofs.Sums.{kids_of}, proofs.Reaches.{reached_inside, children_is}}
-use Rattle.mob_rtree.proofs.tree.RTree.part.Goals as goal
+use Rattle.mob_rtree.proofs.tree.RTree.children.Goals as goal
 
 pub index-requires : goal.index-requires
 index-requires c =
