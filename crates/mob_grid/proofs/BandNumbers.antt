@@ -1,7 +1,7 @@
 -- Each number is in one band.
 use Rattle.std.{specs.Int.{int_div_euclid}, proofs.Common.{◌≡◌, ◌↔◌, inl, inr, ℕ, ◌*◌, ◌<◌, true, ℤ, pos, negsuc, ◌+ℤ◌, ◌*ℤ◌, ◌≤ℤ◌, ◌<ℤ◌, arith, refl, sym, ap, subst, ◌∙◌}}
 use Rattle.std.{proofs.lemmas.Int.{ints}, proofs.lemmas.Bool.{and_parts, and_from, not_from_false}}
-use Rattle.mob_ratio.{specs.Ratio.{Ratio, over, whole, ◌*ℚ◌, ◌/ℚ◌, ◌<ℚ◌, ◌≤ℚ◌}, specs.Order.{before, up_to}, specs.Sign.{nil}, proofs.Quotients.{quotient_from, quotient_until}, proofs.IntRing.{linear, products}}
+use Rattle.mob_ratio.{specs.Ratio.{Ratio, over, whole, ◌*ℚ◌, ◌/ℚ◌, ◌<ℚ◌, ◌≤ℚ◌}, specs.Order.{before, up_to}, specs.Sign.{nil}, proofs.Floors.{quotient_from, quotient_until}, proofs.IntRing.{linear, products}}
 use Rattle.mob_ratio.{proofs.Clear.{cleared, whole-over, over_le, over_lt, one_positive, same_lt}, proofs.RatioLemmas.{den_pos, over-self, over-mul}}
 use Rattle.mob_ratio.{proofs.Field.{cases_lt, not_both, lt_of_mul_pos, lt_mul_pos, le_of_eq, le_trans, le_lt, le_refl}, proofs.Divide.{div-mul, over-pos}}
 use Rattle.mob_ratio.proofs.Order.{before-lt, lt-before, not-up_to-le, le-up_to}

@@ -1,5 +1,5 @@
 -- The aggregate of two concatenated lists is that of the two aggregates.
-use Rattle.std.{specs.Prelude.{◌≡◌, Bool, true, false, cond, ◌&&◌, ◌||◌, ◌+◌, pos, refl, List, [], ◌∷◌, ◌++◌, length, Option, Some, None, option_map}, proofs.Common.{ap, sym, ◌∙◌, arith}}
+use Rattle.std.{specs.Prelude.{◌≡◌, Bool, true, false, cond, ◌&&◌, ◌||◌, ◌+◌, pos, refl, List, [], ◌∷◌, ◌++◌, length, Option, Some, None, option_map}, proofs.Common.{ap, sym, ◌∙◌, arith, append-nil}}
 use Rattle.mob_slice.{specs.Cut.{slice_value}, specs.Slices.{value_at, IsNormal}, specs.declared.slice.Slice.{Slice}, proofs.Options.{none_some}}
 use Rattle.mob_ratio.{specs.Ratio.{Ratio, whole, ◌+ℚ◌}, proofs.Field.{add_assoc}, proofs.Rings.{whole-add}, proofs.Clear.{clear1, cleared}, proofs.IntRing.{linear}}
 use Rattle.mob_span.proofs.SpanLemmas.{some_instant}

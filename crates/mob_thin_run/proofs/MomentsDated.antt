@@ -1,6 +1,6 @@
 -- The instant of a written moment is in the years 0001 to 9999.
 use Rattle.std.{specs.Int.{int_div_euclid}, proofs.Common.{◌≡◌, ap, ◌∙◌, ◌*◌, ◌<◌, ℕ, ℤ, pos, ◌+ℤ◌, ◌-ℤ◌, ◌*ℤ◌, ◌<ℤ◌, ◌≤ℤ◌, arith}, proofs.lemmas.Int.{ints}}
-use Rattle.mob_ratio.{specs.Ratio.{over, whole, ◌+ℚ◌}, proofs.Quotients.{quotient_from, quotient_until}, proofs.IntRing.{le_cancel, linear, lt_cancel, lt_times, products}, proofs.RatioLemmas.{den_pos, over-add, over-cross}}
+use Rattle.mob_ratio.{specs.Ratio.{over, whole, ◌+ℚ◌}, proofs.Floors.{quotient_from, quotient_until}, proofs.IntRing.{le_cancel, linear, lt_cancel, lt_times, products}, proofs.RatioLemmas.{den_pos, over-add, over-cross}}
 use Rattle.mob_language.specs.Language.{Text}
 use Rattle.mob_scalar.{specs.declared.stamp.Stamp.{Stamp}, specs.Moment.{instant, is_year_second, moment, seconds}, specs.MomentText.{HasDate, second_of, whole_seconds}}
 use Rattle.mob_scalar.proofs.MomentBounds.{moment_small}
