@@ -70,7 +70,7 @@ opposite_alike : (x y f g : Ratio) → IsAlike x f → IsAlike y g → opposite 
 unfolding opposite
 opposite_alike x y f g h k = rw (h.below, h.above, k.below, k.above) refl
 
-AreOpposite : Ordering → Ordering → Type 0
+abbrev AreOpposite : Ordering → Ordering → Type 0
 AreOpposite o p = ((o ≡ Less) × (p ≡ Greater)) ⊎ ((o ≡ Greater) × (p ≡ Less))
 
 opposite_signs : (f g : Ratio) → opposite f g ≡ true → AreOpposite (sign_of f) (sign_of g)
@@ -78,14 +78,15 @@ unfolding opposite sign_of
 opposite_signs f g h = by (before f nil) (before nil f) (before g nil) (before nil g) (before-back f nil) (before-back g nil) h
   where
     by : (a b c d : Bool) → (a ≡ true → b ≡ false) → (c ≡ true → d ≡ false) → ((a && d) || (b && c)) ≡ true → AreOpposite (cond a Less (cond b Greater Equal)) (cond c Less (cond d Greater Equal))
-    by true b true d x y e = absurd (cc (x refl, y refl, e))
-    by true b false true x y e = inl (refl, refl)
-    by true true false false x y e = absurd (cc e)
-    by true false false false x y e = absurd (cc e)
-    by false true true d x y e = inr (refl, refl)
-    by false true false true x y e = absurd (cc e)
-    by false true false false x y e = absurd (cc e)
-    by false false c d x y e = absurd (cc e)
+    by true true c d x y e = absurd (true≢false (x refl))
+    by true false true true x y e = absurd (true≢false (y refl))
+    by true false true false x y e = absurd (true≢false (sym e))
+    by true false false true x y e = inl (refl, refl)
+    by true false false false x y e = absurd (true≢false (sym e))
+    by false true true true x y e = absurd (true≢false (y refl))
+    by false true true false x y e = inr (refl, refl)
+    by false true false d x y e = absurd (true≢false (sym e))
+    by false false c d x y e = absurd (true≢false (sym e))
 
 -- with opposite signs in both, the small ratios are equal exactly if the root is shared
 ratios : (shared : Bool) → (same (small Less /ℚ small Greater) (small Less /ℚ last_small shared Greater) ≡ shared) × (same (small Less /ℚ small Greater) (small Greater /ℚ last_small shared Less) ≡ shared) × (same (small Greater /ℚ small Less) (small Less /ℚ last_small shared Greater) ≡ shared) × (same (small Greater /ℚ small Less) (small Greater /ℚ last_small shared Less) ≡ shared)
@@ -129,7 +130,7 @@ both_left false b h = h
 
 both_right : (a b : Bool) → (a && b) ≡ true → b ≡ true
 both_right true b h = h
-both_right false b h = absurd (cc h)
+both_right false b h = absurd (true≢false (sym h))
 
 nil_inside_by : (x w y z f e g h : Ratio) → IsAlike x f → IsAlike w e → IsAlike y g → IsAlike z h → ((opposite f g && opposite e h) ≡ true → same (x /ℚ y) (w /ℚ z) ≡ same (f /ℚ g) (e /ℚ h)) → nil_inside (line_between x y) (line_between w z) ≡ nil_inside (line_between f g) (line_between e h)
 nil_inside_by x w y z f e g h hx hw hy hz k =

@@ -1,5 +1,5 @@
 //! Small gaps in place of gaps of any size, by which each comparison is decided alike.
-ghost use Rattle.std.specs.Prelude.{◌≡◌, ◌≢◌, ◌<◌, ◌^◌, ◌&&◌, true, nat_abs, IfOk};
+ghost use Rattle.std.specs.Prelude.{◌≡◌, ◌≢◌, ◌<◌, ◌^◌, ◌&&◌, nat_abs, IfOk};
 ghost use Rattle.mob_ratio.specs.Order.{same};
 ghost use Rattle.mob_ratio.specs.Ratio.{◌/ℚ◌, whole};
 ghost use Rattle.mob_ratio.specs.Sign.{nil, opposite};
@@ -82,13 +82,7 @@ fn in_one_ratio(
 
 // Whether the two functions, from `f` to `g` and from `e` to `h`, have roots between their ends,
 // and these are one.
-fn share_root(
-    alloc: Global,
-    f: &Broad,
-    g: &Broad,
-    e: &Broad,
-    h: &Broad,
-) -> Result<bool, AllocError>
+fn share_root(alloc: Global, f: &Broad, g: &Broad, e: &Broad, h: &Broad) -> Result<bool, AllocError>
     ensures shared { IfOk result (λ b. b ≡ (opposite f.now g.now && opposite e.now h.now && same (f.now /ℚ g.now) (e.now /ℚ h.now))) }
 {
     if !are_opposite(f, g) {
