@@ -155,8 +155,23 @@ two_alike f e g h x w y z o p q r shared es eo ep eq er mx mw my mz =
     record { alike = λ test s. two_by test s x w y z f e g h hx hw hy hz inside }
 
 -- gaps that are not of one kind
-pub none_alike : (f g : Gaps) (ends : EndGaps) → ends.at_lower ≡ Constant → ((test : Ordering → Bool) (s : SpanOf) → test Equal ≡ gaps_meet test s f g) → DecideAlike f g ends
+none_alike : (f g : Gaps) (ends : EndGaps) → ends.at_lower ≡ Constant → ((test : Ordering → Bool) (s : SpanOf) → test Equal ≡ gaps_meet test s f g) → DecideAlike f g ends
 none_alike f g ends e h = record { alike = λ test s. ap (λ z. gaps_meet test s z ends.at_upper) e ∙ h test s }
+
+pub steady_alike : (g : Gaps) (ends : EndGaps) → ends.at_lower ≡ Constant → DecideAlike Constant g ends
+steady_alike g ends e = none_alike Constant g ends e (λ test s. refl)
+
+pub one_steady : (x : Ratio) (ends : EndGaps) → ends.at_lower ≡ Constant → DecideAlike (One x) Constant ends
+one_steady x ends e = none_alike (One x) Constant ends e (λ test s. refl)
+
+pub one_two : (x y z : Ratio) (ends : EndGaps) → ends.at_lower ≡ Constant → DecideAlike (One x) (Two y z) ends
+one_two x y z ends e = none_alike (One x) (Two y z) ends e (λ test s. refl)
+
+pub two_steady : (x y : Ratio) (ends : EndGaps) → ends.at_lower ≡ Constant → DecideAlike (Two x y) Constant ends
+two_steady x y ends e = none_alike (Two x y) Constant ends e (λ test s. refl)
+
+pub two_one : (x y z : Ratio) (ends : EndGaps) → ends.at_lower ≡ Constant → DecideAlike (Two x y) (One z) ends
+two_one x y z ends e = none_alike (Two x y) (One z) ends e (λ test s. refl)
 
 -- ---- whether two quotients are equal
 pub apart_below : (x y a b : Ratio) → a ≡ x → b ≡ y → a <ℚ b → false ≡ same x y
