@@ -70,6 +70,14 @@ opposite_alike : (x y f g : Ratio) → IsAlike x f → IsAlike y g → opposite 
 unfolding opposite
 opposite_alike x y f g h k = rw (h.below, h.above, k.below, k.above) refl
 
+opposite_nil : (d : Ratio) → opposite d nil ≡ false
+unfolding opposite
+opposite_nil d = grind (arith, before-self nil)
+
+-- an end with a sign is not 0
+pub opposite_last : (f g : Ratio) → opposite f g ≡ true → g ≡ nil → ⊥
+opposite_last f g h e = true≢false (sym (subst (λ z. opposite f z ≡ true) e h) ∙ opposite_nil f)
+
 abbrev AreOpposite : Ordering → Ordering → Type 0
 AreOpposite o p = ((o ≡ Less) × (p ≡ Greater)) ⊎ ((o ≡ Greater) × (p ≡ Less))
 
