@@ -1,7 +1,7 @@
 -- Small gaps decide as the gaps that they stand for.
 use Rattle.std.{specs.Prelude.{◌≡◌, ◌⊎◌, Bool, true, false, cond, not, ◌&&◌, ◌||◌, ◌^◌, ◌<◌, ℤ, pos, negsuc, nat_abs, refl}, specs.declared.cmp.Ordering.{Ordering}, specs.declared.cmp.Ordering.TheVariants.{Less, Equal, Greater}}
 use Rattle.std.proofs.Common.{arith, ap, sym, ◌∙◌, subst, inl, inr, true≢false}
-use Rattle.mob_ratio.{specs.Gcd.{gcd, gcd_steps}, specs.GcdLaws.{gcd_one_right}, specs.LowestLaws.{lowest_in}, specs.Ratio.{Ratio, over, whole, ◌/ℚ◌, ◌<ℚ◌}, specs.Order.{before, same}, specs.Sign.{nil, opposite, sign_of}}
+use Rattle.mob_ratio.{specs.Gcd.{gcd, gcd_steps}, specs.GcdLaws.{gcd_one_right}, specs.LowestLaws.{lowest_in}, specs.Ratio.{Ratio, inverse, over, turned, whole, ◌*ℚ◌, ◌/ℚ◌, ◌<ℚ◌}, specs.Order.{before, same}, specs.Sign.{nil, opposite, sign_of}}
 use Rattle.mob_ratio.{proofs.Divide.{over-pos}, proofs.Order.{before-back, before-self, lt-before, same_exact}, proofs.RatioLemmas.{over-lowest}}
 use Rattle.mob_frac.specs.Fits.{Fits, ratio}
 use Rattle.mob_span.specs.Span.{SpanOf}

@@ -8,5 +8,5 @@ returns-in-Less c = record { same = apart_below (c.args.f.now /ℚ c.args.g.now)
 pub returns-in-Equal : goal.returns-in-Equal
 returns-in-Equal c = record { same = together (c.args.f.now /ℚ c.args.g.now) (c.args.e.now /ℚ c.args.h.now) c.in_ok-left.left c.in_ok-right.right c.in_ok-left.ensures.value c.in_ok-right.ensures.value (rw c.in-Equal.is at c.in_ok-order.ensures.order) }
 
-pub returns-in-Greater : goal.returns-in-Greater
-returns-in-Greater c = record { same = apart_above (c.args.f.now /ℚ c.args.g.now) (c.args.e.now /ℚ c.args.h.now) c.in_ok-left.left c.in_ok-right.right c.in_ok-left.ensures.value c.in_ok-right.ensures.value (rw c.in-Greater.is at c.in_ok-order.ensures.order) }
+pub returns : goal.returns
+returns c = record { same = apart_above (c.args.f.now /ℚ c.args.g.now) (c.args.e.now /ℚ c.args.h.now) c.in_ok-left.left c.in_ok-right.right c.in_ok-left.ensures.value c.in_ok-right.ensures.value (rw c.in-Greater.is at c.in_ok-order.ensures.order) }
