@@ -62,6 +62,8 @@ two_widen op.Add ty ts a b h = calculated_widens Sum ty a b h
 two_widen op.Subtract ty ts a b h = calculated_widens Difference ty a b h
 two_widen op.Multiply ty ts a b h = calculated_widens Product ty a b h
 two_widen op.Divide ty ts a b h = quotient_widens ty a b h
+two_widen (op.Ever c) ty ts a b h = refl
+two_widen (op.Always c) ty ts a b h = refl
 two_widen op.NearestApproachSquared ty ts a b h = approach_widens (plane_pair a b) h
 two_widen _ ty ts a b h = h
 

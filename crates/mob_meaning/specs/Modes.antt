@@ -42,7 +42,6 @@ pub data Family : Type 0 where
 abbrev pub mode_for : Family → Mode → Mode
 mode_for NumbersOverTime mode = Narrow
 mode_for Signs mode = Narrow
-mode_for Tests mode = Narrow
 mode_for TimeRestrictions mode = Narrow
 mode_for ValueRestrictions mode = Narrow
 mode_for LookUps mode = Narrow
