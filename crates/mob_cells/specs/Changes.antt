@@ -1,8 +1,8 @@
 -- Where a test of instants begins and ceases to hold on a span. The span is cut at the roots of
 -- linear functions, and the test holds on the whole of a cell or nowhere there.
-use Rattle.std.specs.Prelude.{Bool, cond, pos, List, [], ◌∷◌, ◌++◌, Option, Some, None}
+use Rattle.std.{specs.Prelude.{◌≡◌, Bool, true, cond, ◌&&◌, pos, List, [], ◌∷◌, ◌++◌, Option, Some, None}, specs.List.{AllByRecursion}}
 use Rattle.mob_ratio.specs.Ratio.{Ratio, whole, ◌+ℚ◌, ◌/ℚ◌}
-use Rattle.mob_span.{specs.Span.{SpanOf}, specs.Flags.{same_bool}}
+use Rattle.mob_span.{specs.Span.{SpanOf, has, has_instant}, specs.Flags.{same_bool}, specs.Sets.{in_some}}
 use Rattle.mob_cells.{specs.declared.linear.Ends.{Ends}, specs.Cells.{split_all, start_cells}, specs.Roots.{as_list, roots}}
 
 -- the cells of a span, cut at the roots of these functions
@@ -37,3 +37,10 @@ spans_behind meets k (c ∷ cells) = cond (meets (halfway c)) (spans_behind meet
 
 abbrev pub spans_where : (Ratio → Bool) → List SpanOf → List SpanOf
 spans_where meets cells = spans_behind meets None cells
+
+-- Of a test that is constant on each cell of a span: these spans have the instants of the span at
+-- which it holds, and no others.
+abbrev pub SpansHold : Type 0
+SpansHold =
+    (s : SpanOf) (functions : List Ends) (meets : Ratio → Bool) → has_instant s ≡ true → AllByRecursion (λ c. (t : Ratio) → has c t ≡ true → meets t ≡ meets (halfway c)) (cells_of s functions)
+    → (t : Ratio) → in_some (spans_where meets (cells_of s functions)) t ≡ (has s t && meets t)
