@@ -3,7 +3,7 @@ use Rattle.std.specs.Prelude.{◌≡◌, Bool, true, false, cond, ◌&&◌, ◌|
 use Rattle.std.{specs.List.{AllByRecursion}, proofs.Common.{arith, ap, sym, ◌∙◌}, proofs.lemmas.Bool.{and_parts}}
 use Rattle.mob_ratio.{specs.Ratio.{Ratio}, specs.Order.{before}, proofs.Order.{before-self}}
 use Rattle.mob_span.{specs.Span.{SpanOf, has, has_instant}, specs.Chained.{OfHead, Chained}, specs.Neighbours.{Meets}, specs.Sets.{in_some}, proofs.SpanLemmas.{joined_has, joined_some}}
-use Rattle.mob_cells.{specs.declared.linear.Ends.{Ends}, specs.Cells.{AreSplit, instant_span, inner, until, beyond, split_at, split_all, start_cells}, specs.Changes.{cells_of, halfway, spans_behind, spans_where, with_cell}}
+use Rattle.mob_cells.{specs.declared.linear.Ends.{Ends}, specs.Cells.{AreSplit, instant_span, inner, until, beyond, split_at, split_all, start_cells}, specs.Changes.{IsConstantOn, cells_of, halfway, spans_behind, spans_where, with_cell}}
 use Rattle.mob_cells.{specs.Roots.{as_list, roots}, proofs.Splits.{start_are, split_are}}
 
 -- ---- the cells of a span follow one another without a gap
@@ -50,7 +50,7 @@ start_meeting s h true false false e = (rw e refl, tt, tt)
 pub cells_meeting : (s : SpanOf) (functions : List Ends) → has_instant s ≡ true → AreMeeting (cells_of s functions)
 cells_meeting s functions h = all_meeting (roots s functions) (start_cells s) (start_meeting s h (before s.lower s.upper) s.lower_inc s.upper_inc refl)
 
-all_are : (s : SpanOf) (cuts : List Ratio) (cells : List SpanOf) → AreSplit s cells → AreSplit s (split_all cuts cells)
+pub all_are : (s : SpanOf) (cuts : List Ratio) (cells : List SpanOf) → AreSplit s cells → AreSplit s (split_all cuts cells)
 all_are s [] cells h = h
 all_are s (r ∷ cuts) cells h = all_are s cuts (split_at r cells) (split_are s r cells h)
 
@@ -58,10 +58,6 @@ pub cells_cover : (s : SpanOf) (functions : List Ends) → has_instant s ≡ tru
 cells_cover s functions h = (all_are s (roots s functions) (start_cells s) (start_are s h)).covers
 
 -- ---- the spans on which a test holds
-
--- the test holds at each instant of the cell or at none
-abbrev pub IsConstantOn : (Ratio → Bool) → SpanOf → Type 0
-IsConstantOn meets c = (t : Ratio) → has c t ≡ true → meets t ≡ meets (halfway c)
 
 -- the span that the next cell may continue meets it
 abbrev IsOpen : Option SpanOf → List SpanOf → Type 0
