@@ -1,10 +1,10 @@
 -- The instants between neighbouring cells at which a test changes.
 use Rattle.std.specs.Prelude.{◌≡◌, Bool, Contains, true, false, cond, ◌&&◌, ◌||◌, not, List, [], ◌∷◌, ◌++◌, refl}
-use Rattle.std.{specs.List.{AllByRecursion}, proofs.Common.{arith, ap, inl, inr, sym, subst, true≢false, ◌∙◌}, proofs.lemmas.List.Elements.{Contains-append_cases, Contains-append_left, Contains-append_right}}
+use Rattle.std.{specs.List.{AllByRecursion}, proofs.Common.{arith, ap, inl, inr, sym, subst, true≢false, ◌∙◌}, proofs.lemmas.List.Elements.{Contains-append_cases, Contains-append_right}}
 use Rattle.mob_list.{proofs.Each.{each_on}, proofs.Entries.{first_in, none_in, which_in}}
 use Rattle.mob_ratio.{specs.Ratio.{Ratio}, specs.Order.{before, up_to, greater, smaller}}
 use Rattle.mob_ratio.proofs.Order.{before-back, before-neither, before-self, before-trans, before-up_to, before-weak, between, up_to-before, up_to-self}
-use Rattle.mob_span.{specs.Span.{SpanOf, has, has_instant}, specs.Chained.{OfHead}, specs.Flags.{same_bool, same_bool_exact}, specs.Neighbours.{Meets, is_inside}, specs.Sets.{in_some}, proofs.Insides.{inner_has}}
+use Rattle.mob_span.{specs.Span.{SpanOf, has, has_instant}, specs.Flags.{same_bool, same_bool_exact}, specs.Neighbours.{Meets, is_inside}, specs.Sets.{in_some}, proofs.Insides.{inner_has}}
 use Rattle.mob_cells.{specs.declared.linear.Ends.{Ends}, specs.Cells.{instant_span, inner, until, beyond, is_cell, is_cell_of, split_at, split_all, start_cells}, specs.Roots.{roots}}
 use Rattle.mob_cells.{specs.Changes.{IsConstantOn, IsSteadyAround, cells_of, changes, changes_behind, halfway}, proofs.Changing.{AreMeeting, all_are, cells_cover, cells_meeting}, proofs.Splits.{start_are}}
 use Rattle.std.proofs.lemmas.Bool.{and_parts}

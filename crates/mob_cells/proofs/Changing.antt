@@ -1,6 +1,6 @@
 -- The spans of neighbouring cells on which a test holds have the instants at which it does.
 use Rattle.std.specs.Prelude.{◌≡◌, Bool, true, false, cond, ◌&&◌, ◌||◌, List, [], ◌∷◌, ◌++◌, Option, Some, None, refl}
-use Rattle.std.{specs.List.{AllByRecursion}, proofs.Common.{arith, ap, sym, ◌∙◌}, proofs.lemmas.Bool.{and_parts}}
+use Rattle.std.{specs.List.{AllByRecursion}, proofs.Common.{arith, ap, ◌∙◌}, proofs.lemmas.Bool.{and_parts}}
 use Rattle.mob_ratio.{specs.Ratio.{Ratio}, specs.Order.{before}, proofs.Order.{before-self}}
 use Rattle.mob_span.{specs.Span.{SpanOf, has, has_instant}, specs.Chained.{OfHead, Chained}, specs.Neighbours.{Meets}, specs.Sets.{in_some}, proofs.SpanLemmas.{joined_has, joined_some}}
 use Rattle.mob_cells.{specs.declared.linear.Ends.{Ends}, specs.Cells.{AreSplit, instant_span, inner, until, beyond, split_at, split_all, start_cells}, specs.Changes.{IsConstantOn, cells_of, halfway, spans_behind, spans_where, with_cell}}
