@@ -5,8 +5,8 @@ use Rattle.mob_list.{proofs.Each.{each_on}, proofs.Entries.{first_in, none_in, w
 use Rattle.mob_ratio.{specs.Ratio.{Ratio}, specs.Order.{before, up_to, greater, smaller}}
 use Rattle.mob_ratio.proofs.Order.{before-back, before-neither, before-self, before-trans, before-up_to, before-weak, between, up_to-before, up_to-self}
 use Rattle.mob_span.{specs.Span.{SpanOf, has, has_instant}, specs.Flags.{same_bool, same_bool_exact}, specs.Neighbours.{Meets, is_inside}, specs.Sets.{in_some}, proofs.Insides.{inner_has}}
-use Rattle.mob_cells.{specs.declared.linear.Ends.{Ends}, specs.Cells.{instant_span, inner, until, beyond, is_cell, is_cell_of, split_at, split_all, start_cells}, specs.Roots.{roots}}
-use Rattle.mob_cells.{specs.Changes.{IsConstantOn, IsSteadyAround, cells_of, changes, changes_behind, halfway}, proofs.Changing.{AreMeeting, all_are, cells_cover, cells_meeting}, proofs.Splits.{start_are}}
+use Rattle.mob_cells.{specs.declared.linear.Ends.{Ends}, specs.Cells.{IsCut, instant_span, inner, until, beyond, is_cell, is_cell_of, split_at, split_all, start_cells}, specs.Roots.{roots}}
+use Rattle.mob_cells.{specs.Changes.{IsConstantOn, IsSteadyAround, cells_of, changes, changes_behind, halfway}, proofs.Changing.{AreMeeting, all_are, cells_cover, cells_meeting}, proofs.Splits.{start_are}, proofs.Walking.{only_cuts}}
 use Rattle.std.proofs.lemmas.Bool.{and_parts}
 
 -- ---- an instant of a span near one of its ends
@@ -246,3 +246,29 @@ changes_are s functions meets h t a b =
     let l = begin_all s.lower (roots s functions) (start_cells s) (begin_start s (before s.lower s.upper) s.lower_inc s.upper_inc) in
     let e = end_all s.upper (roots s functions) (start_cells s) (end_start s (before s.lower s.upper) s.lower_inc s.upper_inc) in
     (λ k st. never_at meets s (cells_of s functions) t m h (cells_cover s functions i) k st, λ n. from_first meets s (cells_of s functions) t are m h l e a b (cells_cover s functions i t ∙ inner_has s t a b) n)
+
+-- a test that is the same on an interval does not change inside it
+pub no_change : (s : SpanOf) (functions : List Ends) (meets : Ratio → Bool) → AllByRecursion (IsConstantOn meets) (cells_of s functions)
+    → (a b t : Ratio) → before s.lower t ≡ true → before t s.upper ≡ true → before a t ≡ true → before t b ≡ true → ((u : Ratio) → has s u ≡ true → before a u ≡ true → before u b ≡ true → meets u ≡ meets t) → Contains (changes meets (cells_of s functions)) t → ⊥
+no_change s functions meets h a b t l u x y same k = (changes_are s functions meets h t l u).0 k (record { from = a; to = b; earlier = x; later = y; same = same })
+
+-- ---- each is an end of a cell
+
+changed_at : (P : Ratio → Type 0) (meets : Ratio → Bool) (c : SpanOf) (cells : List SpanOf) (t : Ratio) → P c.upper → AllByRecursion (λ d. P d.lower × P d.upper) cells → Contains (changes_behind meets c cells) t → P t
+changed_at P meets c [] t p h k = absurd (none_in t k)
+changed_at P meets c (d ∷ cells) t p h k =
+    elim (Contains-append_cases (cond (same_bool (meets (halfway c)) (meets (halfway d))) [] (c.upper ∷ [])) (changes_behind meets d cells) t k) [
+      | inl f ↦ here (same_bool (meets (halfway c)) (meets (halfway d))) f
+      | inr f ↦ changed_at P meets d cells t h.0.1 h.1 f
+    ]
+  where
+    here : (b : Bool) → Contains (cond b [] (c.upper ∷ [])) t → P t
+    here true f = absurd (none_in t f)
+    here false f = elim (which_in c.upper [] t f) [ inl e ↦ subst P e p | inr g ↦ absurd (none_in t g) ]
+
+changed_in : (P : Ratio → Type 0) (meets : Ratio → Bool) (cells : List SpanOf) (t : Ratio) → AllByRecursion (λ d. P d.lower × P d.upper) cells → Contains (changes meets cells) t → P t
+changed_in P meets [] t h k = absurd (none_in t k)
+changed_in P meets (c ∷ cells) t h k = changed_at P meets c cells t h.0.1 h.1 k
+
+pub changes_are_cuts : (s : SpanOf) (functions : List Ends) (meets : Ratio → Bool) (t : Ratio) → Contains (changes meets (cells_of s functions)) t → IsCut s (roots s functions) t
+changes_are_cuts s functions meets t k = changed_in (IsCut s (roots s functions)) meets (cells_of s functions) t (only_cuts s (roots s functions) (roots s functions) (λ r i. i)) k

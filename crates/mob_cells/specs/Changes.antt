@@ -3,7 +3,7 @@
 use Rattle.std.{specs.Prelude.{◌≡◌, Bool, Contains, true, cond, ◌&&◌, pos, List, [], ◌∷◌, ◌++◌, Option, Some, None}, specs.List.{AllByRecursion}}
 use Rattle.mob_ratio.{specs.Ratio.{Ratio, whole, ◌+ℚ◌, ◌/ℚ◌}, specs.Order.{before}}
 use Rattle.mob_span.{specs.Span.{SpanOf, has, has_instant}, specs.Flags.{same_bool}, specs.Sets.{in_some}}
-use Rattle.mob_cells.{specs.declared.linear.Ends.{Ends}, specs.Cells.{split_all, start_cells}, specs.Roots.{as_list, roots}}
+use Rattle.mob_cells.{specs.declared.linear.Ends.{Ends}, specs.Cells.{IsCut, split_all, start_cells}, specs.Roots.{as_list, roots}}
 
 -- the cells of a span, cut at the roots of these functions
 abbrev pub cells_of : SpanOf → List Ends → List SpanOf
@@ -61,3 +61,7 @@ abbrev pub ChangesAreChanges : Type 0
 ChangesAreChanges =
     (s : SpanOf) (functions : List Ends) (meets : Ratio → Bool) → AllByRecursion (IsConstantOn meets) (cells_of s functions)
     → (t : Ratio) → before s.lower t ≡ true → before t s.upper ≡ true → (Contains (changes meets (cells_of s functions)) t → IsSteadyAround meets s t → ⊥) × ((Contains (changes meets (cells_of s functions)) t → ⊥) → IsSteadyAround meets s t)
+
+-- each of these instants is a root or an end of the span
+abbrev pub ChangesAreCuts : Type 0
+ChangesAreCuts = (s : SpanOf) (functions : List Ends) (meets : Ratio → Bool) (t : Ratio) → Contains (changes meets (cells_of s functions)) t → IsCut s (roots s functions) t
