@@ -156,19 +156,3 @@ two_alike f e g h x w y z o p q r shared es eo ep eq er mx mw my mz =
 -- gaps that are not of one kind
 pub none_alike : (f g : Gaps) (ends : EndGaps) → ends.at_lower ≡ Constant → ((test : Ordering → Bool) (s : SpanOf) → test Equal ≡ gaps_meet test s f g) → DecideAlike f g ends
 none_alike f g ends e h = record { alike = λ test s. ap (λ z. gaps_meet test s z ends.at_upper) e ∙ h test s }
-
--- ---- whether two quotients are equal
-pub apart_below : (x y a b : Ratio) → a ≡ x → b ≡ y → a <ℚ b → false ≡ same x y
-unfolding same
-apart_below x y a b ea eb h = rw (sym ea, sym eb, lt-before a b h) refl
-
-pub apart_above : (x y a b : Ratio) → a ≡ x → b ≡ y → b <ℚ a → false ≡ same x y
-unfolding same
-apart_above x y a b ea eb h = rw (sym ea, sym eb, lt-before b a h) (sym (nothing (not (before a b))))
-  where
-    nothing : (c : Bool) → (c && false) ≡ false
-    nothing true = refl
-    nothing false = refl
-
-pub together : (x y a b : Ratio) → a ≡ x → b ≡ y → a ≡ b → true ≡ same x y
-together x y a b ea eb h = sym ((same_exact x y).1 (sym ea ∙ h ∙ eb))
