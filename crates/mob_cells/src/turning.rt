@@ -1,9 +1,13 @@
 //! The results of a comparison of two courses on a span, in numbers of any size. Two numbers, and
 //! two points that are tested for equality, change at one instant at most inside a span.
 ghost use Rattle.std.specs.List.{AllByRecursion};
-ghost use Rattle.std.specs.Prelude.{◌≡◌, ◌≢◌, ◌∷◌, [], true, false, IfOk, Some};
+ghost use Rattle.std.specs.Prelude.{◌≡◌, ◌∷◌, [], true, false, IfOk, Some};
 ghost use Rattle.mob_ratio.specs.Order.{before};
-ghost use Rattle.mob_ratio.specs.Sign.{nil};
+ghost use Rattle.mob_ratio.specs.Ratio.{Ratio};
+ghost use Rattle.mob_ratio.specs.Sign.{opposite};
+ghost use Rattle.mob_span.specs.Span.{has};
+ghost use Rattle.mob_slice.specs.Comparison.{MayAsk};
+ghost use Rattle.mob_slice.specs.Ranks.{holds};
 ghost use Rattle.mob_slice.specs.Entries.{IsMadeBy};
 ghost use Rattle.mob_slice.specs.Modes.{entry_given};
 ghost use Rattle.mob_slice.specs.OnPiece.{IsKeptBy};
@@ -12,7 +16,7 @@ ghost use Rattle.mob_slice.specs.declared.formula.Formula.TheVariants.{Given};
 ghost use Rattle.mob_broad.specs.Coordinates.{as_gaps};
 ghost use Rattle.mob_cells.specs.Gaps.{gap_ends};
 ghost use Rattle.mob_cells.specs.Roots.{IsLevel};
-ghost use Rattle.mob_cells.specs.Turnings.{IsTurning, turn_numbers, turned};
+ghost use Rattle.mob_cells.specs.Turnings.{IsCellBetween, IsMeeting, IsTurning, is_ordered, level, order_by, sign_between, turn_numbers, turned};
 
 use crate::cutting::cells_at;
 use mob_broad::{Coordinates, share_root};
@@ -61,7 +65,9 @@ enum Meeting {
 }
 
 // A result that does not change inside the span.
-fn level(at_lower: bool, inside: bool, at_upper: bool) -> Turning {
+fn level(at_lower: bool, inside: bool, at_upper: bool) -> Turning
+    ensures level { result ≡ level at_lower inside at_upper }
+{
     Turning {
         at_lower,
         first: inside,
@@ -71,7 +77,9 @@ fn level(at_lower: bool, inside: bool, at_upper: bool) -> Turning {
 }
 
 // The sign between two ends whose signs are not opposite.
-fn sign_between(f: &Broad, g: &Broad) -> Ordering {
+fn sign_between(f: &Broad, g: &Broad) -> Ordering
+    ensures value { result ≡ sign_between f.now g.now }
+{
     if f.is_zero() {
         return g.sign();
     }
@@ -85,7 +93,10 @@ fn one_turning(
     rel: Rel,
     f: &Broad,
     g: &Broad,
-) -> Result<Turning, AllocError> {
+) -> Result<Turning, AllocError>
+    requires level { before span.now.lower span.now.upper ≡ false → f.now ≡ g.now }
+    ensures turning { IfOk result (IsTurning span.now (record { at_lower = f.now; at_upper = g.now } ∷ []) rel) }
+{
     let at_lower = rel.holds(f.sign());
     let at_upper = rel.holds(g.sign());
     if !are_opposite(f, g) {
@@ -106,7 +117,9 @@ fn one_turning(
 }
 
 // The order of two points with these gaps: Equal if both are 0, and otherwise Less.
-fn order_by(x: &Broad, y: &Broad) -> Ordering {
+fn order_by(x: &Broad, y: &Broad) -> Ordering
+    ensures value { result ≡ order_by x.now y.now }
+{
     if x.is_zero() && y.is_zero() {
         return Ordering::Equal;
     }
@@ -121,7 +134,11 @@ fn meeting_of(
     g: &Broad,
     e: &Broad,
     h: &Broad,
-) -> Result<Meeting, AllocError> {
+) -> Result<Meeting, AllocError>
+    requires crosses { opposite f.now g.now ≡ true }
+    requires long { before span.now.lower span.now.upper ≡ true }
+    ensures meeting { IfOk result (IsMeeting span.now (record { at_lower = f.now; at_upper = g.now }) (record { at_lower = e.now; at_upper = h.now })) }
+{
     if !(e.is_zero() && h.is_zero()) {
         let shared = share_root(alloc, f, g, e, h)?;
         if !shared {
@@ -140,7 +157,11 @@ fn meeting(
     g: &Broad,
     e: &Broad,
     h: &Broad,
-) -> Result<Meeting, AllocError> {
+) -> Result<Meeting, AllocError>
+    requires first { before span.now.lower span.now.upper ≡ false → f.now ≡ g.now }
+    requires second { before span.now.lower span.now.upper ≡ false → e.now ≡ h.now }
+    ensures meeting { IfOk result (IsMeeting span.now (record { at_lower = f.now; at_upper = g.now }) (record { at_lower = e.now; at_upper = h.now })) }
+{
     if are_opposite(f, g) {
         return meeting_of(alloc, span, f, g, e, h);
     }
@@ -156,6 +177,49 @@ fn meeting(
     Ok(Meeting::Never)
 }
 
+// The results by two gaps, from `f` to `g` and from `e` to `h`.
+fn two_turning(
+    alloc: Global,
+    span: &Span,
+    rel: Rel,
+    f: &Broad,
+    g: &Broad,
+    e: &Broad,
+    h: &Broad,
+) -> Result<Turning, AllocError>
+    requires asked { MayAsk false rel }
+    requires first { before span.now.lower span.now.upper ≡ false → f.now ≡ g.now }
+    requires second { before span.now.lower span.now.upper ≡ false → e.now ≡ h.now }
+    ensures turning { IfOk result (IsTurning span.now (record { at_lower = f.now; at_upper = g.now } ∷ record { at_lower = e.now; at_upper = h.now } ∷ []) rel) }
+{
+    let at_lower = rel.holds(order_by(f, e));
+    let at_upper = rel.holds(order_by(g, h));
+    let apart = rel.holds(Ordering::Less);
+    let same = rel.holds(Ordering::Equal);
+    match meeting(alloc, span, f, g, e, h)? {
+        Meeting::Never => Ok(level(at_lower, apart, at_upper)),
+        Meeting::Always => Ok(level(at_lower, same, at_upper)),
+        Meeting::Once(at) => Ok(Turning {
+            at_lower,
+            first: apart,
+            turn: Some(Turn {
+                at,
+                there: same,
+                after: apart,
+            }),
+            at_upper,
+        }),
+    }
+}
+
+// The results for courses without gaps: the two values are taken as equal.
+fn steady(rel: Rel) -> Turning
+    ensures steady { result ≡ level (holds rel Ordering.Equal) (holds rel Ordering.Equal) (holds rel Ordering.Equal) }
+{
+    let same = rel.holds(Ordering::Equal);
+    level(same, same, same)
+}
+
 /// The results of a comparison on a span, by the gaps at its two ends. Points are compared by `Eq`
 /// and `Ne` alone. The only error is a failed allocation.
 pub fn turning(
@@ -165,32 +229,20 @@ pub fn turning(
     lower: &Coordinates,
     upper: &Coordinates,
 ) -> Result<Turning, AllocError>
+    requires asked { MayAsk (is_ordered (as_gaps lower.now)) rel }
     requires level { AllByRecursion (IsLevel span.now) (gap_ends (as_gaps lower.now) (as_gaps upper.now)) }
     ensures turning { IfOk result (IsTurning span.now (gap_ends (as_gaps lower.now) (as_gaps upper.now)) rel) }
 {
-    let same = rel.holds(Ordering::Equal);
-    match (lower, upper) {
-        (Coordinates::One(f), Coordinates::One(g)) => one_turning(alloc, span, rel, f, g),
-        (Coordinates::Two(f, e), Coordinates::Two(g, h)) => {
-            let at_lower = rel.holds(order_by(f, e));
-            let at_upper = rel.holds(order_by(g, h));
-            let apart = rel.holds(Ordering::Less);
-            match meeting(alloc, span, f, g, e, h)? {
-                Meeting::Never => Ok(level(at_lower, apart, at_upper)),
-                Meeting::Always => Ok(level(at_lower, same, at_upper)),
-                Meeting::Once(at) => Ok(Turning {
-                    at_lower,
-                    first: apart,
-                    turn: Some(Turn {
-                        at,
-                        there: same,
-                        after: apart,
-                    }),
-                    at_upper,
-                }),
-            }
-        }
-        _ => Ok(level(same, same, same)),
+    match lower {
+        Coordinates::One(f) => match upper {
+            Coordinates::One(g) => one_turning(alloc, span, rel, f, g),
+            _ => Ok(steady(rel)),
+        },
+        Coordinates::Two(f, e) => match upper {
+            Coordinates::Two(g, h) => two_turning(alloc, span, rel, f, g, e, h),
+            _ => Ok(steady(rel)),
+        },
+        Coordinates::Steady => Ok(steady(rel)),
     }
 }
 
@@ -212,7 +264,11 @@ pub fn turning_cuts(alloc: Global, turning: &Turning) -> Result<Vec<Frac>, Fault
 }
 
 // The result on a cell, which begins and ends at an end of the span or at the cut.
-fn result_on(span: &Span, turning: &Turning, cuts: &[Frac], cell: &Span) -> bool {
+fn result_on(span: &Span, turning: &Turning, cuts: &[Frac], cell: &Span) -> bool
+    requires cuts { cuts.now ≡ turn_numbers turning.now.turn }
+    requires cell { IsCellBetween span.now cuts.now cell.now }
+    ensures result { (t : Ratio) → has cell.now t ≡ true → result ≡ turned span.now turning.now t }
+{
     if cell.upper().is_same(span.lower()) {
         return turning.at_lower;
     }
