@@ -26,7 +26,7 @@ number_coordinates x = One x
 abbrev pub point_coordinates : Point → Gaps
 point_coordinates p = Two p.x p.y
 
-pub steps_apart : {B : Type 0} → AreCoordinates {B} (λ a b. Constant) (λ x. Constant)
+pub steps_apart : {B : Type 0} → AreCoordinates {B = B} (λ a b. Constant) (λ x. Constant)
 steps_apart x y = refl
 
 pub numbers_apart : AreCoordinates number_gaps number_coordinates

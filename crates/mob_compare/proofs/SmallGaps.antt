@@ -1,8 +1,8 @@
 -- Small gaps decide as the gaps that they stand for.
 use Rattle.std.{specs.Prelude.{◌≡◌, ◌⊎◌, Bool, true, false, cond, not, ◌&&◌, ◌||◌, ◌^◌, ◌<◌, ℤ, pos, negsuc, nat_abs, refl}, specs.declared.cmp.Ordering.{Ordering}, specs.declared.cmp.Ordering.TheVariants.{Less, Equal, Greater}}
 use Rattle.std.proofs.Common.{arith, ap, sym, ◌∙◌, subst, inl, inr, true≢false}
-use Rattle.mob_ratio.{specs.Gcd.{gcd, gcd_steps}, specs.GcdLaws.{gcd_one_right}, specs.LowestLaws.{lowest_in}, specs.Ratio.{Ratio, over, whole, ◌/ℚ◌, ◌<ℚ◌}, specs.Order.{before, same}, specs.Sign.{nil, opposite, sign_of}}
-use Rattle.mob_ratio.{proofs.Divide.{over-pos}, proofs.Order.{before-back, before-self, lt-before, same_exact}, proofs.RatioLemmas.{over-lowest}}
+use Rattle.mob_ratio.{specs.Gcd.{gcd, gcd_steps}, specs.GcdLaws.{gcd_one_right}, specs.LowestLaws.{lowest_in}, specs.Ratio.{Ratio, over, whole, ◌/ℚ◌}, specs.Order.{before, same}, specs.Sign.{nil, opposite, sign_of}}
+use Rattle.mob_ratio.{proofs.Divide.{over-pos}, proofs.Order.{before-back, before-self}, proofs.RatioLemmas.{over-lowest}}
 use Rattle.mob_frac.specs.Fits.{Fits, ratio}
 use Rattle.mob_span.specs.Span.{SpanOf}
 use Rattle.mob_slice.{specs.declared.comparison.Gaps.{Gaps}, specs.declared.comparison.Gaps.TheVariants.{Constant, One, Two}}
@@ -70,7 +70,7 @@ opposite_alike : (x y f g : Ratio) → IsAlike x f → IsAlike y g → opposite 
 unfolding opposite
 opposite_alike x y f g h k = rw (h.below, h.above, k.below, k.above) refl
 
-AreOpposite : Ordering → Ordering → Type 0
+abbrev AreOpposite : Ordering → Ordering → Type 0
 AreOpposite o p = ((o ≡ Less) × (p ≡ Greater)) ⊎ ((o ≡ Greater) × (p ≡ Less))
 
 opposite_signs : (f g : Ratio) → opposite f g ≡ true → AreOpposite (sign_of f) (sign_of g)
@@ -78,14 +78,15 @@ unfolding opposite sign_of
 opposite_signs f g h = by (before f nil) (before nil f) (before g nil) (before nil g) (before-back f nil) (before-back g nil) h
   where
     by : (a b c d : Bool) → (a ≡ true → b ≡ false) → (c ≡ true → d ≡ false) → ((a && d) || (b && c)) ≡ true → AreOpposite (cond a Less (cond b Greater Equal)) (cond c Less (cond d Greater Equal))
-    by true b true d x y e = absurd (cc (x refl, y refl, e))
-    by true b false true x y e = inl (refl, refl)
-    by true true false false x y e = absurd (cc e)
-    by true false false false x y e = absurd (cc e)
-    by false true true d x y e = inr (refl, refl)
-    by false true false true x y e = absurd (cc e)
-    by false true false false x y e = absurd (cc e)
-    by false false c d x y e = absurd (cc e)
+    by true true c d x y e = absurd (true≢false (x refl))
+    by true false true true x y e = absurd (true≢false (y refl))
+    by true false true false x y e = absurd (true≢false (sym e))
+    by true false false true x y e = inl (refl, refl)
+    by true false false false x y e = absurd (true≢false (sym e))
+    by false true true true x y e = absurd (true≢false (y refl))
+    by false true true false x y e = inr (refl, refl)
+    by false true false d x y e = absurd (true≢false (sym e))
+    by false false c d x y e = absurd (true≢false (sym e))
 
 -- with opposite signs in both, the small ratios are equal exactly if the root is shared
 ratios : (shared : Bool) → (same (small Less /ℚ small Greater) (small Less /ℚ last_small shared Greater) ≡ shared) × (same (small Less /ℚ small Greater) (small Greater /ℚ last_small shared Less) ≡ shared) × (same (small Greater /ℚ small Less) (small Less /ℚ last_small shared Greater) ≡ shared) × (same (small Greater /ℚ small Less) (small Greater /ℚ last_small shared Less) ≡ shared)
@@ -129,7 +130,7 @@ both_left false b h = h
 
 both_right : (a b : Bool) → (a && b) ≡ true → b ≡ true
 both_right true b h = h
-both_right false b h = absurd (cc h)
+both_right false b h = absurd (true≢false (sym h))
 
 nil_inside_by : (x w y z f e g h : Ratio) → IsAlike x f → IsAlike w e → IsAlike y g → IsAlike z h → ((opposite f g && opposite e h) ≡ true → same (x /ℚ y) (w /ℚ z) ≡ same (f /ℚ g) (e /ℚ h)) → nil_inside (line_between x y) (line_between w z) ≡ nil_inside (line_between f g) (line_between e h)
 nil_inside_by x w y z f e g h hx hw hy hz k =
@@ -154,5 +155,20 @@ two_alike f e g h x w y z o p q r shared es eo ep eq er mx mw my mz =
     record { alike = λ test s. two_by test s x w y z f e g h hx hw hy hz inside }
 
 -- gaps that are not of one kind
-pub none_alike : (f g : Gaps) (ends : EndGaps) → ends.at_lower ≡ Constant → ((test : Ordering → Bool) (s : SpanOf) → test Equal ≡ gaps_meet test s f g) → DecideAlike f g ends
+none_alike : (f g : Gaps) (ends : EndGaps) → ends.at_lower ≡ Constant → ((test : Ordering → Bool) (s : SpanOf) → test Equal ≡ gaps_meet test s f g) → DecideAlike f g ends
 none_alike f g ends e h = record { alike = λ test s. ap (λ z. gaps_meet test s z ends.at_upper) e ∙ h test s }
+
+pub steady_alike : (g : Gaps) (ends : EndGaps) → ends.at_lower ≡ Constant → DecideAlike Constant g ends
+steady_alike g ends e = none_alike Constant g ends e (λ test s. refl)
+
+pub one_steady : (x : Ratio) (ends : EndGaps) → ends.at_lower ≡ Constant → DecideAlike (One x) Constant ends
+one_steady x ends e = none_alike (One x) Constant ends e (λ test s. refl)
+
+pub one_two : (x y z : Ratio) (ends : EndGaps) → ends.at_lower ≡ Constant → DecideAlike (One x) (Two y z) ends
+one_two x y z ends e = none_alike (One x) (Two y z) ends e (λ test s. refl)
+
+pub two_steady : (x y : Ratio) (ends : EndGaps) → ends.at_lower ≡ Constant → DecideAlike (Two x y) Constant ends
+two_steady x y ends e = none_alike (Two x y) Constant ends e (λ test s. refl)
+
+pub two_one : (x y z : Ratio) (ends : EndGaps) → ends.at_lower ≡ Constant → DecideAlike (Two x y) (One z) ends
+two_one x y z ends e = none_alike (Two x y) (One z) ends e (λ test s. refl)

@@ -1,7 +1,7 @@
 //! Small gaps in place of gaps of any size, by which each comparison is decided alike.
 ghost use Rattle.std.specs.Prelude.{◌≡◌, ◌<◌, ◌^◌, nat_abs, IfOk};
 ghost use Rattle.mob_ratio.specs.Ratio.{whole};
-ghost use Rattle.mob_slice.specs.declared.comparison.Gaps.TheVariants.{One, Two};
+ghost use Rattle.mob_slice.specs.declared.comparison.Gaps.TheVariants.{Constant, One, Two};
 ghost use Rattle.mob_broad.specs.Coordinates.{as_gaps};
 ghost use Rattle.mob_compare.specs.Small.{DecideAlike, small, twice, last_small};
 
@@ -88,7 +88,8 @@ fn two_small(
 
 // Gaps of courses without coordinates.
 fn no_gaps() -> EndGaps
-    ensures none { (result.at_lower ≡ Gaps.Constant) × (result.at_upper ≡ Gaps.Constant) }
+    ensures lower { result.at_lower ≡ Constant }
+    ensures upper { result.at_upper ≡ Constant }
 {
     EndGaps {
         at_lower: Gaps::Constant,
@@ -98,6 +99,7 @@ fn no_gaps() -> EndGaps
 
 /// Small gaps, by which each comparison on each span is decided as by the given ones at its two
 /// ends. The only error is a failed allocation.
+#[tactic(auto, using(crate::proofs::SmallGaps::steady_alike, crate::proofs::SmallGaps::one_steady, crate::proofs::SmallGaps::one_two, crate::proofs::SmallGaps::two_steady, crate::proofs::SmallGaps::two_one))]
 pub fn small_gaps(
     alloc: Global,
     lower: &Coordinates,

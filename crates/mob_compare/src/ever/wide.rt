@@ -19,7 +19,6 @@ use std::alloc::{AllocError, Global};
 
 // Whether the comparison has the wanted result at some instant of the piece, in `Broad`s, for
 // courses that are not steady.
-#[tactic(auto, using(crate::proofs::Widely::met_alike))]
 fn meets_broadly<C: HasCoordinates + Drop>(
     alloc: Global,
     piece: &Piece<'_, C, C>,
@@ -31,9 +30,9 @@ where
     requires moves { C.STEADY ≡ false }
     ensures met { IfOk result (λ b. b ≡ piece_meets C.STEADY C.value_of C.start_of C.relation C.gaps_of rel want (piece_of piece.now)) }
 {
-    let lower = gaps_at::<C>(alloc, piece, piece.span.lower())?;
-    let upper = gaps_at::<C>(alloc, piece, piece.span.upper())?;
-    let small = small_gaps(alloc, &lower, &upper)?;
+    let first = gaps_at::<C>(alloc, piece, piece.span.lower())?;
+    let last = gaps_at::<C>(alloc, piece, piece.span.upper())?;
+    let small = small_gaps(alloc, &first, &last)?;
     let met = gaps_meet(&piece.span, rel, want, &small.at_lower, &small.at_upper);
     Ok(met)
 }
