@@ -4,6 +4,8 @@
 
 mod coordinates;
 mod gaps;
+mod shared;
 
 pub use coordinates::{Coordinates, HasCoordinates};
 pub use gaps::gaps_at;
+pub use shared::share_root;

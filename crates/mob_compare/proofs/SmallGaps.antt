@@ -1,8 +1,8 @@
 -- Small gaps decide as the gaps that they stand for.
 use Rattle.std.{specs.Prelude.{◌≡◌, ◌⊎◌, Bool, true, false, cond, not, ◌&&◌, ◌||◌, ◌^◌, ◌<◌, ℤ, pos, negsuc, nat_abs, refl}, specs.declared.cmp.Ordering.{Ordering}, specs.declared.cmp.Ordering.TheVariants.{Less, Equal, Greater}}
 use Rattle.std.proofs.Common.{arith, ap, sym, ◌∙◌, subst, inl, inr, true≢false}
-use Rattle.mob_ratio.{specs.Gcd.{gcd, gcd_steps}, specs.GcdLaws.{gcd_one_right}, specs.LowestLaws.{lowest_in}, specs.Ratio.{Ratio, inverse, over, turned, whole, ◌*ℚ◌, ◌/ℚ◌, ◌<ℚ◌}, specs.Order.{before, same}, specs.Sign.{nil, opposite, sign_of}}
-use Rattle.mob_ratio.{proofs.Divide.{over-pos}, proofs.Order.{before-back, before-self, lt-before, same_exact}, proofs.RatioLemmas.{over-lowest}}
+use Rattle.mob_ratio.{specs.Gcd.{gcd, gcd_steps}, specs.GcdLaws.{gcd_one_right}, specs.LowestLaws.{lowest_in}, specs.Ratio.{Ratio, inverse, over, turned, whole, ◌*ℚ◌, ◌/ℚ◌}, specs.Order.{before, same}, specs.Sign.{nil, opposite, sign_of}}
+use Rattle.mob_ratio.{proofs.Divide.{over-pos}, proofs.Order.{before-back, before-self}, proofs.RatioLemmas.{over-lowest}}
 use Rattle.mob_frac.specs.Fits.{Fits, ratio}
 use Rattle.mob_span.specs.Span.{SpanOf}
 use Rattle.mob_slice.{specs.declared.comparison.Gaps.{Gaps}, specs.declared.comparison.Gaps.TheVariants.{Constant, One, Two}}
@@ -69,14 +69,6 @@ last_alike false q = twice_alike q
 opposite_alike : (x y f g : Ratio) → IsAlike x f → IsAlike y g → opposite x y ≡ opposite f g
 unfolding opposite
 opposite_alike x y f g h k = rw (h.below, h.above, k.below, k.above) refl
-
-opposite_nil : (d : Ratio) → opposite d nil ≡ false
-unfolding opposite
-opposite_nil d = grind (arith, before-self nil)
-
--- an end with a sign is not 0
-pub opposite_last : (f g : Ratio) → opposite f g ≡ true → g ≡ nil → ⊥
-opposite_last f g h e = true≢false (sym (subst (λ z. opposite f z ≡ true) e h) ∙ opposite_nil f)
 
 abbrev AreOpposite : Ordering → Ordering → Type 0
 AreOpposite o p = ((o ≡ Less) × (p ≡ Greater)) ⊎ ((o ≡ Greater) × (p ≡ Less))
@@ -180,19 +172,3 @@ two_steady x y ends e = none_alike (Two x y) Constant ends e (λ test s. refl)
 
 pub two_one : (x y z : Ratio) (ends : EndGaps) → ends.at_lower ≡ Constant → DecideAlike (Two x y) (One z) ends
 two_one x y z ends e = none_alike (Two x y) (One z) ends e (λ test s. refl)
-
--- ---- whether two quotients are equal
-pub apart_below : (x y a b : Ratio) → a ≡ x → b ≡ y → a <ℚ b → false ≡ same x y
-unfolding same
-apart_below x y a b ea eb h = rw (sym ea, sym eb, lt-before a b h) refl
-
-pub apart_above : (x y a b : Ratio) → a ≡ x → b ≡ y → b <ℚ a → false ≡ same x y
-unfolding same
-apart_above x y a b ea eb h = rw (sym ea, sym eb, lt-before b a h) (sym (nothing (not (before a b))))
-  where
-    nothing : (c : Bool) → (c && false) ≡ false
-    nothing true = refl
-    nothing false = refl
-
-pub together : (x y a b : Ratio) → a ≡ x → b ≡ y → a ≡ b → true ≡ same x y
-together x y a b ea eb h = sym ((same_exact x y).1 (sym ea ∙ h ∙ eb))

@@ -1,17 +1,15 @@
 //! Small gaps in place of gaps of any size, by which each comparison is decided alike.
-ghost use Rattle.std.specs.Prelude.{◌≡◌, ◌≢◌, ◌<◌, ◌^◌, ◌&&◌, nat_abs, IfOk};
-ghost use Rattle.mob_ratio.specs.Order.{same};
-ghost use Rattle.mob_ratio.specs.Ratio.{◌/ℚ◌, whole};
-ghost use Rattle.mob_ratio.specs.Sign.{nil, opposite};
+ghost use Rattle.std.specs.Prelude.{◌≡◌, ◌<◌, ◌^◌, nat_abs, IfOk};
+ghost use Rattle.mob_ratio.specs.Ratio.{whole};
 ghost use Rattle.mob_slice.specs.declared.comparison.Gaps.TheVariants.{Constant, One, Two};
 ghost use Rattle.mob_broad.specs.Coordinates.{as_gaps};
 ghost use Rattle.mob_compare.specs.Small.{DecideAlike, small, twice, last_small};
 
-use mob_broad::Coordinates;
+use mob_broad::{Coordinates, share_root};
 use mob_cells::EndGaps;
 use mob_frac::Frac;
 use mob_slice::Gaps;
-use mob_wide::{Broad, are_opposite};
+use mob_wide::Broad;
 use std::alloc::{AllocError, Global};
 use std::cmp::Ordering;
 
@@ -56,42 +54,6 @@ fn last_small(shared: bool, sign: Ordering) -> Frac
         return small(sign);
     }
     twice(sign)
-}
-
-// Whether `f / g` equals `e / h`.
-fn in_one_ratio(
-    alloc: Global,
-    f: &Broad,
-    g: &Broad,
-    e: &Broad,
-    h: &Broad,
-) -> Result<bool, AllocError>
-    requires left { g.now ≢ nil }
-    requires right { h.now ≢ nil }
-    ensures same { IfOk result (λ b. b ≡ same (f.now /ℚ g.now) (e.now /ℚ h.now)) }
-{
-    let left = f.over(alloc, g)?;
-    let right = e.over(alloc, h)?;
-    let order = left.compare(alloc, &right)?;
-    match order {
-        Ordering::Less => Ok(false),
-        Ordering::Equal => Ok(true),
-        Ordering::Greater => Ok(false),
-    }
-}
-
-// Whether the two functions, from `f` to `g` and from `e` to `h`, have roots between their ends,
-// and these are one.
-fn share_root(alloc: Global, f: &Broad, g: &Broad, e: &Broad, h: &Broad) -> Result<bool, AllocError>
-    ensures shared { IfOk result (λ b. b ≡ (opposite f.now g.now && opposite e.now h.now && same (f.now /ℚ g.now) (e.now /ℚ h.now))) }
-{
-    if !are_opposite(f, g) {
-        return Ok(false);
-    }
-    if !are_opposite(e, h) {
-        return Ok(false);
-    }
-    in_one_ratio(alloc, f, g, e, h)
 }
 
 // Small gaps in place of one gap, which is `f` at the lower end and `g` at the upper one.

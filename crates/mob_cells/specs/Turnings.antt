@@ -1,0 +1,63 @@
+-- The results of a comparison of two courses on a span: at its ends, and inside it, where they
+-- change at one instant at most.
+use Rattle.std.{specs.List.{AllByRecursion}, specs.Prelude.{◌≡◌, Bool, true, false, cond, ◌&&◌, List, [], ◌∷◌, Option, None, Some, IfSome}, specs.declared.cmp.Ordering.{Ordering}, specs.declared.cmp.Ordering.TheVariants.{Less, Equal}}
+use Rattle.mob_ratio.{specs.Ratio.{Ratio}, specs.Order.{before, same}, specs.Sign.{nil, opposite, sign_of}}
+use Rattle.mob_span.specs.Span.{SpanOf, has}
+use Rattle.mob_slice.{specs.declared.comparison.Gaps.{Gaps}, specs.declared.comparison.Gaps.TheVariants.{Two}, specs.declared.comparison.Rel.{Rel}}
+use Rattle.mob_cells.{specs.declared.linear.Ends.{Ends}, specs.declared.turning.Turn.{Turn}, specs.declared.turning.Turning.{Turning}, specs.Cells.{IsCut, NoneWithin, is_cell_of, signs_of}, specs.Gaps.{related_by}, specs.Roots.{function_at}}
+use Rattle.mob_cells.{specs.declared.turning.Meeting.{Meeting}, specs.declared.turning.Meeting.TheVariants.{Never, Always, Once}}
+
+-- the result inside the span
+abbrev pub turned_by : Bool → Option Turn → Ratio → Bool
+turned_by first None t = first
+turned_by first (Some c) t = cond (before t c.at) first (cond (before c.at t) c.after c.there)
+
+-- the result at the instant t
+abbrev pub turned : SpanOf → Turning → Ratio → Bool
+turned s w t = cond (same t s.lower) w.at_lower (cond (same t s.upper) w.at_upper (turned_by w.first w.turn t))
+
+-- the instant inside the span at which the result changes, if there is one
+abbrev pub turn_numbers : Option Turn → List Ratio
+turn_numbers None = []
+turn_numbers (Some c) = c.at ∷ []
+
+-- The results are those of a comparison by the signs of linear functions on the span. They change
+-- at the instant.
+pub record IsTurning (s : SpanOf) (functions : List Ends) (rel : Rel) (w : Turning) : Type 0 where
+  pub each : (t : Ratio) → has s t ≡ true → related_by rel (signs_of s functions t) ≡ turned s w t
+  pub inside : IfSome w.turn (λ c. (before s.lower c.at ≡ true) × (before c.at s.upper ≡ true))
+  pub changes : IfSome w.turn (λ c. w.first ≡ c.there → c.there ≡ c.after → ⊥)
+
+-- results that do not change inside the span
+abbrev pub level : Bool → Bool → Bool → Turning
+level at_lower inside at_upper = record { at_lower = at_lower; first = inside; turn = None; at_upper = at_upper }
+
+-- the sign of a line between two ends whose signs are not opposite
+abbrev pub sign_between : Ratio → Ratio → Ordering
+sign_between f g = cond (same f nil) (sign_of g) (sign_of f)
+
+-- the order of two points with these gaps: Equal if both are 0, and otherwise Less
+abbrev pub order_by : Ratio → Ratio → Ordering
+order_by x y = cond (same x nil && same y nil) Equal Less
+
+-- both functions are 0 at t
+abbrev pub are_nil_at : SpanOf → Ends → Ends → Ratio → Bool
+are_nil_at s f e t = same (function_at s f t) nil && same (function_at s e t) nil
+
+-- when both functions are 0, strictly between the ends of the span
+abbrev pub IsMeeting : SpanOf → Ends → Ends → Meeting → Type 0
+IsMeeting s f e Never = (t : Ratio) → before s.lower t ≡ true → before t s.upper ≡ true → are_nil_at s f e t ≡ false
+IsMeeting s f e Always = (t : Ratio) → before s.lower t ≡ true → before t s.upper ≡ true → are_nil_at s f e t ≡ true
+IsMeeting s f e (Once r) = (before s.lower r ≡ true) × (before r s.upper ≡ true) × ((t : Ratio) → before s.lower t ≡ true → before t s.upper ≡ true → are_nil_at s f e t ≡ same t r)
+
+-- a cell of the span, cut at these instants
+pub record IsCellBetween (s : SpanOf) (cuts : List Ratio) (c : SpanOf) : Type 0 where
+  pub cell : is_cell_of s c ≡ true
+  pub lower : IsCut s cuts c.lower
+  pub upper : IsCut s cuts c.upper
+  pub apart : AllByRecursion (λ r. NoneWithin r c) cuts
+
+-- numbers have an order, points have none
+abbrev pub is_ordered : Gaps → Bool
+is_ordered (Two x y) = false
+is_ordered g = true
