@@ -1,5 +1,5 @@
 -- The mode in which each operator is decided.
-use Rattle.std.specs.Prelude.{List, [], ◌∷◌, map}
+use Rattle.std.specs.Prelude.{List, map}
 use Rattle.mob_list.{specs.declared.fault.Fault.{Fault}, specs.declared.fault.Fault.TheVariants.{Because, NoMemory}}
 use Rattle.mob_slice.{specs.Entries.{Entry}, specs.Modes.{by_mode}, specs.declared.formula.Formula.{Formula}, specs.declared.formula.Formula.TheVariants.{Given}, specs.declared.mode.Mode.{Mode}, specs.declared.mode.Mode.TheVariants.{Narrow, Wide}}
 use Rattle.mob_meaning.specs.declared.terms.Terms.{Terms}
