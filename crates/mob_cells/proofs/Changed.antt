@@ -11,11 +11,11 @@ use Rattle.std.proofs.lemmas.Bool.{and_parts}
 
 -- ---- an instant of a span near one of its ends
 
-greater_before : (x y z : Ratio) → before x z ≡ true → before y z ≡ true → (b : Bool) → before x y ≡ b → (before (cond b y x) z ≡ true) × (up_to x (cond b y x) ≡ true) × (up_to y (cond b y x) ≡ true)
+pub greater_before : (x y z : Ratio) → before x z ≡ true → before y z ≡ true → (b : Bool) → before x y ≡ b → (before (cond b y x) z ≡ true) × (up_to x (cond b y x) ≡ true) × (up_to y (cond b y x) ≡ true)
 greater_before x y z h k true e = (k, before-weak x y e, up_to-self y)
 greater_before x y z h k false e = (h, up_to-self x, rw e refl)
 
-before_smaller : (x y z : Ratio) → before z x ≡ true → before z y ≡ true → (b : Bool) → before y x ≡ b → (before z (cond b y x) ≡ true) × (up_to (cond b y x) x ≡ true) × (up_to (cond b y x) y ≡ true)
+pub before_smaller : (x y z : Ratio) → before z x ≡ true → before z y ≡ true → (b : Bool) → before y x ≡ b → (before z (cond b y x) ≡ true) × (up_to (cond b y x) x ≡ true) × (up_to (cond b y x) y ≡ true)
 before_smaller x y z h k true e = (k, before-weak y x e, up_to-self y)
 before_smaller x y z h k false e = (h, up_to-self x, rw e refl)
 

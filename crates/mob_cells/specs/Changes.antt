@@ -1,6 +1,6 @@
 -- Where a test of instants begins and ceases to hold on a span. The span is cut at the roots of
 -- linear functions, and the test holds on the whole of a cell or nowhere there.
-use Rattle.std.{specs.Prelude.{◌≡◌, Bool, Contains, true, cond, ◌&&◌, pos, List, [], ◌∷◌, ◌++◌, Option, Some, None}, specs.List.{AllByRecursion}}
+use Rattle.std.{specs.Prelude.{◌≡◌, Bool, Contains, true, cond, ◌&&◌, pos, List, [], ◌∷◌, ◌++◌, filter, Option, Some, None}, specs.List.{AllByRecursion}}
 use Rattle.mob_ratio.{specs.Ratio.{Ratio, whole, ◌+ℚ◌, ◌/ℚ◌}, specs.Order.{before}}
 use Rattle.mob_span.{specs.Span.{SpanOf, has, has_instant}, specs.Flags.{same_bool}, specs.Sets.{in_some}}
 use Rattle.mob_cells.{specs.declared.linear.Ends.{Ends}, specs.Cells.{IsCut, split_all, start_cells}, specs.Roots.{as_list, roots}}
@@ -23,6 +23,10 @@ changes_behind meets c (d ∷ cells) = cond (same_bool (meets (halfway c)) (meet
 abbrev pub changes : (Ratio → Bool) → List SpanOf → List Ratio
 changes meets [] = []
 changes meets (c ∷ cells) = changes_behind meets c cells
+
+-- those strictly between the ends of the span, which is cut at the roots of these functions
+abbrev pub changes_inside : (Ratio → Bool) → SpanOf → List Ends → List Ratio
+changes_inside meets s functions = filter (λ t. before s.lower t && before t s.upper) (changes meets (cells_of s functions))
 
 -- a span with the cell behind it; without a span, the cell
 abbrev pub with_cell : Option SpanOf → SpanOf → SpanOf
