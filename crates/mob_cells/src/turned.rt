@@ -79,12 +79,7 @@ fn turned_on(span: &Span, turning: &Turning, cuts: &[Frac], cell: &Span) -> bool
 }
 
 // The result on a cell, as a slice.
-fn flag_between(
-    span: &Span,
-    turning: &Turning,
-    cuts: &[Frac],
-    cell: &Span,
-) -> Slice<Steady<bool>>
+fn flag_between(span: &Span, turning: &Turning, cuts: &[Frac], cell: &Span) -> Slice<Steady<bool>>
     requires cuts { cuts.now ≡ turn_numbers turning.now.turn }
     requires cell { IsCellBetween span.now cuts.now cell.now }
     ensures flag { AreKeptOn steady_value steady_limit steady_limit (λ t. Some (turned span.now turning.now t)) cell.now (result ∷ []) }

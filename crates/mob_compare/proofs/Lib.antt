@@ -10,3 +10,4 @@ pub mod Answering
 pub mod SmallGaps
 pub mod Widely
 pub mod Asked
+pub mod AtEach

@@ -41,9 +41,7 @@ pub data Family : Type 0 where
 -- one: their steps are computed in 62 bits alone.
 abbrev pub mode_for : Family → Mode → Mode
 mode_for NumbersOverTime mode = Narrow
-mode_for Signs mode = Narrow
 mode_for TimeRestrictions mode = Narrow
-mode_for ValueRestrictions mode = Narrow
 mode_for LookUps mode = Narrow
 mode_for BoxRestrictions mode = Narrow
 mode_for PolygonRestrictions mode = Narrow

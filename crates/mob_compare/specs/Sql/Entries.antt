@@ -31,9 +31,9 @@ sign_entries scope cmp.Eq met a b = any_entries scope met a b
 sign_entries scope cmp.Ne met a b = any_entries scope met a b
 sign_entries scope c met a b = order_entries scope met a b
 
--- The entries of a sign in a mode. In the wide mode those with `?` and `%` have none: they give a
--- truth value.
-abbrev pub asked_in : Mode → When → List Entry → List Entry
-asked_in mode Each entries = entries
-asked_in mode Ever entries = by_mode mode entries []
-asked_in mode Always entries = by_mode mode entries []
+-- The entries of a sign in a mode, of those in the narrow mode and those of `#` in the wide one. In
+-- the wide mode the signs with `?` and `%` have none: they give a truth value.
+abbrev pub asked_in : Mode → When → List Entry → List Entry → List Entry
+asked_in mode Each narrow wide = by_mode mode narrow wide
+asked_in mode Ever narrow wide = by_mode mode narrow []
+asked_in mode Always narrow wide = by_mode mode narrow []

@@ -10,20 +10,24 @@ ghost use Rattle.mob_slice.specs.LineComparison.{number_gaps, number_relates};
 ghost use Rattle.mob_slice.specs.Lines.{line_value_of, line_parts_of};
 ghost use Rattle.mob_slice.specs.Ranks.{holds};
 ghost use Rattle.mob_slice.specs.Modes.{by_mode};
+ghost use Rattle.mob_slice.specs.Operands.{IsPointwise, steady_value};
 ghost use Rattle.mob_slice.specs.Sides.{given_at, operand_of, has_slices, pieces};
 ghost use Rattle.mob_value.specs.Pairs.{OnPair, OnOperands, entries_on, operands_of};
 ghost use Rattle.mob_value.specs.Lines.{line_pair};
 ghost use Rattle.mob_compare.specs.Sql.Signs.{IsAsked, IsOrderTest, IsAnyTest, IsSignTest};
+ghost use Rattle.mob_compare.specs.Compared.{entries_of_gaps};
 ghost use Rattle.mob_compare.specs.Sql.Entries.{asked_in, entries_asked, order_entries, any_entries, sign_entries};
+ghost use Rattle.mob_compare.specs.Sql.Wide.{given_changes, wide_any_entries, wide_order_entries, wide_sign_entries};
 ghost use Rattle.mob_value.specs.Outcomes.{IsOutcome};
 
+use crate::broadly::compare_wide;
 use crate::courses::compare;
 use crate::ever::{always, always_wide, ever, ever_wide};
 use crate::sql::when::When;
 use mob_ast::{Cmp, SqlType};
 use mob_broad::HasCoordinates;
 use mob_list::fault::Fault;
-use mob_slice::{Formula, Mode, Operand, Ranked, Rel};
+use mob_slice::{Formula, Mode, Moving, Operand, Ranked, Rel, Steady};
 use mob_value::Value;
 use mob_value::kinds::{bool_or_null, known};
 use mob_value::lines::as_lines;
@@ -33,6 +37,28 @@ use mob_value::pair::{
 use mob_value::relation::rel_of;
 use std::alloc::Global;
 use std::mem::drop;
+
+// The comparison at each instant at which both operands have a value.
+fn compare_in<C: HasCoordinates + Drop>(
+    alloc: Global,
+    mode: Mode,
+    a: Operand<'_, C>,
+    b: Operand<'_, C>,
+    rel: Rel,
+) -> Result<Option<Moving<Steady<bool>>>, Fault<Formula>>
+where
+    C::Base: Drop,
+    requires asked { MayAsk C.ordered rel }
+    requires moving { (has_slices (operand_of a) || has_slices (operand_of b)) ≡ true }
+    ensures value { IfOk result (λ r. IsPointwise steady_value (C.relation rel) (given_at C.value_of (operand_of a.entry)) (given_at C.value_of (operand_of b.entry)) r) }
+    ensures first { IsJudged (by_mode mode (flat_map (entries_of_gaps C.value_of C.parts_of C.gaps_of) (pieces (operand_of a.entry) (operand_of b.entry))) (flat_map (given_changes C.value_of C.gaps_of (C.relation rel)) (pieces (operand_of a.entry) (operand_of b.entry)))) result }
+    ensures memory { C.STEADY ≡ true → IfErr result (λ e. e ≡ Fault.NoMemory) }
+{
+    match mode {
+        Mode::Narrow => compare(alloc, a, b, rel),
+        Mode::Wide => compare_wide(alloc, a, b, rel),
+    }
+}
 
 // Whether the comparison holds at some instant at which both operands have a value.
 fn ever_in<C: HasCoordinates + Drop>(
@@ -103,14 +129,14 @@ where
     C::Base: Drop,
     requires asked { MayAsk C.ordered rel }
     requires moving { IfSome pair (λ p. (has_slices (operand_of p.0) || has_slices (operand_of p.1)) ≡ true) }
-    ensures outcome { IsOutcome (OnOperands C.value_of C.value_of (option_map operands_of pair.entry) (IsAsked scope (C.relation rel))) (IsFirst (asked_in mode scope (entries_on (entries_asked scope C.value_of C.parts_of C.gaps_of) (option_map operands_of pair.entry)))) result }
+    ensures outcome { IsOutcome (OnOperands C.value_of C.value_of (option_map operands_of pair.entry) (IsAsked scope (C.relation rel))) (IsFirst (asked_in mode scope (entries_on (entries_asked scope C.value_of C.parts_of C.gaps_of) (option_map operands_of pair.entry)) (entries_on (given_changes C.value_of C.gaps_of (C.relation rel)) (option_map operands_of pair.entry)))) result }
     ensures memory { C.STEADY ≡ true → IfErr result (λ e. e ≡ Fault.NoMemory) }
 {
     let Some((left, right)) = pair else {
         return Ok(Value::Null);
     };
     match scope {
-        When::Each => match compare(alloc, left, right, rel) {
+        When::Each => match compare_in(alloc, mode, left, right, rel) {
             Ok(value) => Ok(bool_or_null(value)),
             Err(fault) => Err(fault),
         },
@@ -135,7 +161,7 @@ fn steps_asked<B: Ranked + Drop>(
     pair: Option<SteadyPair<'_, B>>,
 ) -> Result<Value, Fault<Formula>>
     requires moving { IfSome pair (λ p. (has_slices (operand_of p.0) || has_slices (operand_of p.1)) ≡ true) }
-    ensures outcome { IsOutcome (OnPair (option_map operands_of pair.entry) (IsAsked scope (λ x y. holds rel (B.compare_of x y)))) (IsFirst (asked_in mode scope [])) result }
+    ensures outcome { IsOutcome (OnPair (option_map operands_of pair.entry) (IsAsked scope (λ x y. holds rel (B.compare_of x y)))) (IsFirst (asked_in mode scope [] [])) result }
 {
     match asked(alloc, mode, scope, rel, pair) {
         Ok(value) => Ok(value),
@@ -153,7 +179,7 @@ fn lines_asked(
     left: &Value,
     right: &Value,
 ) -> Result<Value, Fault<Formula>>
-    ensures outcome { IsOutcome (OnOperands line_value_of line_value_of (line_pair left.now right.now) (IsAsked scope (number_relates rel))) (IsFirst (asked_in mode scope (entries_on (entries_asked scope line_value_of line_parts_of number_gaps) (line_pair left.now right.now)))) result }
+    ensures outcome { IsOutcome (OnOperands line_value_of line_value_of (line_pair left.now right.now) (IsAsked scope (number_relates rel))) (IsFirst (asked_in mode scope (entries_on (entries_asked scope line_value_of line_parts_of number_gaps) (line_pair left.now right.now)) (entries_on (given_changes line_value_of number_gaps (number_relates rel)) (line_pair left.now right.now)))) result }
 {
     match as_lines(alloc, left, right) {
         Ok((left, right)) => {
@@ -176,7 +202,7 @@ fn order(
     left: &Value,
     right: &Value,
 ) -> Result<Value, Fault<Formula>>
-    ensures outcome { IsOutcome (IsOrderTest scope rel met left.now right.now) (IsFirst (asked_in mode scope (order_entries scope met left.now right.now))) result }
+    ensures outcome { IsOutcome (IsOrderTest scope rel met left.now right.now) (IsFirst (asked_in mode scope (order_entries scope met left.now right.now) (wide_order_entries rel met left.now right.now))) result }
 {
     match met {
         Some(SqlType::TInt) => steps_asked(alloc, mode, scope, rel, number_pair(left, right)),
@@ -199,7 +225,7 @@ fn sameness(
     right: &Value,
 ) -> Result<Value, Fault<Formula>>
     requires asked { MayAsk false rel }
-    ensures outcome { IsOutcome (IsAnyTest scope rel met left.now right.now) (IsFirst (asked_in mode scope (any_entries scope met left.now right.now))) result }
+    ensures outcome { IsOutcome (IsAnyTest scope rel met left.now right.now) (IsFirst (asked_in mode scope (any_entries scope met left.now right.now) (wide_any_entries rel met left.now right.now))) result }
 {
     match met {
         Some(SqlType::TBool) => steps_asked(alloc, mode, scope, rel, truth_pair(left, right)),
@@ -218,7 +244,7 @@ pub fn sign_test(
     left: &Value,
     right: &Value,
 ) -> Result<Value, Fault<Formula>>
-    ensures outcome { IsOutcome (IsSignTest scope sign met left.now right.now) (IsFirst (asked_in mode scope (sign_entries scope sign met left.now right.now))) result }
+    ensures outcome { IsOutcome (IsSignTest scope sign met left.now right.now) (IsFirst (asked_in mode scope (sign_entries scope sign met left.now right.now) (wide_sign_entries sign met left.now right.now))) result }
 {
     match sign {
         Cmp::Eq => sameness(alloc, mode, scope, Rel::Eq, met, left, right),

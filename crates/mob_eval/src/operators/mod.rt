@@ -112,7 +112,7 @@ pub fn of_two(
         Op::Ever(sign) => sign_test(alloc, mode, When::Ever, sign, meeting(args), left, right),
         Op::Always(sign) => sign_test(alloc, mode, When::Always, sign, meeting(args), left, right),
         Op::AtTime | Op::MinusTime => restriction(alloc, wanted(op), left, right),
-        Op::AtValues | Op::MinusValues => value_restriction(alloc, wanted(op), left, right),
+        Op::AtValues | Op::MinusValues => value_restriction(alloc, mode, wanted(op), left, right),
         Op::ValueAtTimestamp => look_up(alloc, left, right),
         Op::Overlap => Ok(overlap(left, right)),
         Op::ExpandSpace => expanded(alloc, mode, left, right),

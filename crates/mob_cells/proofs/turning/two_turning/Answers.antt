@@ -27,8 +27,8 @@ returns-in-Always c =
 
 pub returns : goal.returns
 returns c =
-    let n = λ q. true≢false (sym ((same_bool_exact c.holds-apart.result c.holds-there.result).1 (c.holds-apart.ensures.value ∙ q ∙ sym c.holds-there.ensures.value)) ∙ sym c.same_bool.ensures.value ∙ c.if-same_bool.false) in
     record {
       turning = rw (c.holds-at_lower.ensures.value, c.order_by-low.ensures.value, c.holds-at_upper.ensures.value, c.order_by-high.ensures.value, c.holds-apart.ensures.value, c.holds-there.ensures.value)
-          (two_once c.args.span.now c.args.rel c.args.f.now c.args.g.now c.args.e.now c.args.h.now c.in-Once.at (rw c.in-Once.is at c.in_ok-when.ensures.meeting) n);
+          (two_once c.args.span.now c.args.rel c.args.f.now c.args.g.now c.args.e.now c.args.h.now c.in-Once.at (rw c.in-Once.is at c.in_ok-when.ensures.meeting)
+          (λ q. true≢false (sym ((same_bool_exact c.holds-apart.result c.holds-there.result).1 (c.holds-apart.ensures.value ∙ q ∙ sym c.holds-there.ensures.value)) ∙ sym c.same_bool.ensures.value ∙ c.if-same_bool.false)));
     }
