@@ -116,8 +116,12 @@ where
     ensures value { IfOk result (λ r. IsRestricted C.value_of want (λ t x. C.relation Eq x value.now) a.now r) }
     ensures first { IsJudged (flat_map (given_values C.value_of C.gaps_of (C.relation Eq) value.now) a.now) result }
 {
-    let by = ToValueWide { value };
-    let slices = restricted::<C, ToValueWide<'_, C>>(alloc, a.slices(), &by, want)?;
+    let slices = restricted::<C, ToValueWide<'_, C>>(
+        alloc,
+        a.slices(),
+        &ToValueWide { value },
+        want,
+    )?;
     Ok(normal(alloc, slices)?)
 }
 
