@@ -4,7 +4,8 @@
     checks/random/wide.py PROGRAM [SCRIPTS [SEED]]
 
 A script is one SELECT of one to three items: `eDwithin`, `nearestApproachSquared`, `?` and `%` signs
-of points and of numbers, and `+`, `-` and `*` of numbers and of such squares. Points move in sequences with and without their ends, stay, or
+of points and of numbers, the instants of `#` signs, `atValues` and `minusValues`, and `+`, `-` and
+`*` of numbers and of such squares. Points move in sequences with and without their ends, stay, or
 are there at instants alone. Coordinates, distances and instants are whole numbers and fractions of
 up to 62 bits. In half of the scripts points keep their first coordinate, so that many distances are
 numbers that can be written: such a distance is often asked for exactly.
@@ -25,6 +26,8 @@ from trials import all_of, arguments, ran
 
 LIMIT = 2**62
 SECONDS = 60
+# The seconds from the epoch to the day of the instants.
+DAY = 9617 * 86400
 
 
 class Fault(Exception):
@@ -187,25 +190,45 @@ class Writer:
 
         return f"eDwithin({text}, {distance})", value
 
-    def sign(self):
-        """A `?` or `%` sign of two points, or of a number over time and a number."""
+    def passing(self):
+        """A point or a number over time and a value of it, often one that it takes, and the pieces."""
         if self.chance.random() < 0.5:
-            first, second, pieces = self.both()
-            if self.chance.random() < 0.6:
-                text, course = self.moving()
-                place = self.on_the_way(course)
-                if place is not None:
-                    first, second = f"tgeompoint '{text}'", f"geometry 'POINT({place[0]} {place[1]})'"
-                    pieces = list(shared(course, place))
-            return self.compared(first, second, pieces, ("=", "<>"))
+            text, course = self.moving()
+            place = self.on_the_way(course) if self.chance.random() < 0.8 else None
+            place = (self.east(), self.number()) if place is None else place
+            return f"tgeompoint '{text}'", f"geometry 'POINT({place[0]} {place[1]})'", course, place
         text, course = self.changing()
         place = self.on_the_way(course) if self.chance.random() < 0.6 else None
         place = (self.number(),) if place is None else place
-        first, second = f"tfrac '{text}'", f"numeric '{place[0]}'"
-        pieces = list(shared(course, place))
-        return self.compared(first, second, pieces, ("=", "<>", "<", "<=", ">", ">="))
+        return f"tfrac '{text}'", f"numeric '{place[0]}'", course, place
 
-    def compared(self, first, second, pieces, relations):
+    def operands(self):
+        """Two operands of a sign, their pieces, and the relations that it may ask for."""
+        if self.chance.random() < 0.2:
+            first, second, pieces = self.both()
+            return first, second, pieces, ("=", "<>")
+        first, second, course, place = self.passing()
+        relations = ("=", "<>", "<", "<=", ">", ">=")
+        return first, second, list(shared(course, place)), relations[: 2 if len(place) == 2 else 6]
+
+    def changed(self):
+        """The instants at which a `#` sign is true."""
+        first, second, pieces, relations = self.operands()
+        mark, relation = self.mark(), self.chance.choice(relations)
+        text = f"whenTrue({first} <{mark}>#{relation} {second})"
+        return text, lambda: true_times(pieces, relation, mark)
+
+    def taken(self):
+        """The instants at which a value is taken, or those at which it is not."""
+        first, second, course, place = self.passing()
+        mark, minus = self.mark(), self.chance.random() < 0.5
+        text = f"getTime(<{mark}>{'minusValues' if minus else 'atValues'}({first}, {second}))"
+        pieces, relation = list(shared(course, place)), "<>" if minus else "="
+        return text, lambda: true_times(pieces, relation, mark)
+
+    def sign(self):
+        """A `?` or `%` sign of two points, or of a number over time and a number."""
+        first, second, pieces, relations = self.operands()
         scope, relation = self.chance.choice("?%"), self.chance.choice(relations)
 
         def value():
@@ -216,11 +239,15 @@ class Writer:
 
         return f"{first} {scope}{relation} {second}", value
 
+    def item(self):
+        items = self.within, self.sign, self.changed, self.changed, self.taken, self.square, self.term
+        return self.chance.choice(items)
+
     def script(self):
         """The script, the place of each mark, and the answer: lines, or a mark."""
         items, values = [], []
         for n in range(self.chance.choice((1, 1, 2, 3))):
-            text, value = self.chance.choice((self.within, self.sign, self.sign, self.square, self.term))()
+            text, value = self.item()()
             items.append(f"{text} AS v{n}")
             values.append(value)
         text, places = unmarked("SELECT " + ", ".join(items) + ";")
@@ -330,6 +357,47 @@ def orders(piece):
     return found | {order_of(tuple(a + (b - a) * part for a, b in zip(p, q))) for part in parts}
 
 
+def cells(piece, relation):
+    """The instants and the open spans of a piece, in order, each with whether the relation holds."""
+    begin, end, p, q, first, last = piece
+    if begin == end:
+        return [(begin, end, True, holds(relation, order_of(p)))]
+
+    def there(part):
+        return holds(relation, order_of(tuple(a + (b - a) * part for a, b in zip(p, q))))
+
+    cuts = sorted({Fraction(0), Fraction(1), *(a / (a - b) for a, b in zip(p, q) if a * b < 0)})
+    found = [(begin, begin, True, there(0))] if first else []
+    for part, after in zip(cuts, cuts[1:]):
+        t, u = (begin + (end - begin) * it for it in (part, after))
+        found += [(t, t, True, there(part))] if part else []
+        found.append((t, u, False, there((part + after) / 2)))
+    return found + ([(end, end, True, there(1))] if last else [])
+
+
+def true_times(pieces, relation, mark):
+    """The text of the instants at which the relation holds. Those inside a piece at which it begins
+    or ceases to hold have to fit."""
+    spans = []
+    for piece in pieces:
+        row = cells(piece, relation)
+        for (_, t, *_, one), (*_, other) in zip(row, row[1:]):
+            if one != other and piece[0] < t < piece[1]:
+                checked(DAY + t, mark)
+        for begin, end, held, true in row:
+            if not true:
+                continue
+            if spans and spans[-1][1] == begin and (held or spans[-1][3]):
+                spans[-1][1], spans[-1][3] = end, held
+            else:
+                spans.append([begin, end, held, held])
+    texts = [
+        f"{'[' if first else '('}{shown(t)}, {shown(u)}{']' if last else ')'}"
+        for t, u, first, last in spans
+    ]
+    return '"{' + ", ".join(texts) + '}"' if texts else None
+
+
 def holds(relation, order):
     return {
         "=": order == 0,
@@ -348,6 +416,15 @@ def moment(t):
     second, part = int(t), t - int(t)
     text = f"2026-05-01 {second // 3600:02}:{second // 60 % 60:02}:{second % 60:02}"
     return text + (f"({part})" if part else "")
+
+
+def shown(t):
+    """An instant as it prints."""
+    part = t - int(t)
+    if 10**6 % part.denominator:
+        return moment(t) + "+00"
+    places = f"{int(part * 10**6):06}".rstrip("0")
+    return moment(Fraction(int(t))) + (f".{places}" if places else "") + "+00"
 
 
 def report(it):
