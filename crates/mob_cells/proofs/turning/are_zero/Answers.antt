@@ -1,6 +1,6 @@
 use Rattle.std.proofs.Common.{◌≡◌, true, false, refl, sym, ◌∙◌}
 use Rattle.mob_ratio.{specs.Order.{same}, specs.Sign.{nil}}
-use Rattle.mob_cells.proofs.Turned.{nil_test}
+use Rattle.mob_cells.proofs.GapTurns.{nil_test}
 use Rattle.mob_cells.proofs.turning.are_zero.Goals as goal
 
 pub returns-then-not-is_zero : goal.returns-then-not-is_zero

@@ -1,5 +1,5 @@
 use Rattle.std.proofs.Common.{sym, ◌∙◌}
-use Rattle.mob_cells.{proofs.Meetings.{root_on}, proofs.Turned.{one_crossing, one_level}}
+use Rattle.mob_cells.{proofs.Meetings.{root_on}, proofs.GapTurns.{one_crossing, one_level}}
 use Rattle.mob_cells.proofs.turning.one_turning.Goals as goal
 
 pub returns-then-not-are_opposite : goal.returns-then-not-are_opposite

@@ -1,4 +1,4 @@
-use Rattle.mob_cells.proofs.Turned.{between_nil, between_some}
+use Rattle.mob_cells.proofs.GapTurns.{between_nil, between_some}
 use Rattle.mob_cells.proofs.turning.sign_between.Goals as goal
 
 pub returns-then-is_zero : goal.returns-then-is_zero

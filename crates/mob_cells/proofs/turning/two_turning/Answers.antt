@@ -1,6 +1,6 @@
 use Rattle.std.proofs.Common.{sym, ◌∙◌, true≢false}
 use Rattle.mob_span.specs.Flags.{same_bool_exact}
-use Rattle.mob_cells.proofs.Turned.{two_alike, two_always, two_never, two_once}
+use Rattle.mob_cells.proofs.GapTurns.{two_alike, two_always, two_never, two_once}
 use Rattle.mob_cells.proofs.turning.two_turning.Goals as goal
 
 pub returns-then-same_bool : goal.returns-then-same_bool
