@@ -100,9 +100,9 @@ held_cut s turn cuts t P e h i n m = elim i [
     by None h k = absurd (none_in t k)
     by (Some c) h k = elim (which_in c.at [] t k) [ inl q ↦ subst P q h | inr j ↦ absurd (none_in t j) ]
 
-pub copy_is : {B E : Type 0} {P : E → Type 0} (r : Result B E) (x y : B) → MatchResult r (λ copy. copy ≡ x) P → x ≡ y → IfOk r (λ copy. copy ≡ y)
-copy_is (Ok copy) x y h e = h ∙ e
-copy_is (Err f) x y h e = tt
+pub copy_is : {B E : Type 0} (allocates : Bool) (r : Result B E) (x y : B) → MatchResult r (λ copy. copy ≡ x) (λ _. allocates ≡ true) → x ≡ y → IfOk r (λ copy. copy ≡ y)
+copy_is allocates (Ok copy) x y h e = h ∙ e
+copy_is allocates (Err f) x y h e = tt
 
 module _ {C B : Type 0} (value : C → Ratio → Ratio → Ratio → B) (start end : C → B) (s : Slice C) (w : Turning) (cuts : List Ratio) (c : SpanOf) (want keeps flag : Bool) (e : cuts ≡ turn_numbers w.turn) (h : IsCellBetween s.span cuts c) (is : flag ≡ turned_on s.span w cuts c) (wanted : keeps ≡ same_bool want flag) where
   keeps_at : (t : Ratio) → has c t ≡ true → cond keeps (Some (slice_value value s t)) None ≡ kept_turned value want w s t

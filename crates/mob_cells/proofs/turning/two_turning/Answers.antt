@@ -25,8 +25,8 @@ returns-in-Always c =
           (two_always c.args.span.now c.args.rel c.args.f.now c.args.g.now c.args.e.now c.args.h.now (rw c.in-Always.is at c.in_ok-when.ensures.meeting));
     }
 
-pub returns : goal.returns
-returns c =
+pub returns-in-Once : goal.returns-in-Once
+returns-in-Once c =
     record {
       turning = rw (c.holds-at_lower.ensures.value, c.order_by-low.ensures.value, c.holds-at_upper.ensures.value, c.order_by-high.ensures.value, c.holds-apart.ensures.value, c.holds-there.ensures.value)
           (two_once c.args.span.now c.args.rel c.args.f.now c.args.g.now c.args.e.now c.args.h.now c.in-Once.at (rw c.in-Once.is at c.in_ok-when.ensures.meeting)
