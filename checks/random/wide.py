@@ -1,9 +1,10 @@
 #!/usr/bin/env -S python3 -B
-"""Runs random queries of nearness with `--wide`, with numbers near 62 bits.
+"""Runs random queries with `--wide`, with numbers near 62 bits.
 
     checks/random/wide.py PROGRAM [SCRIPTS [SEED]]
 
-A script is one SELECT of one to three items: `eDwithin`, `nearestApproachSquared`, and `+`, `-` and
+A script is one SELECT of one to three items: `eDwithin`, `nearestApproachSquared`, `?` and `%` signs
+of points and of numbers, the instants of `#` signs, `atValues` and `minusValues`, and `+`, `-` and
 `*` of numbers and of such squares. Points move in sequences with and without their ends, stay, or
 are there at instants alone. Coordinates, distances and instants are whole numbers and fractions of
 up to 62 bits. In half of the scripts points keep their first coordinate, so that many distances are
@@ -25,6 +26,8 @@ from trials import all_of, arguments, ran
 
 LIMIT = 2**62
 SECONDS = 60
+# The seconds from the epoch to the day of the instants.
+DAY = 9617 * 86400
 
 
 class Fault(Exception):
@@ -71,26 +74,39 @@ class Writer:
             found.add(second + Fraction(self.chance.randrange(below), below))
         return sorted(found)
 
-    def moving(self):
-        """A text of a moving point, and its pieces: two instants, two places, two flags."""
+    def course(self, places, write):
+        """A text of a value over time, and its pieces: two instants, two places, two flags."""
         kind = self.chance.choice(("instant", "instants", "sequence", "sequence", "set"))
         count = {"instant": 1, "instants": 3, "sequence": 4, "set": 6}[kind]
-        times, east = self.instants(count), self.east()
+        times = self.instants(count)
         if self.aligned:
             times = sorted(self.chance.sample(self.times, count))
-        reports = [(t, (east if self.aligned else self.east(), self.number())) for t in times]
+        reports = [(t, place) for t, place in zip(times, places(count))]
         if kind in ("instant", "instants"):
-            texts = [report(it) for it in reports]
+            texts = [write(it) for it in reports]
             text = texts[0] if kind == "instant" else "{" + ", ".join(texts) + "}"
             return text, [(t, t, p, p, True, True) for t, p in reports]
         parts = [reports] if kind == "sequence" else [reports[:3], reports[3:]]
         texts, pieces = [], []
         for part in parts:
             first, last = self.chance.random() < 0.7, self.chance.random() < 0.7
-            texts.append("[("[not first] + ", ".join(map(report, part)) + "])"[not last])
+            texts.append("[("[not first] + ", ".join(map(write, part)) + "])"[not last])
             for k, ((t, p), (u, q)) in enumerate(zip(part, part[1:])):
                 pieces.append((t, u, p, q, first or k > 0, last or k + 2 < len(part)))
         return texts[0] if len(texts) == 1 else "{" + ", ".join(texts) + "}", pieces
+
+    def moving(self):
+        """A text of a moving point, and its pieces."""
+
+        def places(count):
+            east = self.east()
+            return [(east if self.aligned else self.east(), self.number()) for _ in range(count)]
+
+        return self.course(places, report)
+
+    def changing(self):
+        """A text of a number over time, and its pieces: its places have one coordinate."""
+        return self.course(lambda count: [(self.east(),) for _ in range(count)], number_report)
 
     def point(self):
         """A text of a moving or a fixed point, and its pieces, or its place."""
@@ -100,13 +116,26 @@ class Writer:
         text, pieces = self.moving()
         return f"tgeompoint '{text}'", pieces
 
-    def two(self):
+    def both(self):
         """Two points, at least one of which moves, and the pieces that they share."""
         text, pieces = self.moving()
         first, second = (f"tgeompoint '{text}'", pieces), self.point()
         if self.chance.random() < 0.3:
             first, second = second, first
-        return f"{first[0]}, {second[0]}", list(shared(first[1], second[1]))
+        return first[0], second[0], list(shared(first[1], second[1]))
+
+    def two(self):
+        """The same as the operands of a call."""
+        first, second, pieces = self.both()
+        return f"{first}, {second}", pieces
+
+    def on_the_way(self, pieces):
+        """A place at an end of a piece or inside it, or None where it does not fit."""
+        it = self.chance.choice(pieces)
+        begin, end = it[0], it[1]
+        t = self.chance.choice((begin, end, (begin + end) / 2, (2 * begin + end) / 3))
+        place = at(it, t)
+        return place if all(map(fits, place)) else None
 
     # ---- expressions: a text with marks, and its value
 
@@ -161,11 +190,64 @@ class Writer:
 
         return f"eDwithin({text}, {distance})", value
 
+    def passing(self):
+        """A point or a number over time and a value of it, often one that it takes, and the pieces."""
+        if self.chance.random() < 0.5:
+            text, course = self.moving()
+            place = self.on_the_way(course) if self.chance.random() < 0.8 else None
+            place = (self.east(), self.number()) if place is None else place
+            return f"tgeompoint '{text}'", f"geometry 'POINT({place[0]} {place[1]})'", course, place
+        text, course = self.changing()
+        place = self.on_the_way(course) if self.chance.random() < 0.6 else None
+        place = (self.number(),) if place is None else place
+        return f"tfrac '{text}'", f"numeric '{place[0]}'", course, place
+
+    def operands(self):
+        """Two operands of a sign, their pieces, and the relations that it may ask for."""
+        if self.chance.random() < 0.2:
+            first, second, pieces = self.both()
+            return first, second, pieces, ("=", "<>")
+        first, second, course, place = self.passing()
+        relations = ("=", "<>", "<", "<=", ">", ">=")
+        return first, second, list(shared(course, place)), relations[: 2 if len(place) == 2 else 6]
+
+    def changed(self):
+        """The instants at which a `#` sign is true."""
+        first, second, pieces, relations = self.operands()
+        mark, relation = self.mark(), self.chance.choice(relations)
+        text = f"whenTrue({first} <{mark}>#{relation} {second})"
+        return text, lambda: true_times(pieces, relation, mark)
+
+    def taken(self):
+        """The instants at which a value is taken, or those at which it is not."""
+        first, second, course, place = self.passing()
+        mark, minus = self.mark(), self.chance.random() < 0.5
+        text = f"getTime(<{mark}>{'minusValues' if minus else 'atValues'}({first}, {second}))"
+        pieces, relation = list(shared(course, place)), "<>" if minus else "="
+        return text, lambda: true_times(pieces, relation, mark)
+
+    def sign(self):
+        """A `?` or `%` sign of two points, or of a number over time and a number."""
+        first, second, pieces, relations = self.operands()
+        scope, relation = self.chance.choice("?%"), self.chance.choice(relations)
+
+        def value():
+            if not pieces:
+                return None
+            results = {holds(relation, order) for it in pieces for order in orders(it)}
+            return True in results if scope == "?" else False not in results
+
+        return f"{first} {scope}{relation} {second}", value
+
+    def item(self):
+        items = self.within, self.sign, self.changed, self.changed, self.taken, self.square, self.term
+        return self.chance.choice(items)
+
     def script(self):
         """The script, the place of each mark, and the answer: lines, or a mark."""
         items, values = [], []
         for n in range(self.chance.choice((1, 1, 2, 3))):
-            text, value = self.chance.choice((self.within, self.within, self.square, self.term))()
+            text, value = self.item()()
             items.append(f"{text} AS v{n}")
             values.append(value)
         text, places = unmarked("SELECT " + ", ".join(items) + ";")
@@ -255,6 +337,78 @@ def reaches(piece, bound):
     return (piece[4] and first == bound) or (piece[5] and last == bound)
 
 
+def order_of(gap):
+    """-1, 0 or 1: the order of two numbers with this gap. Points that differ have the order -1."""
+    if not any(gap):
+        return 0
+    return -1 if len(gap) > 1 or gap[0] < 0 else 1
+
+
+def orders(piece):
+    """The orders that the two have at the instants of a piece."""
+    begin, end, p, q, first, last = piece
+    if begin == end:
+        return {order_of(p)}
+    found = {order_of(gap) for gap, there in ((p, first), (q, last)) if there}
+    # The instants at which a gap is 0, as parts of the piece, and one between each two.
+    roots = {a / (a - b) for a, b in zip(p, q) if a * b < 0}
+    cuts = sorted({Fraction(0), Fraction(1), *roots})
+    parts = [*roots, *((s + t) / 2 for s, t in zip(cuts, cuts[1:]))]
+    return found | {order_of(tuple(a + (b - a) * part for a, b in zip(p, q))) for part in parts}
+
+
+def cells(piece, relation):
+    """The instants and the open spans of a piece, in order, each with whether the relation holds."""
+    begin, end, p, q, first, last = piece
+    if begin == end:
+        return [(begin, end, True, holds(relation, order_of(p)))]
+
+    def there(part):
+        return holds(relation, order_of(tuple(a + (b - a) * part for a, b in zip(p, q))))
+
+    cuts = sorted({Fraction(0), Fraction(1), *(a / (a - b) for a, b in zip(p, q) if a * b < 0)})
+    found = [(begin, begin, True, there(0))] if first else []
+    for part, after in zip(cuts, cuts[1:]):
+        t, u = (begin + (end - begin) * it for it in (part, after))
+        found += [(t, t, True, there(part))] if part else []
+        found.append((t, u, False, there((part + after) / 2)))
+    return found + ([(end, end, True, there(1))] if last else [])
+
+
+def true_times(pieces, relation, mark):
+    """The text of the instants at which the relation holds. Those inside a piece at which it begins
+    or ceases to hold have to fit."""
+    spans = []
+    for piece in pieces:
+        row = cells(piece, relation)
+        for (_, t, *_, one), (*_, other) in zip(row, row[1:]):
+            if one != other and piece[0] < t < piece[1]:
+                checked(DAY + t, mark)
+        for begin, end, held, true in row:
+            if not true:
+                continue
+            if spans and spans[-1][1] == begin and (held or spans[-1][3]):
+                spans[-1][1], spans[-1][3] = end, held
+            else:
+                spans.append([begin, end, held, held])
+    texts = [
+        f"{'[' if first else '('}{shown(t)}, {shown(u)}{']' if last else ')'}"
+        for t, u, first, last in spans
+    ]
+    return '"{' + ", ".join(texts) + '}"' if texts else None
+
+
+def holds(relation, order):
+    return {
+        "=": order == 0,
+        "<>": order != 0,
+        "<": order < 0,
+        "<=": order <= 0,
+        ">": order > 0,
+        ">=": order >= 0,
+    }[relation]
+
+
 # ---- texts
 
 
@@ -264,9 +418,23 @@ def moment(t):
     return text + (f"({part})" if part else "")
 
 
+def shown(t):
+    """An instant as it prints."""
+    part = t - int(t)
+    if 10**6 % part.denominator:
+        return moment(t) + "+00"
+    places = f"{int(part * 10**6):06}".rstrip("0")
+    return moment(Fraction(int(t))) + (f".{places}" if places else "") + "+00"
+
+
 def report(it):
     t, (x, y) = it
     return f"POINT({x} {y})@{moment(t)}"
+
+
+def number_report(it):
+    t, (x,) = it
+    return f"{x}@{moment(t)}"
 
 
 def printed(value):

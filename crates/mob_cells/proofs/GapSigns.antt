@@ -7,7 +7,7 @@ use Rattle.mob_slice.{specs.Ranks.{holds}, specs.Comparison.{IsComparison, MayAs
 use Rattle.mob_slice.specs.declared.comparison.Gaps.TheVariants.{Constant, One, Two}
 use Rattle.mob_cells.{specs.Roots.{IsLevel}, specs.Cells.{signs_of}, specs.Gaps.{gap_ends, related_by}}
 
-signs_related : (rel : Rel) (a b : Gaps) (s : SpanOf) (t : Ratio) → related_by rel (signs_of s (gap_ends a b) t) ≡ relates_gaps rel (gaps_at a b s.lower s.upper t)
+pub signs_related : (rel : Rel) (a b : Gaps) (s : SpanOf) (t : Ratio) → related_by rel (signs_of s (gap_ends a b) t) ≡ relates_gaps rel (gaps_at a b s.lower s.upper t)
 signs_related rel Constant b s t = refl
 signs_related rel (One f) Constant s t = refl
 signs_related rel (One f) (One g) s t = refl

@@ -1,51 +1,15 @@
 -- When two linear functions are 0 at the same instant.
 use Rattle.std.{specs.Prelude.{◌≡◌, ◌↔◌, Bool, true, false, cond, ◌&&◌, ◌||◌, refl}, specs.declared.cmp.Ordering.TheVariants.{Equal}, proofs.Common.{arith, ap, sym, ◌∙◌, subst, true≢false}}
 use Rattle.mob_span.{specs.Span.{SpanOf, has, has_instant}, proofs.Insides.{inner_has}, proofs.SpanLemmas.{short_has}}
-use Rattle.mob_ratio.{specs.Ratio.{Ratio, ◌-ℚ◌, ◌*ℚ◌, ◌/ℚ◌}, specs.Order.{before, same}, specs.Line.{line_at}, specs.Sign.{nil, opposite, sign_of}, proofs.Order.{before-self, same_exact}}
-use Rattle.mob_ratio.{proofs.Field.{mul_comm, sub_self}, proofs.Divide.{mul_cancel, quotients_same}, proofs.LineAt.{line_at-lower, line_at-upper, line_at-short, line_at-level, line_at-scale}}
-use Rattle.mob_ratio.{proofs.Clear.{clear1, cleared}, proofs.IntRing.{linear}, proofs.Signs.{line_at-diff, sign_nil, sub_zero}}
-use Rattle.mob_cells.{specs.declared.linear.Ends.{Ends}, specs.Roots.{function_at}}
-use Rattle.mob_compare.{specs.Taken.{takes_inside, is_nil_line, nil_inside, both_nil}, proofs.Taking.{inside_from, inside_to, level_sign, no_opposite, is_sign_of}}
+use Rattle.mob_ratio.{specs.Ratio.{Ratio, ◌/ℚ◌}, specs.Order.{before, same}, specs.Line.{line_at}, specs.Sign.{nil, opposite, sign_of}, proofs.Order.{same_exact}}
+use Rattle.mob_ratio.{proofs.Divide.{quotients_same}, proofs.LineAt.{line_at-lower, line_at-upper, line_at-short, line_at-level}}
+use Rattle.mob_ratio.{proofs.Signs.{sign_nil}}
+use Rattle.mob_cells.{specs.declared.linear.Ends.{Ends}, specs.Roots.{function_at}, proofs.SharedRoots.{equal_nil, no_opposite, one_ratio, same_root}}
+use Rattle.mob_compare.{specs.Taken.{takes_inside, is_nil_line, nil_inside, both_nil}, proofs.Taking.{inside_from, inside_to}}
 use Rattle.mob_compare.proofs.OnSpans.{IsPlace, at_lower, within, at_upper, place_of, lower_has, upper_has}
-
-nil_mul : (a : Ratio) → nil *ℚ a ≡ nil
-nil_mul = clear1 _ (λ D a p. simp cleared (omega (arith, linear)))
-
--- a number is 0 if its sign is Equal
-equal_nil : (q : Ratio) → sign_of q ≡ Equal → q ≡ nil
-equal_nil q e = (same_exact q nil).0 (is_sign_of q Equal e)
 
 not_nil : (q : Ratio) → same q nil ≡ false → q ≡ nil → ⊥
 not_nil q n e = true≢false (sym ((same_exact q nil).1 e) ∙ n)
-
--- each function times the last end of the other
-scaled : (f0 f1 e0 e1 l u t : Ratio) → f0 *ℚ e1 ≡ e0 *ℚ f1 → line_at f0 f1 l u t *ℚ e1 ≡ line_at e0 e1 l u t *ℚ f1
-scaled f0 f1 e0 e1 l u t c = sym (line_at-scale f0 f1 e1 l u t) ∙ ap (λ z. line_at z (f1 *ℚ e1) l u t) c ∙ ap (λ z. line_at (e0 *ℚ f1) z l u t) (mul_comm f1 e1) ∙ line_at-scale e0 e1 f1 l u t
-
--- if the ends have equal ratios, a root of one is a root of the other
-one_root : (f0 f1 e0 e1 l u t : Ratio) → (f1 ≡ nil → ⊥) → f0 *ℚ e1 ≡ e0 *ℚ f1 → line_at f0 f1 l u t ≡ nil → line_at e0 e1 l u t ≡ nil
-one_root f0 f1 e0 e1 l u t n c z = mul_cancel (line_at e0 e1 l u t) nil f1 n (sym (scaled f0 f1 e0 e1 l u t c) ∙ ap (λ q. q *ℚ e1) z ∙ nil_mul e1 ∙ sym (nil_mul f1))
-
-opposite_nil : (d : Ratio) → opposite d nil ≡ false
-unfolding opposite
-opposite_nil d = grind (arith, before-self nil)
-
--- a line that ends with 0 and is 0 before that begins with 0
-starts_nil : (d l u t : Ratio) → before l t ≡ true → before t u ≡ true → line_at d nil l u t ≡ nil → (b : Bool) → same d nil ≡ b → d ≡ nil
-starts_nil d l u t h k z true e = (same_exact d nil).0 e
-starts_nil d l u t h k z false e = equal_nil d (sym (level_sign d nil l u t h k (opposite_nil d) ∙ rw e refl) ∙ ap sign_of z ∙ sign_nil)
-
--- if both have the same root, their ends have equal ratios
-one_ratio : (f0 f1 e0 e1 l u t : Ratio) → before l t ≡ true → before t u ≡ true → line_at f0 f1 l u t ≡ nil → line_at e0 e1 l u t ≡ nil → f0 *ℚ e1 ≡ e0 *ℚ f1
-one_ratio f0 f1 e0 e1 l u t h k y z =
-    let a : line_at (f0 *ℚ e1) (f1 *ℚ e1) l u t ≡ nil = line_at-scale f0 f1 e1 l u t ∙ ap (λ q. q *ℚ e1) y ∙ nil_mul e1 in
-    let b : line_at (e0 *ℚ f1) (e1 *ℚ f1) l u t ≡ nil = line_at-scale e0 e1 f1 l u t ∙ ap (λ q. q *ℚ f1) z ∙ nil_mul f1 in
-    let d = (f0 *ℚ e1) -ℚ (e0 *ℚ f1) in
-    let c : line_at d nil l u t ≡ nil =
-    ap (λ q. line_at d q l u t) (sym (ap (λ q. q -ℚ (e1 *ℚ f1)) (mul_comm f1 e1) ∙ sub_self (e1 *ℚ f1)))
-    ∙ sym (line_at-diff (f0 *ℚ e1) (f1 *ℚ e1) (e0 *ℚ f1) (e1 *ℚ f1) l u t)
-    ∙ ap (λ q. q -ℚ line_at (e0 *ℚ f1) (e1 *ℚ f1) l u t) a ∙ ap (λ q. nil -ℚ q) b ∙ sub_self nil in
-    sub_zero (f0 *ℚ e1) (e0 *ℚ f1) (starts_nil d l u t h k c (same d nil) refl)
 
 -- ---- strictly between the ends
 abbrev pub IsNilInside : Ends → Ends → Ratio → Ratio → Type 0
@@ -72,7 +36,7 @@ inside_nil_to f e l u h p q false false ea eb k =
     let nf = ends_apart f p ea in
     let ne = ends_apart e q eb in
     let c = (quotients_same f.at_lower f.at_upper e.at_lower e.at_upper nf ne).0 ((same_exact (f.at_lower /ℚ f.at_upper) (e.at_lower /ℚ e.at_upper)).0 k) in
-    (m.0, m.1, m.2, equal_nil _ m.3, one_root f.at_lower f.at_upper e.at_lower e.at_upper l u m.0 nf c (equal_nil _ m.3))
+    (m.0, m.1, m.2, equal_nil _ m.3, same_root f.at_lower f.at_upper e.at_lower e.at_upper l u m.0 nf c (equal_nil _ m.3))
 
 inside_nil_from : (f e : Ends) (l u t : Ratio) → before l t ≡ true → before t u ≡ true → line_at f.at_lower f.at_upper l u t ≡ nil → line_at e.at_lower e.at_upper l u t ≡ nil → takes_inside f.at_lower f.at_upper Equal ≡ true → takes_inside e.at_lower e.at_upper Equal ≡ true → (a b : Bool) → is_nil_line f ≡ a → is_nil_line e ≡ b → (a || b || same (f.at_lower /ℚ f.at_upper) (e.at_lower /ℚ e.at_upper)) ≡ true
 inside_nil_from f e l u t h k y z p q true b ea eb = refl

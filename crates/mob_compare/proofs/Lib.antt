@@ -7,3 +7,7 @@ pub mod BothNil
 pub mod Meeting
 pub mod OnPieces
 pub mod Answering
+pub mod SmallGaps
+pub mod Widely
+pub mod Asked
+pub mod AtEach

@@ -1,8 +1,9 @@
 -- The signs of a linear function follow from its ends.
 use Rattle.std.{specs.Prelude.{◌≡◌, Bool, true, false, cond, not, ◌&&◌, ◌||◌, refl}, specs.declared.cmp.Ordering.{Ordering}, specs.declared.cmp.Ordering.TheVariants.{Less, Equal, Greater}}
 use Rattle.std.{proofs.Common.{arith, ap, sym, ◌∙◌, subst, true≢false}, proofs.lemmas.Bool.{and_parts, or_left, or_right}}
-use Rattle.mob_ratio.{specs.Ratio.{Ratio}, specs.Order.{before, same}, specs.Line.{line_at}, specs.Sign.{nil, opposite, root_at, sign_of, sign_on, IsRoot}}
-use Rattle.mob_ratio.{proofs.Order.{before-back, before-trans, before-neither, before-differ, before-differ-back, between, same_exact, up_to-self}, proofs.Signs.{root_holds, sign_open, sign_below, sign_above, sign_nil}}
+use Rattle.mob_ratio.{specs.Ratio.{Ratio}, specs.Order.{before, same}, specs.Line.{line_at}, specs.Sign.{nil, opposite, root_at, sign_of, IsRoot}}
+use Rattle.mob_ratio.{proofs.Order.{before-trans, before-neither, between, same_exact}, proofs.Signs.{root_holds, sign_below, sign_above, sign_nil}}
+use Rattle.mob_cells.proofs.SharedRoots.{level_sign, no_opposite}
 use Rattle.mob_compare.specs.Taken.{sign_is, takes_inside}
 
 -- ---- signs
@@ -42,18 +43,6 @@ is_sign_of q Equal e = equal_is (before q nil) (before nil q) e
 is_sign_of q Greater e = greater_is (before q nil) (before nil q) e
 
 -- ---- strictly between the ends
--- without a root, the sign is that of the end that is not 0
-pub level_sign : (f g l u t : Ratio) → before l t ≡ true → before t u ≡ true → opposite f g ≡ false → sign_of (line_at f g l u t) ≡ cond (same f nil) (sign_of g) (sign_of f)
-unfolding sign_on
-level_sign f g l u t h k o =
-    let w = before-trans l t u h k in
-    sign_open f g l u l u t w (record { after = up_to-self l; until = up_to-self u; no_root = λ e. absurd (true≢false (sym e ∙ o)) }) h k false o
-    ∙ rw (o, before-differ-back l u w, before-differ l u w) refl
-
-pub no_opposite : (f g : Ratio) → opposite f g ≡ true → (same f nil ≡ false) × (same g nil ≡ false)
-unfolding opposite same
-no_opposite f g h = (grind (arith, h, before-back f nil, before-back g nil), grind (arith, h, before-back f nil, before-back g nil))
-
 -- the sign of an end that is not 0 is taken
 from_first : (f g : Ratio) (o : Ordering) → same f nil ≡ false → sign_is o f ≡ true → takes_inside f g o ≡ true
 from_first f g Less n h = or_left _ _ h

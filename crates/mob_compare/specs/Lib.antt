@@ -3,3 +3,4 @@ pub mod Compared
 pub mod Sql
 pub mod Taken
 pub mod Met
+pub mod Small

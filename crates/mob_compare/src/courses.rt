@@ -17,7 +17,7 @@ use mob_slice::{Compared, Course, Formula, Moving, Operand, Piece, Rel, Slice, S
 use std::alloc::Global;
 
 // The comparison on one piece, of courses that are not steady.
-fn on_lines<C: Compared + Drop>(
+pub(crate) fn on_lines<C: Compared + Drop>(
     alloc: Global,
     piece: &Piece<'_, C, C>,
     rel: Rel,

@@ -2,10 +2,12 @@
 //! boolean is true; and, in `ever`, whether a comparison holds at some instant or at every one.
 #![tactic(auto)]
 
+mod broadly;
 mod courses;
 pub mod ever;
 pub mod sql;
 mod times;
 
+pub use broadly::compare_wide;
 pub use courses::compare;
 pub use times::when_true;

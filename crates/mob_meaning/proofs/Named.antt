@@ -1,6 +1,6 @@
 -- Entries whose parts are the numbers that are given, in both modes, and the formula of their
 -- fault.
-use Rattle.std.{specs.Prelude.{map}, proofs.Common.{◌≡◌, inl, inr, refl, List, [], ◌∷◌, Some, None}}
+use Rattle.std.{specs.Prelude.{map}, proofs.Common.{inl, inr, refl, List, [], ◌∷◌, Some, None}}
 use Rattle.mob_list.{specs.Faults.{OnCause}, specs.declared.fault.Fault.{Fault}, specs.declared.fault.Fault.TheVariants.{Because, NoMemory}}
 use Rattle.mob_slice.{specs.Entries.{Entry, IsFirst}, specs.Modes.{by_mode}, specs.declared.formula.Formula.{Formula}, specs.declared.formula.Formula.TheVariants.{Given}, specs.declared.mode.Mode.{Mode}, specs.declared.mode.Mode.TheVariants.{Narrow, Wide}}
 use Rattle.mob_value.{specs.declared.value.Value.{Value}, specs.declared.value.Value.TheVariants.{MovingPoint, Box}}

@@ -1,6 +1,6 @@
 -- Worked entries of the wide mode, by the definitions, also of operators that keep their narrow
 -- entries.
-use Rattle.std.{specs.Prelude.{ℕ, pos, negsuc}, proofs.Common.{true, false, List, [], ◌∷◌, Some, None, refl, ◌≡◌}}
+use Rattle.std.{specs.Prelude.{ℕ, pos, negsuc}, proofs.Common.{true, [], ◌∷◌, Some, None, refl, ◌≡◌}}
 use Rattle.mob_ratio.{specs.Ratio.{Ratio, whole, over, turned, inverse, ◌+ℚ◌, ◌*ℚ◌, neg_ℚ}, specs.Gcd.{gcd, gcd_steps}, specs.Lowest.{in_lowest_terms}, specs.Line.{line_at, line_value}}
 use Rattle.mob_ratio.{specs.Order.{before, same}, specs.Sign.{opposite, root_at, sign_of}}
 use Rattle.mob_span.specs.Span.{SpanOf}

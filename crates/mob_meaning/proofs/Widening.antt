@@ -1,5 +1,5 @@
 -- Where all parts fit in the narrow mode they fit in the wide one, and the values are the same.
-use Rattle.std.{specs.Prelude.{◌⊎◌}, proofs.Common.{◌≡◌, inl, inr, refl, Bool, true, false, ℕ, ℤ, List, [], ◌∷◌, Option, Some, None, Result, Ok, Err}}
+use Rattle.std.{specs.Prelude.{◌⊎◌}, proofs.Common.{◌≡◌, inl, inr, refl, Bool, true, false, ℕ, ℤ, List, [], ◌∷◌, Option, Some, None, Ok, Err}}
 use Rattle.mob_ratio.specs.Ratio.{Ratio}
 use Rattle.mob_frac.{specs.Formula.{AllFit}, proofs.Fits.{all_fit_or}}
 use Rattle.mob_ast.specs.declared.types.SqlType.{SqlType}
@@ -13,8 +13,8 @@ use Rattle.mob_arith.{specs.declared.sql.calculation.Calculation.{Calculation}, 
 use Rattle.mob_clip.specs.Sql.Entries.{entries_outward}
 use Rattle.mob_near.{specs.Sql.Entries.{approach_on, within_on}, specs.Wide.{least_approach}, proofs.Narrowing.{least_narrows}}
 use Rattle.mob_cells.specs.Roots.{as_list}
-use Rattle.mob_meaning.{specs.Scene.{Scene, scene}, specs.Modes.{Expansions, given_for}, specs.Operators.{OperatorGives, IsFirstFormula, OnEntriesOfTwo, calculated_entries, entries_of_two, entries_of_three, quotient_entries_in}}
-use Rattle.mob_meaning.{specs.Evaluation.{PlacedFormula, TreeEvaluatesTo, OperandsEvaluateTo, stop_of, stops}, specs.Widening.{WideFaultsAreNarrow, WideKeepsValues, narrow_scene, wide_scene}, proofs.AnyMode.{gives_any}, proofs.Named.{none_given}, proofs.OneEntries.{one_formula}}
+use Rattle.mob_meaning.{specs.Scene.{Scene}, specs.Types.{meeting}, specs.Modes.{Expansions, given_for}, specs.Operators.{OperatorGives, IsFirstFormula, OnEntriesOfTwo, calculated_entries, entries_of_two, entries_of_three, quotient_entries_in}}
+use Rattle.mob_meaning.{specs.Evaluation.{PlacedFormula, TreeEvaluatesTo, OperandsEvaluateTo, stop_of, stops}, specs.Widening.{WideFaultsAreNarrow, WideKeepsValues, narrow_scene, wide_scene}, proofs.AnyMode.{gives_any}, proofs.ChangesWiden.{signs_widen, values_widen}, proofs.Named.{none_given}, proofs.OneEntries.{one_formula}}
 use Rattle.mob_ast.specs.declared.types.SqlType.TheVariants as sql
 use Rattle.mob_operators.specs.declared.operator.Op.TheVariants as op
 
@@ -53,6 +53,11 @@ two_widen op.Add ty ts a b h = calculated_widens Sum ty a b h
 two_widen op.Subtract ty ts a b h = calculated_widens Difference ty a b h
 two_widen op.Multiply ty ts a b h = calculated_widens Product ty a b h
 two_widen op.Divide ty ts a b h = quotient_widens ty a b h
+two_widen (op.Lifted c) ty ts a b h = signs_widen c (meeting ts) a b h
+two_widen (op.Ever c) ty ts a b h = refl
+two_widen (op.Always c) ty ts a b h = refl
+two_widen op.AtValues ty ts a b h = values_widen a b h
+two_widen op.MinusValues ty ts a b h = values_widen a b h
 two_widen op.NearestApproachSquared ty ts a b h = approach_widens (plane_pair a b) h
 two_widen _ ty ts a b h = h
 

@@ -1,5 +1,5 @@
 -- The mode in which each operator is decided.
-use Rattle.std.specs.Prelude.{List, [], ◌∷◌, map}
+use Rattle.std.specs.Prelude.{List, map}
 use Rattle.mob_list.{specs.declared.fault.Fault.{Fault}, specs.declared.fault.Fault.TheVariants.{Because, NoMemory}}
 use Rattle.mob_slice.{specs.Entries.{Entry}, specs.Modes.{by_mode}, specs.declared.formula.Formula.{Formula}, specs.declared.formula.Formula.TheVariants.{Given}, specs.declared.mode.Mode.{Mode}, specs.declared.mode.Mode.TheVariants.{Narrow, Wide}}
 use Rattle.mob_meaning.specs.declared.terms.Terms.{Terms}
@@ -41,10 +41,7 @@ pub data Family : Type 0 where
 -- one: their steps are computed in 62 bits alone.
 abbrev pub mode_for : Family → Mode → Mode
 mode_for NumbersOverTime mode = Narrow
-mode_for Signs mode = Narrow
-mode_for Tests mode = Narrow
 mode_for TimeRestrictions mode = Narrow
-mode_for ValueRestrictions mode = Narrow
 mode_for LookUps mode = Narrow
 mode_for BoxRestrictions mode = Narrow
 mode_for PolygonRestrictions mode = Narrow

@@ -5,3 +5,4 @@ pub mod Axes
 pub mod ToOne
 mod Examples
 pub mod OneRestriction
+pub mod Widely

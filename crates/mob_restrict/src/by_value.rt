@@ -17,7 +17,7 @@ use mob_span::same_bool;
 use std::alloc::Global;
 
 // The part of a slice that is kept, for a course that is not steady.
-fn on_lines<C: Compared + Drop>(
+pub(crate) fn on_lines<C: Compared + Drop>(
     alloc: Global,
     slice: &Slice<C>,
     value: &C::Base,
@@ -47,7 +47,7 @@ where
 }
 
 // The part of a slice of a steady course that is kept: all of it, or nothing.
-fn on_steps<C: Compared + Drop>(
+pub(crate) fn on_steps<C: Compared + Drop>(
     alloc: Global,
     slice: &Slice<C>,
     value: &C::Base,

@@ -3,12 +3,14 @@
 //! `sql` has the operators of SQL by these.
 #![tactic(auto)]
 
+mod broadly;
 mod by_time;
 mod by_value;
 mod coordinates;
 mod defined;
 pub mod sql;
 
+pub use broadly::{at_value_wide, minus_value_wide};
 pub use by_time::{at_time, minus_time};
 pub use by_value::{at_value, minus_value};
 pub use coordinates::{get_x, get_y};

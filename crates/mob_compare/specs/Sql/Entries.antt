@@ -2,8 +2,8 @@
 use Rattle.std.specs.Prelude.{List, [], Option, Some}
 use Rattle.mob_ratio.specs.Ratio.{Ratio}
 use Rattle.mob_span.specs.Meets.{PieceOf}
-use Rattle.mob_slice.{specs.Entries.{Entry}, specs.LineComparison.{number_gaps, point_gaps}, specs.Lines.{line_value_of, line_parts_of, plane_value_of, plane_parts_of}, specs.Sides.{SideOf}}
-use Rattle.mob_slice.specs.declared.comparison.Gaps.{Gaps}
+use Rattle.mob_slice.{specs.Entries.{Entry}, specs.LineComparison.{number_gaps, point_gaps}, specs.Lines.{line_value_of, line_parts_of, plane_value_of, plane_parts_of}, specs.Modes.{by_mode}, specs.Sides.{SideOf}}
+use Rattle.mob_slice.{specs.declared.comparison.Gaps.{Gaps}, specs.declared.mode.Mode.{Mode}}
 use Rattle.mob_cells.specs.Gaps.{entries_of_ends}
 use Rattle.mob_ast.{specs.declared.types.SqlType.{SqlType}, specs.declared.types.Cmp.{Cmp}}
 use Rattle.mob_value.{specs.declared.value.Value.{Value}, specs.Pairs.{entries_on, plane_pair}, specs.Lines.{line_pair}}
@@ -30,3 +30,10 @@ abbrev pub sign_entries : When → Cmp → Option SqlType → Value → Value �
 sign_entries scope cmp.Eq met a b = any_entries scope met a b
 sign_entries scope cmp.Ne met a b = any_entries scope met a b
 sign_entries scope c met a b = order_entries scope met a b
+
+-- The entries of a sign in a mode, of those in the narrow mode and those of `#` in the wide one. In
+-- the wide mode the signs with `?` and `%` have none: they give a truth value.
+abbrev pub asked_in : Mode → When → List Entry → List Entry → List Entry
+asked_in mode Each narrow wide = by_mode mode narrow wide
+asked_in mode Ever narrow wide = by_mode mode narrow []
+asked_in mode Always narrow wide = by_mode mode narrow []

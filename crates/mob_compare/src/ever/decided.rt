@@ -14,8 +14,8 @@ use mob_lift::walks::Pieces;
 use mob_slice::{Compared, Formula, Operand, Rel};
 use std::alloc::Global;
 
-// The negated answer, if it exists.
-fn contrary(answer: Option<bool>) -> Option<bool>
+/// The negated answer, if it exists.
+pub fn contrary(answer: Option<bool>) -> Option<bool>
     ensures value { result ≡ option_map not answer }
 {
     match answer {

@@ -2,6 +2,9 @@
 
 mod decided;
 mod piece;
+mod small;
 mod taken;
+mod wide;
 
 pub use decided::{always, ever};
+pub use wide::{always_wide, ever_wide};

@@ -11,9 +11,9 @@ use mob_cells::gaps_at_ends;
 use mob_slice::{Compared, Formula, Piece, Rel};
 use std::alloc::Global;
 
-// Whether the comparison has the wanted result at some instant of the piece, for courses that are
-// not steady.
-fn lines_meet<C: Compared + Drop>(
+/// Whether the comparison has the wanted result at some instant of the piece, for courses that are
+/// not steady. The fault is that of `piece_meets`.
+pub fn lines_meet<C: Compared + Drop>(
     alloc: Global,
     piece: &Piece<'_, C, C>,
     rel: Rel,

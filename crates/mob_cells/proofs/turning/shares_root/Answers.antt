@@ -1,0 +1,8 @@
+use Rattle.std.proofs.Common.{refl, sym, ◌∙◌}
+use Rattle.mob_cells.proofs.turning.shares_root.Goals as goal
+
+pub returns-then-are_zero : goal.returns-then-are_zero
+returns-then-are_zero c = record { value = rw (sym c.are_zero.ensures.value ∙ c.if-are_zero.true) refl }
+
+pub returns : goal.returns
+returns c = record { value = rw (sym c.are_zero.ensures.value ∙ c.if-are_zero.false) c.share_root.ensures.shared }
