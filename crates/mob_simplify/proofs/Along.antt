@@ -88,7 +88,7 @@ pub record IsWalking (d : Ratio) (all : List (Slice PlaneLine)) (s : Slice Plane
   pub firsts : (f : Option Formula) → IsFirst (tests_along d s between l rest) f → IsFirst (all_tests d all) f
 
 pub walking_start : (d : Ratio) (s : Slice PlaneLine) (rest all : List (Slice PlaneLine)) → all ≡ s ∷ rest → has_instant s.span ≡ true → IsWalking d all s [] s rest []
-walking_start d s rest all e h = record { making = making_start d s rest all e h; firsts = subst (λ a. (f : Option Formula) → IsFirst (tests_along d s [] s rest) f → IsFirst (all_tests d a) f) (sym e) (λ f k. k) }
+walking_start d s rest all e h = subst (λ a. IsWalking d a s [] s rest []) (sym e) (record { making = making_start d s rest (s ∷ rest) refl h; firsts = λ f k. k })
 
 module _ (d : Ratio) (all : List (Slice PlaneLine)) (s : Slice PlaneLine) (between : List Break) (l : Slice PlaneLine) (rest legs : List (Slice PlaneLine)) (m : IsWalking d all s between l rest legs) where
   module _ (r : Slice PlaneLine) (later : List (Slice PlaneLine)) (e : rest ≡ r ∷ later) where

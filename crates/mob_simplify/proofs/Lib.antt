@@ -2,11 +2,14 @@ pub mod Along
 pub mod Answering
 pub mod Chains
 pub mod Convexity
+pub mod Deciding
 pub mod Found
 pub mod InTurn
 pub mod NearAlong
 pub mod OneRuns
 pub mod Ordered
 pub mod Reaching
+pub mod Skipping
+pub mod Squares
 pub mod Tidied
 mod Examples

@@ -2,7 +2,7 @@
 use Rattle.std.{specs.Prelude.{◌≡◌, Bool, true, false, ◌&&◌, List, [], ◌∷◌, ◌++◌, refl}, specs.List.{AllByRecursion}, proofs.Common.{ap, sym, ◌∙◌, subst, append_assoc, append-nil}}
 use Rattle.mob_list.proofs.Each.{each_both, each_on}
 use Rattle.mob_ratio.{specs.Ratio.{Ratio, ◌*ℚ◌}, specs.Order.{before, up_to}, proofs.Order.{before-trans, before-weak, up_to-before, up_to-self}}
-use Rattle.mob_simplify.{specs.Breaks.{off_course, passes_within}, specs.Skips.{AreSure, DecideAlike, DecidesFor, IsInCircle, IsKnown, is_among, is_sure, rate_east, rate_north, velocities_near}}
+use Rattle.mob_simplify.{specs.Breaks.{off_course, passes_within}, specs.Skips.{AreSure, DecideAlike, DecidesFor, IsInCircle, IsKnownBetween, has_velocity, is_sure, rate_east, rate_north, velocities_near}}
 use Rattle.mob_simplify.{specs.declared.breaks.Break.{Break}, specs.declared.velocities.Sure.{Sure}, specs.declared.velocities.Sure.TheVariants.{All}, proofs.InTurn.{IsWithin}, proofs.Squares.{near_by_square}}
 
 -- ---- tests of two lists
@@ -116,7 +116,7 @@ module _ (d : Ratio) (p : Break) (u : Ratio) (here : Break) (until : up_to u her
 
   pub sure_more : (h : Ratio) (between : List Break) (sure more : Sure) → before p.instant here.instant ≡ true → IsInCircle h d
       → ((x y : Ratio) → is_sure more x y ≡ true → is_sure sure x y ≡ true)
-      → ((x y : Ratio) → is_sure more x y ≡ true → is_among (velocities_near h p here) x y ≡ true)
+      → ((x y : Ratio) → is_sure more x y ≡ true → has_velocity (velocities_near h p here) x y ≡ true)
       → AreSure d p u between sure → AreSure d p here.instant (between ++ here ∷ []) more
   sure_more h between sure more long inside narrow near known n later k =
       passes_both d p between (here ∷ []) n
@@ -129,7 +129,7 @@ pub by_held : (d : Ratio) (p : Break) (u : Ratio) (now then between : List Break
 by_held d p u now then between n pass later h k e = e ∙ h n later ∙ k n later
 
 -- nothing is between
-pub known_nothing : (d : Ratio) (p : Break) (u : Ratio) (held : List Break) (sure : Sure) → held ≡ [] → sure ≡ All → IsKnown d p u [] held sure
+pub known_nothing : (d : Ratio) (p : Break) (u : Ratio) (held : List Break) (sure : Sure) → held ≡ [] → sure ≡ All → IsKnownBetween d p u [] held sure
 known_nothing d p u held sure e k = record {
   alike = λ n later. ap (λ z. passes_within d p z n) e;
   sure = λ n later h. refl;

@@ -5,7 +5,7 @@ use Rattle.mob_ratio.{proofs.Field.{le_by, le_trans, le_of_lt, mul_assoc}, proof
 use Rattle.mob_ratio.{proofs.Convex.{add_le, mul_le, sub_le, sub_lt, square_le, le_mul_pos, le_of_mul_pos}, proofs.Ring.{at, lit, ◌⊕◌, ◌⊗◌, ◌⊖◌}, proofs.Rings.{ring_ℚ}}
 use Rattle.mob_frac.specs.Fits.{ratio}
 use Rattle.mob_near.specs.Distances.{length_squared}
-use Rattle.mob_simplify.{specs.Breaks.{off_course}, specs.Skips.{IsInCircle, is_among, rate, rate_east, rate_north, time_to, velocities_near}, specs.declared.breaks.Break.{Break}}
+use Rattle.mob_simplify.{specs.Breaks.{off_course}, specs.Skips.{IsInCircle, has_velocity, rate, rate_east, rate_north, time_to, velocities_near}, specs.declared.breaks.Break.{Break}}
 use Rattle.mob_simplify.proofs.Convexity.{above, is_gone}
 
 -- ---- the square in the circle
@@ -97,7 +97,7 @@ sum_within a b c d h k =
     let A = at 0 in let B = at 1 in let C = at 2 in let D = at 3 in
     le_by nil ((c -ℚ a) +ℚ (d -ℚ b)) _ _ (add_le _ _ (sub_le a c h) (sub_le b d k)) (ring_ℚ (a ∷ b ∷ c ∷ d ∷ []) ((A ⊕ B) ⊕ ((C ⊖ A) ⊕ (D ⊖ B))) ((C ⊕ D) ⊕ lit (pos 0)) refl)
 
-pub near_by_square : (h d : Ratio) (p b n : Break) → before p.instant b.instant ≡ true → before b.instant n.instant ≡ true → IsInCircle h d → is_among (velocities_near h p b) (rate_east p n) (rate_north p n) ≡ true → up_to (off_course p n b) (d *ℚ d) ≡ true
+pub near_by_square : (h d : Ratio) (p b n : Break) → before p.instant b.instant ≡ true → before b.instant n.instant ≡ true → IsInCircle h d → has_velocity (velocities_near h p b) (rate_east p n) (rate_north p n) ≡ true → up_to (off_course p n b) (d *ℚ d) ≡ true
 near_by_square h d p b n first last inside k =
     let v = velocities_near h p b in
     let west = up_to v.west (rate_east p n) in

@@ -25,8 +25,8 @@ abbrev pub rate_north : Break → Break → Ratio
 rate_north p n = rate p.place.y n.place.y (time_to p n)
 
 -- the velocities of a rectangle
-abbrev pub is_among : Velocities → Ratio → Ratio → Bool
-is_among v x y = up_to v.west x && up_to x v.east && up_to v.south y && up_to y v.north
+abbrev pub has_velocity : Velocities → Ratio → Ratio → Bool
+has_velocity v x y = up_to v.west x && up_to x v.east && up_to v.south y && up_to y v.north
 
 -- the velocities with which a course from p is at most h to the east, west, north and south of b at
 -- the instant of b
@@ -39,13 +39,13 @@ velocities_near h p b = record {
 }
 
 -- those of two rectangles
-abbrev pub both_of : Velocities → Velocities → Velocities
-both_of v w = record { west = greater v.west w.west; east = smaller v.east w.east; south = greater v.south w.south; north = smaller v.north w.north }
+abbrev pub shared_velocities : Velocities → Velocities → Velocities
+shared_velocities v w = record { west = greater v.west w.west; east = smaller v.east w.east; south = greater v.south w.south; north = smaller v.north w.north }
 
 -- a velocity is surely near: of all, of those in a rectangle, or of none that is known
 abbrev pub is_sure : Sure → Ratio → Ratio → Bool
 is_sure All x y = true
-is_sure (Within v) x y = is_among v x y
+is_sure (Within v) x y = has_velocity v x y
 is_sure Unknown x y = false
 
 -- a square with sides of 2h lies in the circle with the radius d
@@ -71,6 +71,6 @@ AreSure d p u between sure = (n : Break) → before u n.instant ≡ true → is_
 
 -- What is known of the breaks between p and the instant u, for the breaks after u: those that are
 -- held say the same as all, and velocities that are sure are near all.
-pub record IsKnown (d : Ratio) (p : Break) (u : Ratio) (between held : List Break) (sure : Sure) : Type 0 where
+pub record IsKnownBetween (d : Ratio) (p : Break) (u : Ratio) (between held : List Break) (sure : Sure) : Type 0 where
   pub alike : DecideAlike d p u held between
   pub sure : AreSure d p u between sure

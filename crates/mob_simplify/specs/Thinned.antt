@@ -28,8 +28,8 @@ abbrev pub tests_of_run : Ratio → RunOf → List Entry
 tests_of_run d g = flat_map (λ k. tests_after d k.at [] k.later) (first_kept g ∷ g.kept)
 
 -- those of all runs; in the wide mode no part of a test has to fit
-abbrev pub tests_in : Mode → Ratio → List RunOf → List Entry
-tests_in mode d runs = by_mode mode (flat_map (tests_of_run d) runs) []
+abbrev pub tests_by_mode : Mode → Ratio → List RunOf → List Entry
+tests_by_mode mode d runs = by_mode mode (flat_map (tests_of_run d) runs) []
 
 -- The simplified moving point: it is normal, and has at each instant the value of the straight
 -- courses between the kept breaks of the runs.

@@ -34,12 +34,7 @@ fn offset(
     ensures value { IfOk result (λ q. q ≡ line_at ends.now.from ends.now.to p.now.instant n.now.instant b.now.instant -ℚ place.now) }
 {
     let course = line_at(
-        alloc,
-        &ends.from,
-        &ends.to,
-        &p.instant,
-        &n.instant,
-        &b.instant,
+        alloc, &ends.from, &ends.to, &p.instant, &n.instant, &b.instant,
     )?;
     let place = Broad::new(alloc, place)?;
     let offset = course.minus(alloc, &place)?;

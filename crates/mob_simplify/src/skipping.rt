@@ -7,7 +7,7 @@ ghost use Rattle.mob_ratio.specs.Order.{before, up_to};
 ghost use Rattle.mob_span.specs.Span.{has_instant};
 ghost use Rattle.mob_simplify.specs.Breaks.{start_of};
 ghost use Rattle.mob_simplify.specs.Reaches.{IsSquared};
-ghost use Rattle.mob_simplify.specs.Skips.{IsInCircle, IsKnown};
+ghost use Rattle.mob_simplify.specs.Skips.{IsInCircle, IsKnownBetween};
 ghost use Rattle.mob_simplify.specs.Walk.{stays, all_legs};
 ghost use Rattle.mob_simplify.specs.declared.breaks.Break.{Break as BreakSeen};
 
@@ -37,8 +37,8 @@ fn next_stays(
     requires order { up_to first.now.span.lower last.now.span.lower ≡ true }
     requires between { AllByRecursion (λ b. (before first.now.span.lower b.instant ≡ true) × (up_to b.instant last.now.span.lower ≡ true)) held.old.items }
     ensures some { has_instant next.now.span ≡ true }
-    ensures value { IfOk result (λ stay. (between : List BreakSeen) → IsKnown limit.now.distance (start_of first.now) last.now.span.lower between held.old.items sure.old → stay ≡ stays limit.now.distance first.now (between ++ start_of next.now ∷ []) last.now next.now) }
-    ensures known { IfOk result (λ stay. stay ≡ true → (between : List BreakSeen) → IsKnown limit.now.distance (start_of first.now) last.now.span.lower between held.old.items sure.old → IsKnown limit.now.distance (start_of first.now) next.now.span.lower (between ++ start_of next.now ∷ []) held.new.items sure.new) }
+    ensures value { IfOk result (λ stay. (between : List BreakSeen) → IsKnownBetween limit.now.distance (start_of first.now) last.now.span.lower between held.old.items sure.old → stay ≡ stays limit.now.distance first.now (between ++ start_of next.now ∷ []) last.now next.now) }
+    ensures known { IfOk result (λ stay. stay ≡ true → (between : List BreakSeen) → IsKnownBetween limit.now.distance (start_of first.now) last.now.span.lower between held.old.items sure.old → IsKnownBetween limit.now.distance (start_of first.now) next.now.span.lower (between ++ start_of next.now ∷ []) held.new.items sure.new) }
     ensures between { IfOk result (λ stay. stay ≡ true → AllByRecursion (λ b. (before first.now.span.lower b.instant ≡ true) × (up_to b.instant next.now.span.lower ≡ true)) held.new.items) }
 {
     let here = start_of(next);

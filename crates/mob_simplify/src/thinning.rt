@@ -7,7 +7,7 @@ ghost use Rattle.mob_slice.specs.Entries.{IsJudged};
 ghost use Rattle.mob_slice.specs.Lines.{plane_value_of};
 ghost use Rattle.mob_slice.specs.Slices.{value_at};
 ghost use Rattle.mob_slice.specs.Modes.{by_mode};
-ghost use Rattle.mob_simplify.specs.Thinned.{IsThin, AreNear, OnRuns, tests_in};
+ghost use Rattle.mob_simplify.specs.Thinned.{IsThin, AreNear, OnRuns, tests_by_mode};
 ghost use Rattle.mob_simplify.specs.Walk.{all_legs, all_tests};
 
 use crate::passing::with_square;
@@ -63,7 +63,7 @@ pub fn thin(
     ensures thin { IfOk result (λ thin. IsThin d.now a.now thin) }
     ensures near { IfOk result (λ thin. (t : Ratio) → AreNear (d.now *ℚ d.now) (value_at plane_value_of thin t) (value_at plane_value_of a.now t)) }
     ensures same { d.now ≡ nil → IfOk result (λ thin. thin ≡ a.now) }
-    ensures first { OnRuns d.now a.now (λ runs. IsJudged (tests_in mode d.now runs) result) }
+    ensures first { OnRuns d.now a.now (λ runs. IsJudged (tests_by_mode mode d.now runs) result) }
 {
     let legs = walked_in(alloc, mode, a.slices(), d)?;
     match normal(alloc, legs) {

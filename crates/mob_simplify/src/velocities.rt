@@ -7,7 +7,7 @@ ghost use Rattle.std.specs.Prelude.{◌≡◌, true, IfOk};
 ghost use Rattle.mob_ratio.specs.Order.{before, smaller, greater};
 ghost use Rattle.mob_ratio.specs.Ratio.{Ratio, ◌-ℚ◌};
 ghost use Rattle.mob_ratio.specs.Sign.{nil};
-ghost use Rattle.mob_simplify.specs.Skips.{IsInCircle, both_of, is_among, is_sure, rate, rate_east, rate_north, time_to, velocities_near};
+ghost use Rattle.mob_simplify.specs.Skips.{IsInCircle, shared_velocities, has_velocity, is_sure, rate, rate_east, rate_north, time_to, velocities_near};
 
 use crate::breaks::Break;
 use mob_frac::{Frac, Overflow};
@@ -99,8 +99,8 @@ fn velocities_near(p: &Break, b: &Break, half: &Frac) -> Result<Velocities, Over
 }
 
 // The velocities of both rectangles.
-fn both_of(v: &Velocities, w: &Velocities) -> Velocities
-    ensures value { result ≡ both_of v.now w.now }
+fn shared_velocities(v: &Velocities, w: &Velocities) -> Velocities
+    ensures value { result ≡ shared_velocities v.now w.now }
 {
     Velocities {
         west: greater(&v.west, &w.west),
@@ -115,26 +115,23 @@ fn both_of(v: &Velocities, w: &Velocities) -> Velocities
 pub fn narrowed(sure: &Sure, p: &Break, b: &Break, half: &Frac) -> Sure
     requires after { before p.now.instant b.now.instant ≡ true }
     ensures sure { (x y : Ratio) → is_sure result x y ≡ true → is_sure sure.now x y ≡ true }
-    ensures near { (x y : Ratio) → is_sure result x y ≡ true → is_among (velocities_near half.now p.now b.now) x y ≡ true }
+    ensures near { (x y : Ratio) → is_sure result x y ≡ true → has_velocity (velocities_near half.now p.now b.now) x y ≡ true }
 {
     let Ok(here) = velocities_near(p, b, half) else {
         return Sure::Unknown;
     };
     match sure {
         Sure::All => Sure::Within(here),
-        Sure::Within(among) => Sure::Within(both_of(among, &here)),
+        Sure::Within(among) => Sure::Within(shared_velocities(among, &here)),
         Sure::Unknown => Sure::Unknown,
     }
 }
 
 // Whether a velocity is one of the rectangle.
-fn is_among(v: &Velocities, x: &Frac, y: &Frac) -> bool
-    ensures value { result ≡ is_among v.now x.now y.now }
+fn has_velocity(v: &Velocities, x: &Frac, y: &Frac) -> bool
+    ensures value { result ≡ has_velocity v.now x.now y.now }
 {
-    !x.is_before(&v.west)
-        && !v.east.is_before(x)
-        && !y.is_before(&v.south)
-        && !v.north.is_before(y)
+    !x.is_before(&v.west) && !v.east.is_before(x) && !y.is_before(&v.south) && !v.north.is_before(y)
 }
 
 // The velocity of the course from `p` to `n`.
@@ -161,5 +158,5 @@ pub fn is_sure(sure: &Sure, p: &Break, n: &Break) -> bool
     let Ok((x, y)) = velocity(p, n) else {
         return false;
     };
-    is_among(among, &x, &y)
+    has_velocity(among, &x, &y)
 }
