@@ -9,6 +9,7 @@ pub mod NearAlong
 pub mod OneRuns
 pub mod Ordered
 pub mod Reaching
+pub mod Rectangles
 pub mod Skipping
 pub mod Squares
 pub mod Tidied

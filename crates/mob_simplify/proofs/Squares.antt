@@ -1,12 +1,12 @@
 -- A course whose velocity is in the square of a break is near the break.
-use Rattle.std.{specs.Prelude.{◌≡◌, true, ◌&&◌, [], ◌∷◌, pos, refl}, proofs.Common.{ap, sym, ◌∙◌, subst}, proofs.lemmas.Bool.{and_parts}}
+use Rattle.std.{specs.Prelude.{◌≡◌, true, [], ◌∷◌, pos, refl}, proofs.Common.{ap, sym, ◌∙◌, subst}}
 use Rattle.mob_ratio.{specs.Gcd.{gcd, gcd_steps}, specs.Lowest.{in_lowest_terms}, specs.Ratio.{Ratio, over, whole, ◌+ℚ◌, ◌-ℚ◌, ◌*ℚ◌, ◌/ℚ◌, ◌<ℚ◌, ◌≤ℚ◌}, specs.Order.{before, up_to}, specs.Sign.{nil}, specs.Line.{line_at}, proofs.LineAt.{line_at-quotient}}
 use Rattle.mob_ratio.{proofs.Field.{le_by, le_trans, le_of_lt, mul_assoc}, proofs.Divide.{div-mul, sub_ne-zero, whole_ne-zero}, proofs.Order.{before-lt, before-trans, le-test, not-up_to-le}}
 use Rattle.mob_ratio.{proofs.Convex.{add_le, mul_le, sub_le, sub_lt, square_le, le_mul_pos, le_of_mul_pos}, proofs.Ring.{at, lit, ◌⊕◌, ◌⊗◌, ◌⊖◌}, proofs.Rings.{ring_ℚ}}
 use Rattle.mob_frac.specs.Fits.{ratio}
 use Rattle.mob_near.specs.Distances.{length_squared}
 use Rattle.mob_simplify.{specs.Breaks.{off_course}, specs.Skips.{IsInCircle, has_velocity, rate, rate_east, rate_north, time_to, velocities_near}, specs.declared.breaks.Break.{Break}}
-use Rattle.mob_simplify.proofs.Convexity.{above, is_gone}
+use Rattle.mob_simplify.{proofs.Convexity.{above, is_gone}, proofs.Rectangles.{bounded}}
 
 -- ---- the square in the circle
 abbrev ten : Ratio
@@ -99,13 +99,7 @@ sum_within a b c d h k =
 
 pub near_by_square : (h d : Ratio) (p b n : Break) → before p.instant b.instant ≡ true → before b.instant n.instant ≡ true → IsInCircle h d → has_velocity (velocities_near h p b) (rate_east p n) (rate_north p n) ≡ true → up_to (off_course p n b) (d *ℚ d) ≡ true
 near_by_square h d p b n first last inside k =
-    let v = velocities_near h p b in
-    let west = up_to v.west (rate_east p n) in
-    let east = up_to (rate_east p n) v.east in
-    let south = up_to v.south (rate_north p n) in
-    let i = and_parts (west && east && south) (up_to (rate_north p n) v.north) k in
-    let j = and_parts (west && east) south i.0 in
-    let e = and_parts west east j.0 in
-    let x = off_square p.instant b.instant n.instant first last h p.place.x n.place.x b.place.x e.0 e.1 in
-    let y = off_square p.instant b.instant n.instant first last h p.place.y n.place.y b.place.y j.1 i.1 in
+    let m = bounded (velocities_near h p b) (rate_east p n) (rate_north p n) k in
+    let x = off_square p.instant b.instant n.instant first last h p.place.x n.place.x b.place.x m.west m.east in
+    let y = off_square p.instant b.instant n.instant first last h p.place.y n.place.y b.place.y m.south m.north in
     le-test _ _ (le_trans _ (h *ℚ h +ℚ h *ℚ h) (d *ℚ d) (sum_within _ _ _ _ x y) (not-up_to-le _ _ inside))

@@ -112,6 +112,7 @@ fn shared_velocities(v: &Velocities, w: &Velocities) -> Velocities
 
 /// The sure velocities, with one more break `b` between, given half the side of a square inside the
 /// circle of the distance.
+#[tactic(auto, using(crate::proofs::Rectangles::of_first, crate::proofs::Rectangles::of_second))]
 pub fn narrowed(sure: &Sure, p: &Break, b: &Break, half: &Frac) -> Sure
     requires after { before p.now.instant b.now.instant ≡ true }
     ensures sure { (x y : Ratio) → is_sure result x y ≡ true → is_sure sure.now x y ≡ true }
