@@ -12,5 +12,6 @@ pub mod Reaching
 pub mod Rectangles
 pub mod Skipping
 pub mod Squares
+pub mod Stepping
 pub mod Tidied
 mod Examples
