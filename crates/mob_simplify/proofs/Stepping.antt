@@ -6,7 +6,7 @@ use Rattle.mob_span.specs.Span.{has_instant}
 use Rattle.mob_slice.{specs.declared.line.PlaneLine.{PlaneLine}, specs.declared.slice.Slice.{Slice}}
 use Rattle.mob_simplify.{specs.Breaks.{start_of, end_of, passes_within}, specs.Skips.{AreSure, DecideAlike, IsInCircle, IsKnownBetween, has_velocity, is_sure, velocities_near}, specs.Walk.{continues_run, stays, leg_over, all_legs}}
 use Rattle.mob_simplify.{specs.declared.breaks.Break.{Break}, specs.declared.velocities.Sure.{Sure}, specs.declared.velocities.Sure.TheVariants.{All}, proofs.InTurn.{IsWithin}}
-use Rattle.mob_simplify.{proofs.Along.{IsMaking, IsReached, going, making_start, making_stays, making_breaks, making_end}, proofs.Skipping.{alike_more, known_nothing, sure_more}}
+use Rattle.mob_simplify.{proofs.Along.{IsMaking, IsReached, going, making_start, making_stays, making_breaks, making_end}, proofs.Sifting.{alike_more, known_nothing, sure_more}}
 
 -- the slice does not continue the run
 pub not_going : (d : Ratio) (s l r : Slice PlaneLine) (between : List Break) → continues_run l r ≡ false → false ≡ stays d s between l r

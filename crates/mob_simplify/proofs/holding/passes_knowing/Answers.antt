@@ -1,5 +1,5 @@
 use Rattle.std.proofs.Common.{rules, sym, ◌∙◌, refl}
-use Rattle.mob_simplify.proofs.Skipping.{by_held}
+use Rattle.mob_simplify.proofs.Sifting.{by_held}
 use Rattle.mob_simplify.proofs.holding.passes_knowing.Goals as goal
 
 pub returns-then-is_sure-clause-value : goal.returns-then-is_sure-clause-value
