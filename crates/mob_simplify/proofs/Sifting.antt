@@ -132,5 +132,5 @@ by_held d p u now then between n pass later h k e = e ∙ h n later ∙ k n late
 pub known_nothing : (d : Ratio) (p : Break) (u : Ratio) (held : List Break) (sure : Sure) → held ≡ [] → sure ≡ All → IsKnownBetween d p u [] held sure
 known_nothing d p u held sure e k = record {
   alike = λ n later. ap (λ z. passes_within d p z n) e;
-  sure = λ n later h. refl;
+  all_near = λ n later h. refl;
 }
