@@ -28,6 +28,10 @@ passes_both d p (b ∷ xs) ys n = ap (λ z. is_near d p n b && z) (passes_both d
 abbrev pub IsUntil : Ratio → Ratio → Break → Type 0
 IsUntil l u b = (before l b.instant ≡ true) × (up_to b.instant u ≡ true)
 
+-- they are between p and each later break
+pub until_within : (l u t : Ratio) (bs : List Break) → before u t ≡ true → AllByRecursion (IsUntil l u) bs → AllByRecursion (IsWithin l t) bs
+until_within l u t bs later = each_on (IsUntil l u) (IsWithin l t) (λ b h. (h.0, up_to-before b.instant u t h.1 later)) bs
+
 -- the breaks before the rest are sifted: left are q and those for which it does not decide
 pub record IsSifting (d : Ratio) (p q : Break) (all left rest : List Break) : Type 0 where
   pub others : List Break
