@@ -32,6 +32,12 @@ IsUntil l u b = (before l b.instant ≡ true) × (up_to b.instant u ≡ true)
 pub until_within : (l u t : Ratio) (bs : List Break) → before u t ≡ true → AllByRecursion (IsUntil l u) bs → AllByRecursion (IsWithin l t) bs
 until_within l u t bs later = each_on (IsUntil l u) (IsWithin l t) (λ b h. (h.0, up_to-before b.instant u t h.1 later)) bs
 
+-- with q itself, the breaks between p and q are such breaks
+pub until_more : (l : Ratio) (q : Break) (held more : List Break) → before l q.instant ≡ true → more ≡ held ++ q ∷ [] → AllByRecursion (IsWithin l q.instant) held → AllByRecursion (IsUntil l q.instant) more
+until_more l q held more long put h =
+    subst (AllByRecursion (IsUntil l q.instant)) (sym put)
+    (each_both (IsUntil l q.instant) held (q ∷ []) (each_on (IsWithin l q.instant) (IsUntil l q.instant) (λ b k. (k.0, before-weak b.instant q.instant k.1)) held h) ((long, up_to-self q.instant), tt))
+
 -- the breaks before the rest are sifted: left are q and those for which it does not decide
 pub record IsSifting (d : Ratio) (p q : Break) (all left rest : List Break) : Type 0 where
   pub others : List Break
