@@ -9,8 +9,11 @@ import sys
 from datetime import datetime, timedelta
 from fractions import Fraction
 
-MOBSQL, MOBTHIN, WORK = sys.argv[1:]
+# Its functions serve `checks/random/wide_trips.py` too.
+MOBSQL, MOBTHIN, WORK = sys.argv[1:4] if __name__ == "__main__" else ("", "", "")
 TABLES = 40
+# Tables with numbers whose tests do not fit 62 bits.
+LARGE_TABLES = 20
 DISTANCES = ["0", "1/2", "1", "3/2", "2.5", "7", "1e3"]
 ADAY = datetime(2001, 1, 1)
 
@@ -109,7 +112,7 @@ def random_trip(rng):
     place = (Fraction(rng.randint(-9, 9)), Fraction(rng.randint(-9, 9)))
     lower = rng.random() < 0.7
     for _ in range(rng.randint(1, 4)):
-        points = random_points(rng, second, place, rng.choice([1, 2, 3, 5, 9]))
+        points = random_points(rng, second, place, rng.choice([1, 2, 3, 5, 9, 40]))
         upper = rng.random() < 0.5
         if len(points) == 1:
             lower = upper = True
@@ -127,6 +130,17 @@ def random_trip(rng):
         elif next_is == "hole" and not upper:
             lower = False
     return trip
+
+
+def large_trip(rng):
+    """A trip along a straight course, with a noise of up to 2^30 that has small denominators."""
+    x, y = Fraction(rng.randrange(2**40)), Fraction(rng.randrange(2**40))
+    east, north = rng.randint(-2**31, 2**31), rng.randint(-2**31, 2**31)
+    points = []
+    for i in range(rng.choice([3, 9, 40])):
+        noise = [Fraction(rng.randint(-2**30, 2**30), rng.randint(1, 97)) for _ in range(2)]
+        points.append((Fraction(7 * i), x + east * i + noise[0], y + north * i + noise[1]))
+    return [(True, True, points)]
 
 
 def different(distance, text, thin, wanted):
@@ -183,9 +197,10 @@ def main():
         kept = [(n, trip and [(a, b, thinned(p, square)) for a, b, p in joined(trip)])
                 for n, trip in rows]
         wanted = table_text(kept)
-        thin = run([MOBTHIN, "--within", distance], text, 0)
-        if thin != wanted:
-            raise SystemExit(different(distance, text, thin, wanted))
+        for mode in ([], ["--wide"]):
+            thin = run([MOBTHIN, "--within", distance, *mode], text, 0)
+            if thin != wanted:
+                raise SystemExit(different(distance, text, thin, wanted))
         if run([MOBTHIN, "--within", "0"], thin, 0) != thin:
             raise SystemExit(f"with 0 this does not stay as it is:\n{thin}")
         for name, content in (("trips.csv", text), ("thin.csv", thin)):
@@ -193,7 +208,20 @@ def main():
                 file.write(content)
         read_again(distance, thin, len(rows))
         left_out += points_in(rows) - points_in(kept)
-    print(f"thin: {TABLES} tables tried, {left_out} points left out")
+    for number in range(LARGE_TABLES):
+        distance = 2**rng.choice([22, 24, 26, 28])
+        rows = [(n + 1, large_trip(rng)) for n in range(12)]
+        text = table_text(rows)
+        kept = [(n, [(a, b, thinned(p, distance**2)) for a, b, p in joined(trip)])
+                for n, trip in rows]
+        wanted = table_text(kept)
+        run([MOBTHIN, "--within", str(distance)], text, 8)
+        thin = run([MOBTHIN, "--within", str(distance), "--wide"], text, 0)
+        if thin != wanted:
+            raise SystemExit(different(distance, text, thin, wanted))
+        left_out += points_in(rows) - points_in(kept)
+    print(f"thin: {TABLES + LARGE_TABLES} tables tried, {left_out} points left out")
 
 
-main()
+if __name__ == "__main__":
+    main()

@@ -11,5 +11,5 @@ mod values;
 
 pub use command::given;
 pub use options::Settings;
-pub use readers::{count_of, distance_in, epoch_of, workers_of};
+pub use readers::{count_of, distance_in, epoch_of, flag_of, workers_of};
 pub use reading::settings;

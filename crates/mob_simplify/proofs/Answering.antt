@@ -1,13 +1,13 @@
 -- The result of the walk over a normal value, and its properties.
-use Rattle.std.{specs.Prelude.{◌≡◌, true, List, Option, Some, None, Result, refl}, specs.List.{flat_map}, proofs.Common.{ap, sym, ◌∙◌, subst}}
+use Rattle.std.{specs.Prelude.{◌≡◌, true, List, [], Option, Some, None, Result, refl}, proofs.Common.{ap, sym, ◌∙◌, subst}}
 use Rattle.mob_ratio.{specs.Ratio.{Ratio, ◌*ℚ◌}, specs.Order.{up_to}, specs.Sign.{nil}}
 use Rattle.mob_plane.specs.declared.point.Point.{Point}
 use Rattle.mob_lift.proofs.Unique.{unique}
-use Rattle.mob_slice.{specs.Entries.{IsJudged}, specs.Lines.{plane_value_of, plane_continued}, specs.PlaneLaws.{plane_laws}, specs.Slices.{value_at, IsNormal}}
+use Rattle.mob_slice.{specs.Entries.{IsJudged}, specs.Modes.{by_mode}, specs.declared.mode.Mode.{Mode}, specs.Lines.{plane_value_of, plane_continued}, specs.PlaneLaws.{plane_laws}, specs.Slices.{value_at, IsNormal}}
 use Rattle.mob_slice.{specs.declared.line.PlaneLine.{PlaneLine}, specs.declared.slice.Slice.{Slice}, specs.declared.formula.Formula.{Formula}, proofs.Orders.{ordered}}
 use Rattle.mob_list.specs.declared.fault.Fault.{Fault}
 use Rattle.mob_near.specs.Distances.{distance_squared}
-use Rattle.mob_simplify.{specs.Thinned.{IsThin, AreNear, OnRuns, tests_of_run}, specs.Walk.{all_legs, all_tests}, proofs.Convexity.{one_place}, proofs.Found.{found}, proofs.NearAlong.{all_near}}
+use Rattle.mob_simplify.{specs.Thinned.{IsThin, AreNear, OnRuns, tests_by_mode}, specs.Walk.{all_legs, all_tests}, proofs.Convexity.{one_place}, proofs.Found.{found}, proofs.NearAlong.{all_near}}
 use Rattle.mob_simplify.proofs.Ordered.{AreOrderedLines, all_ordered}
 
 abbrev pub IsNormalLines : List (Slice PlaneLine) → Type 0
@@ -36,5 +36,5 @@ near_one D (Some x) None e h = absurd h
 pub is_same : (d : Ratio) (a thin : List (Slice PlaneLine)) → d *ℚ d ≡ nil → IsNormalLines a → IsNormalLines thin → ((t : Ratio) → AreNear (d *ℚ d) (At thin t) (At a t)) → thin ≡ a
 is_same d a thin e n m near = unique plane_laws thin a m.chained n.chained (λ t. near_one (d *ℚ d) (At thin t) (At a t) e (near t))
 
-pub is_judged : {V : Type 0} (d : Ratio) (a : List (Slice PlaneLine)) (r : Result V (Fault Formula)) → IsJudged (all_tests d a) r → OnRuns d a (λ runs. IsJudged (flat_map (tests_of_run d) runs) r)
-is_judged d a r h = let f = found d a in (f.runs, f.of, subst (λ z. IsJudged z r) (sym f.tests) h)
+pub is_judged : {V : Type 0} (mode : Mode) (d : Ratio) (a : List (Slice PlaneLine)) (r : Result V (Fault Formula)) → IsJudged (by_mode mode (all_tests d a) []) r → OnRuns d a (λ runs. IsJudged (tests_by_mode mode d runs) r)
+is_judged mode d a r h = let f = found d a in (f.runs, f.of, subst (λ z. IsJudged (by_mode mode z []) r) (sym f.tests) h)

@@ -3,7 +3,7 @@ use Rattle.std.{specs.Prelude.{◌≡◌, Bool, true, false, List, [], ◌∷◌
 use Rattle.mob_ratio.{specs.Ratio.{Ratio}, specs.Order.{up_to}}
 use Rattle.mob_plane.specs.declared.point.Point.{Point}
 use Rattle.mob_slice.{specs.Entries.{Entry}, specs.Lines.{plane_value_of, plane_continued}, specs.Slices.{value_at, IsNormal}, specs.declared.line.PlaneLine.{PlaneLine}}
-use Rattle.mob_slice.specs.declared.slice.Slice.{Slice}
+use Rattle.mob_slice.{specs.Modes.{by_mode}, specs.declared.mode.Mode.{Mode}, specs.declared.slice.Slice.{Slice}}
 use Rattle.mob_near.specs.Distances.{distance_squared}
 use Rattle.mob_simplify.{specs.Breaks.{straight}, specs.Runs.{KeptBreak, RunOf, first_kept, last_slice, AreRuns}, specs.Tests.{tests_after}, specs.declared.breaks.Break.{Break}}
 
@@ -26,6 +26,10 @@ legs_of g = legs_from g.first.span.lower_inc (first_kept g).at g.kept (last_slic
 -- the tests of a run: for each kept break in order those of the breaks after it
 abbrev pub tests_of_run : Ratio → RunOf → List Entry
 tests_of_run d g = flat_map (λ k. tests_after d k.at [] k.later) (first_kept g ∷ g.kept)
+
+-- those of all runs; in the wide mode no part of a test has to fit
+abbrev pub tests_by_mode : Mode → Ratio → List RunOf → List Entry
+tests_by_mode mode d runs = by_mode mode (flat_map (tests_of_run d) runs) []
 
 -- The simplified moving point: it is normal, and has at each instant the value of the straight
 -- courses between the kept breaks of the runs.

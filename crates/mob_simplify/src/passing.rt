@@ -52,8 +52,8 @@ pub struct CourseExtent {
     pub north: Result<Frac, Overflow>,
 }
 
-// The reach of the straight course from `p` to `n`.
-fn reach_of(p: &Break, n: &Break) -> CourseExtent
+/// The duration and the extents of the straight course from `p` to `n`.
+pub fn reach_of(p: &Break, n: &Break) -> CourseExtent
     ensures reach { IsBreakReach p.now n.now result }
 {
     CourseExtent {
@@ -161,8 +161,9 @@ fn length_within(v: &Point, limit: &Limit) -> Result<bool, Overflow>
     }
 }
 
-// Whether the straight course from `p` to `n` is within the limit of the break `b`.
-fn is_near(
+/// Whether the straight course from `p` to `n` is within the limit of the break `b`. The error is
+/// the first formula of the test with a part that does not fit.
+pub fn is_near(
     p: &Break,
     n: &Break,
     reach: &CourseExtent,

@@ -17,9 +17,9 @@ use mob_slice::{Formula, PlaneLine, Slice};
 use mob_span::Span;
 use std::alloc::Global;
 
-// Whether `next` continues the run of `slice`.
+/// Whether `next` continues the run of `slice`.
 #[tactic(auto, unfolding(crate::specs::Walk::continues_run))]
-fn continues_run(slice: &Slice<PlaneLine>, next: &Slice<PlaneLine>) -> bool
+pub fn continues_run(slice: &Slice<PlaneLine>, next: &Slice<PlaneLine>) -> bool
     ensures value { result ≡ continues_run slice.now next.now }
 {
     slice.span.is_long()
@@ -75,8 +75,8 @@ fn next_stays(
     }
 }
 
-// The straight course from the start of `first` to the end of `last`.
-fn leg_over(first: &Slice<PlaneLine>, last: &Slice<PlaneLine>) -> Slice<PlaneLine>
+/// The straight course from the start of `first` to the end of `last`.
+pub fn leg_over(first: &Slice<PlaneLine>, last: &Slice<PlaneLine>) -> Slice<PlaneLine>
     requires some { has_instant (leg_over first.now last.now).span ≡ true }
     ensures leg { result ≡ leg_over first.now last.now }
 {

@@ -6,7 +6,7 @@ use Rattle.csv.specs.Records.{AllText}
 use Rattle.mob_list.{specs.Faults.{OnCause, fault_at}, specs.declared.fault.Fault.{Fault}, specs.declared.fault.Fault.TheVariants.{Because, NoMemory}, proofs.Each.{each_both}}
 use Rattle.mob_list.proofs.Entries.{drop_read, zip_more}
 use Rattle.mob_ratio.specs.Ratio.{Ratio}
-use Rattle.mob_slice.{specs.Entries.{IsFirst}, specs.declared.formula.Formula.{Formula}}
+use Rattle.mob_slice.{specs.Entries.{IsFirst}, specs.declared.formula.Formula.{Formula}, specs.declared.mode.Mode.{Mode}}
 use Rattle.mob_value.specs.declared.value.Value.{Value}
 use Rattle.mob_literal.specs.Fields.{field_text}
 use Rattle.mob_records.specs.AnswerText.{record_line}
@@ -36,15 +36,15 @@ row_found (y ∷ xs) zero x h = (omega arith, same_Some x y h)
 row_found (y ∷ xs) (suc i) x h = let later = row_found xs i x h in (let lt = later.0 in omega (arith, lt), later.1)
 
 -- ---- the first value that fails
-passes_behind : (d : Ratio) (xs rest : List Value) (x : Value) (f : Formula) → RowTestsFit d xs → OnTests d x (λ tests. IsFirst tests (Some f)) → RowTestPasses d (xs ++ x ∷ rest) f
-passes_behind d [] rest x f h k = inl k
-passes_behind d (w ∷ xs) rest x f h k = inr (h.0, passes_behind d xs rest x f h.1 k)
+passes_behind : (mode : Mode) (d : Ratio) (xs rest : List Value) (x : Value) (f : Formula) → RowTestsFit mode d xs → OnTests mode d x (λ tests. IsFirst tests (Some f)) → RowTestPasses mode d (xs ++ x ∷ rest) f
+passes_behind mode d [] rest x f h k = inl k
+passes_behind mode d (w ∷ xs) rest x f h k = inr (h.0, passes_behind mode d xs rest x f h.1 k)
 
-pub passes_at : (d : Ratio) (xs : List Value) (i : ℕ) (x : Value) (f : Formula) → i < length xs → x ≡ get_or xs i x → RowTestsFit d (take i xs) → OnTests d x (λ tests. IsFirst tests (Some f)) → RowTestPasses d xs f
-passes_at d xs i x f lt is h k = subst (λ z. RowTestPasses d z f) (sym (parted xs i x lt is)) (passes_behind d (take i xs) (drop (i + 1) xs) x f h k)
+pub passes_at : (mode : Mode) (d : Ratio) (xs : List Value) (i : ℕ) (x : Value) (f : Formula) → i < length xs → x ≡ get_or xs i x → RowTestsFit mode d (take i xs) → OnTests mode d x (λ tests. IsFirst tests (Some f)) → RowTestPasses mode d xs f
+passes_at mode d xs i x f lt is h k = subst (λ z. RowTestPasses mode d z f) (sym (parted xs i x lt is)) (passes_behind mode d (take i xs) (drop (i + 1) xs) x f h k)
 
-pub first_at : (d : Ratio) (rows : List (List Value)) (i : ℕ) (row : List Value) (n : ℕ) (f : Formula) → i < length rows → row ≡ get_or rows i row → n ≡ i → AllByRecursion (RowTestsFit d) (take i rows) → RowTestPasses d row f → PassesFirst d rows n f
-first_at d rows i row n f lt is e h k = record {
+pub first_at : (mode : Mode) (d : Ratio) (rows : List (List Value)) (i : ℕ) (row : List Value) (n : ℕ) (f : Formula) → i < length rows → row ≡ get_or rows i row → n ≡ i → AllByRecursion (RowTestsFit mode d) (take i rows) → RowTestPasses mode d row f → PassesFirst mode d rows n f
+first_at mode d rows i row n f lt is e h k = record {
   before = take i rows;
   here = row;
   after = drop (i + 1) rows;
@@ -56,13 +56,13 @@ first_at d rows i row n f lt is e h k = record {
 
 -- the fault of a value after values that fit is that of the row: an overflow, or a failed
 -- allocation
-pub test_fault_at : (d : Ratio) (xs : List Value) (i : ℕ) (x : Value) (e : Fault Formula) → i < length xs → x ≡ get_or xs i x → RowTestsFit d (take i xs) → OnTests d x (λ tests. OnCause (λ f. IsFirst tests (Some f)) e) → OnCause (RowTestPasses d xs) e
-test_fault_at d xs i x (Because f) lt is h k = passes_at d xs i x f lt is h k
-test_fault_at d xs i x NoMemory lt is h k = tt
+pub test_fault_at : (mode : Mode) (d : Ratio) (xs : List Value) (i : ℕ) (x : Value) (e : Fault Formula) → i < length xs → x ≡ get_or xs i x → RowTestsFit mode d (take i xs) → OnTests mode d x (λ tests. OnCause (λ f. IsFirst tests (Some f)) e) → OnCause (RowTestPasses mode d xs) e
+test_fault_at mode d xs i x (Because f) lt is h k = passes_at mode d xs i x f lt is h k
+test_fault_at mode d xs i x NoMemory lt is h k = tt
 
-pub row_fault_at : (d : Ratio) (rows : List (List Value)) (i : ℕ) (row : List Value) (n : ℕ) (e : Fault Formula) → i < length rows → row ≡ get_or rows i row → n ≡ i → AllByRecursion (RowTestsFit d) (take i rows) → OnCause (RowTestPasses d row) e → OnCause (λ f. PassesFirst d rows f.0 f.1) (fault_at n e)
-row_fault_at d rows i row n (Because f) lt is e h k = first_at d rows i row n f lt is e h k
-row_fault_at d rows i row n NoMemory lt is e h k = tt
+pub row_fault_at : (mode : Mode) (d : Ratio) (rows : List (List Value)) (i : ℕ) (row : List Value) (n : ℕ) (e : Fault Formula) → i < length rows → row ≡ get_or rows i row → n ≡ i → AllByRecursion (RowTestsFit mode d) (take i rows) → OnCause (RowTestPasses mode d row) e → OnCause (λ f. PassesFirst mode d rows f.0 f.1) (fault_at n e)
+row_fault_at mode d rows i row n (Because f) lt is e h k = first_at mode d rows i row n f lt is e h k
+row_fault_at mode d rows i row n NoMemory lt is e h k = tt
 
 -- ---- rows and their records
 -- the values from which records are made

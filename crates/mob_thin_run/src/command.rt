@@ -6,7 +6,7 @@ ghost use Rattle.mob_thin_run.specs.CommandLine.{ThinSays, thin_command};
 ghost use Rattle.mob_thin_run.specs.declared.settings.ThinSettings.{ThinSettings as SettingsSeen};
 
 use crate::settings::ThinSettings;
-use mob_arguments::{distance_in, epoch_of, given};
+use mob_arguments::{distance_in, epoch_of, flag_of, given};
 use mob_frac::Frac;
 use std::alloc::{AllocError, Global};
 
@@ -15,6 +15,7 @@ use std::alloc::{AllocError, Global};
 pub struct Values<'a> {
     pub within: Option<&'a str>,
     pub epoch: Option<&'a str>,
+    pub wide: Option<&'a str>,
 }
 
 // The value of each option, or `None` if the command does not take the arguments.
@@ -24,13 +25,15 @@ fn values_in<'a>(alloc: Global, words: &'a [String]) -> Result<Option<Values<'a>
     ensures refused { IfOk result (λ o. IsNone o → Takes thin_command (map string_bytes words.entry.now) → ⊥) }
     ensures within { IfOk result (λ o. IfSome o (λ v. option_map (λ s. s.now) v.within ≡ option_value thin_command (codes "within") (map string_bytes words.entry.now))) }
     ensures epoch { IfOk result (λ o. IfSome o (λ v. option_map (λ s. s.now) v.epoch ≡ option_value thin_command (codes "epoch") (map string_bytes words.entry.now))) }
+    ensures wide { IfOk result (λ o. IfSome o (λ v. option_map (λ s. s.now) v.wide ≡ option_value thin_command (codes "wide") (map string_bytes words.entry.now))) }
 {
-    let Some(matches) = given(alloc, "mobthin", &["within", "epoch"], &[], words)? else {
+    let Some(matches) = given(alloc, "mobthin", &["within", "epoch"], &["wide"], words)? else {
         return Ok(None);
     };
     Ok(Some(Values {
         within: matches.get_str("within"),
         epoch: matches.get_str("epoch"),
+        wide: matches.get_str("wide"),
     }))
 }
 
@@ -46,8 +49,8 @@ fn within_of(value: Option<&str>) -> Option<Frac>
 }
 
 /// The settings that the arguments give, the first of which is the program's name: `--within D`
-/// with a number that is not negative, and `--epoch DATE`. `--within` is required, and each option
-/// may be given once.
+/// with a number that is not negative, `--epoch DATE`, and `--wide` without a value. `--within` is
+/// required, and each option may be given once.
 ///
 /// `None` exactly if the arguments are not accepted. The only error is a failed allocation.
 pub fn settings(alloc: Global, words: &[String]) -> Result<Option<ThinSettings>, AllocError>
@@ -63,5 +66,9 @@ pub fn settings(alloc: Global, words: &[String]) -> Result<Option<ThinSettings>,
     let Some(epoch) = epoch_of(values.epoch) else {
         return Ok(None);
     };
-    Ok(Some(ThinSettings { within, epoch }))
+    Ok(Some(ThinSettings {
+        within,
+        epoch,
+        wide: flag_of(values.wide),
+    }))
 }

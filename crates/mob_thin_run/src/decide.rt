@@ -8,7 +8,7 @@ ghost use Rattle.mob_thin_run.specs.ThinProgram.{thin_program};
 use crate::command::settings;
 use crate::rows::thin_text;
 use mob_outside::{Sink, Source};
-use mob_trips::{TripsEnding, ending_of, put_text, read_trips};
+use mob_trips::{TripsEnding, ending_of, put_text, read_trips, trips_mode};
 use std::alloc::Global;
 
 /// Judges the arguments, reads the table, simplifies its trips and writes the text. Returns the
@@ -30,7 +30,13 @@ pub fn decide<S: Source, K: Sink>(
         Ok(rows) => rows,
         Err(ending) => return ending,
     };
-    let text = match thin_text(alloc, &rows, &settings.within, &settings.epoch) {
+    let text = match thin_text(
+        alloc,
+        trips_mode(settings.wide),
+        &rows,
+        &settings.within,
+        &settings.epoch,
+    ) {
         Ok(text) => text,
         Err(fault) => return ending_of(fault),
     };

@@ -17,7 +17,7 @@ use mob_literal::write_field;
 use mob_records::records_text;
 use mob_scalar::Epoch;
 use mob_simplify::thin;
-use mob_slice::Formula;
+use mob_slice::{Formula, Mode};
 use mob_value::{Rows, Value};
 use std::alloc::{AllocError, Global};
 
@@ -26,27 +26,32 @@ use std::alloc::{AllocError, Global};
 pub type RowFault = Fault<(u32, Formula)>;
 
 // The value, simplified if it is a trip.
-fn thinned(alloc: Global, value: &Value, d: &Frac) -> Result<Value, Fault<Formula>>
+fn thinned(alloc: Global, mode: Mode, value: &Value, d: &Frac) -> Result<Value, Fault<Formula>>
     requires not_negative { up_to nil d.now ≡ true }
     ensures thin { IfOk result (λ thin. IsThinValue d.now value.now thin) }
-    ensures first { OnTests d.now value.now (λ tests. IsJudged tests result) }
+    ensures first { OnTests mode d.now value.now (λ tests. IsJudged tests result) }
 {
     match value {
-        Value::MovingPoint(trip) => Ok(Value::MovingPoint(thin(alloc, trip, d)?)),
+        Value::MovingPoint(trip) => Ok(Value::MovingPoint(thin(alloc, mode, trip, d)?)),
         _ => Ok(value.copy(alloc)?),
     }
 }
 
 // The row with each trip simplified.
-fn thinned_row(alloc: Global, row: &[Value], d: &Frac) -> Result<Items<Value>, Fault<Formula>>
+fn thinned_row(
+    alloc: Global,
+    mode: Mode,
+    row: &[Value],
+    d: &Frac,
+) -> Result<Items<Value>, Fault<Formula>>
     requires not_negative { up_to nil d.now ≡ true }
     ensures thin { IfOk result (AllZip (IsThinValue d.now) row.now) }
-    ensures fit { IfOk result (λ thin. RowTestsFit d.now row.now) }
-    ensures first { IfErr result (OnCause (RowTestPasses d.now row.now)) }
+    ensures fit { IfOk result (λ thin. RowTestsFit mode d.now row.now) }
+    ensures first { IfErr result (OnCause (RowTestPasses mode d.now row.now)) }
 {
     let mut thin = Items::new(alloc);
     for value in row {
-        let next = thinned(alloc, value, d)?;
+        let next = thinned(alloc, mode, value, d)?;
         if thin.push(next).is_err() {
             return Err(Fault::NoMemory);
         }
@@ -79,22 +84,24 @@ fn fields_of(alloc: Global, row: &[Value], epoch: &Epoch) -> Result<Items<Text>,
 // The fields of the row with each trip simplified.
 fn thin_fields(
     alloc: Global,
+    mode: Mode,
     row: &[Value],
     d: &Frac,
     epoch: &Epoch,
 ) -> Result<Items<Text>, Fault<Formula>>
     requires not_negative { up_to nil d.now ≡ true }
     ensures fields { IfOk result (IsThinRecord d.now epoch.now row.now) }
-    ensures fit { IfOk result (λ fields. RowTestsFit d.now row.now) }
-    ensures first { IfErr result (OnCause (RowTestPasses d.now row.now)) }
+    ensures fit { IfOk result (λ fields. RowTestsFit mode d.now row.now) }
+    ensures first { IfErr result (OnCause (RowTestPasses mode d.now row.now)) }
 {
-    let thin = thinned_row(alloc, row, d)?;
+    let thin = thinned_row(alloc, mode, row, d)?;
     Ok(fields_of(alloc, thin.as_slice(), epoch)?)
 }
 
 // The fields of all rows with each trip simplified, row by row.
 fn thin_records(
     alloc: Global,
+    mode: Mode,
     rows: &Rows<Value>,
     d: &Frac,
     epoch: &Epoch,
@@ -102,13 +109,13 @@ fn thin_records(
     requires not_negative { up_to nil d.now ≡ true }
     requires few { length rows.now ≤ 1000000 }
     ensures records { IfOk result (AllZip (IsThinRecord d.now epoch.now) rows.now) }
-    ensures fit { IfOk result (λ records. AllByRecursion (RowTestsFit d.now) rows.now) }
-    ensures first { IfErr result (OnCause (λ f. PassesFirst d.now rows.now f.0 f.1)) }
+    ensures fit { IfOk result (λ records. AllByRecursion (RowTestsFit mode d.now) rows.now) }
+    ensures first { IfErr result (OnCause (λ f. PassesFirst mode d.now rows.now f.0 f.1)) }
 {
     let mut records = Items::new(alloc);
     let mut number: u32 = 0;
     while let Some(row) = rows.get(number as usize) {
-        let fields = match thin_fields(alloc, row, d, epoch) {
+        let fields = match thin_fields(alloc, mode, row, d, epoch) {
             Ok(fields) => fields,
             Err(fault) => return Err(fault_at(number, fault)),
         };
@@ -134,6 +141,7 @@ fn names(alloc: Global) -> Result<Vec<Text>, AllocError>
 /// test that does not fit. `NoMemory` comes if an allocation fails.
 pub fn thin_text(
     alloc: Global,
+    mode: Mode,
     rows: &Rows<Value>,
     d: &Frac,
     epoch: &Epoch,
@@ -141,10 +149,10 @@ pub fn thin_text(
     requires not_negative { up_to nil d.now ≡ true }
     requires few { length rows.now ≤ 1000000 }
     ensures text { IfOk result (λ v. IsThinText d.now epoch.now rows.now v.items) }
-    ensures fit { IfOk result (λ v. AllByRecursion (RowTestsFit d.now) rows.now) }
-    ensures first { IfErr result (OnCause (λ f. PassesFirst d.now rows.now f.0 f.1)) }
+    ensures fit { IfOk result (λ v. AllByRecursion (RowTestsFit mode d.now) rows.now) }
+    ensures first { IfErr result (OnCause (λ f. PassesFirst mode d.now rows.now f.0 f.1)) }
 {
-    let records = thin_records(alloc, rows, d, epoch)?;
+    let records = thin_records(alloc, mode, rows, d, epoch)?;
     let names = names(alloc)?;
     Ok(records_text(alloc, &names, records.as_slice())?)
 }

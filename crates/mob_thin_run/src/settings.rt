@@ -9,4 +9,6 @@ pub struct ThinSettings {
     pub within: Frac,
     /// The day from whose midnight instants count; 2000-01-01 without `--epoch`.
     pub epoch: Epoch,
+    /// Whether numbers of any size are computed, so that no test stops the run.
+    pub wide: bool,
 }

@@ -13,7 +13,7 @@ use mob_outside::{Sink, Source};
 use mob_trips::{TripsEnding, tell};
 use std::alloc::Global;
 
-const USAGE: &[u8] = b"usage: mobthin --within D [--epoch DATE] < trips.csv\n";
+const USAGE: &[u8] = b"usage: mobthin --within D [--epoch DATE] [--wide] < trips.csv\n";
 
 /// Writes the line of an ending of mobthin.
 pub fn tell_thin<E: Sink>(notes: &mut E, ending: &TripsEnding)
@@ -34,7 +34,7 @@ pub fn tell_thin<E: Sink>(notes: &mut E, ending: &TripsEnding)
 /// | 4 | `out` failed, and took a part of the text |
 /// | 5 | out of memory |
 /// | 6 | the table is refused |
-/// | 8 | a part of a test's formula does not fit; the note names the first such row |
+/// | 8 | a part of a test's formula does not fit; the note names the first such row; with `--wide` never |
 pub fn run_thin<S: Source, K: Sink, E: Sink>(
     alloc: Global,
     words: &[String],

@@ -13,7 +13,7 @@ next_stays-requires c =
     let r = c.next-item.result in
     record {
       square = c.requires.square;
-      between = λ g. within_end c.args.limit.now.distance c.args.slices.now at.first.now at.between.items at.last.now (drop at.next-index xs) at.legs.items at.invariant r (drop (at.next-index + 1) xs) (drop_read xs at.next-index r (omega arith) c.next-item.is) g;
+      between = λ g. within_end c.args.limit.now.distance c.args.slices.now at.first.now at.between.items at.last.now (drop at.next-index xs) at.legs.items at.invariant.making r (drop (at.next-index + 1) xs) (drop_read xs at.next-index r (omega arith) c.next-item.is) g;
     }
 
 pub returns-in_err-stay-clause-first : goal.returns-in_err-stay-clause-first

@@ -6,7 +6,7 @@ abbrev pub invariant-loop-row : goal.invariant-loop-row
 invariant-loop-row l = record {
   within : l.number ≤ length l.rows;
   made : AllZip (IsThinRecord l.d l.epoch) (take l.number l.rows) l.records;
-  fit : AllByRecursion (RowTestsFit l.d) (take l.number l.rows);
+  fit : AllByRecursion (RowTestsFit l.mode l.d) (take l.number l.rows);
 }
 
 abbrev pub decreases-loop-row : goal.decreases-loop-row

@@ -6,7 +6,7 @@ pub returns-in_err-next-clause-first : goal.returns-in_err-next-clause-first
 returns-in_err-next-clause-first c =
     let at = c.loop-value in
     let p = err_from_is_err_and c.from_residual.result c.from_residual.ensures.1 in
-    rw (p.1, p.2) (test_fault_at c.args.d.now c.args.row.now at.value-index c.value-item.result c.in_err-next.field-0.0 (omega arith) c.value-item.is at.invariant.fit c.in_err-next.ensures.first)
+    rw (p.1, p.2) (test_fault_at c.args.mode c.args.d.now c.args.row.now at.value-index c.value-item.result c.in_err-next.field-0.0 (omega arith) c.value-item.is at.invariant.fit c.in_err-next.ensures.first)
 
 pub loop-value-preserved : goal.loop-value-preserved
 loop-value-preserved c =
