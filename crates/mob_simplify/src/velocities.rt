@@ -4,8 +4,8 @@
 //! in a square inside each disc form a rectangle. What does not fit into 62 bits is not known; no
 //! result depends on that.
 ghost use Rattle.std.specs.Prelude.{◌≡◌, true, IfOk};
-ghost use Rattle.mob_ratio.specs.Order.{before, smaller, greater};
-ghost use Rattle.mob_ratio.specs.Ratio.{Ratio, ◌-ℚ◌};
+ghost use Rattle.mob_ratio.specs.Order.{before};
+ghost use Rattle.mob_ratio.specs.Ratio.{Ratio, ◌+ℚ◌, ◌-ℚ◌};
 ghost use Rattle.mob_ratio.specs.Sign.{nil};
 ghost use Rattle.mob_simplify.specs.Skips.{IsInCircle, shared_velocities, has_velocity, is_sure, rate, rate_east, rate_north, time_to, velocities_near};
 
