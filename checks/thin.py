@@ -9,7 +9,8 @@ import sys
 from datetime import datetime, timedelta
 from fractions import Fraction
 
-MOBSQL, MOBTHIN, WORK = sys.argv[1:]
+# Its functions serve `checks/random/wide_trips.py` too.
+MOBSQL, MOBTHIN, WORK = sys.argv[1:4] if __name__ == "__main__" else ("", "", "")
 TABLES = 40
 # Tables with numbers whose tests do not fit 62 bits.
 LARGE_TABLES = 20
@@ -222,4 +223,5 @@ def main():
     print(f"thin: {TABLES + LARGE_TABLES} tables tried, {left_out} points left out")
 
 
-main()
+if __name__ == "__main__":
+    main()

@@ -28,7 +28,7 @@ NOTES = {
     0: rb"",
     2: rb"usage: [^\n]*\n",
     6: rb"(table: record \d+, field \d+: refusal \d+ \(\w+\)|rows \d+: refusal 13 \(Limit\))\n",
-    8: rb"rows \d+( \d+)?: formula F[1-7] passes 62 bits\n",
+    8: rb"rows \d+( \d+)?: (formula F[1-7]|the value) passes 62 bits\n",
 }
 NUMBERS = ("1", "2", "5", "10", "1/2", ".5", "1e3", "0", "100", "3/7", "4611686018427387903")
 SIZES = ("1", "2", "5", "50", "1000", "1/2")
@@ -47,7 +47,7 @@ def of_near(chance):
 
 
 def of_thin(chance):
-    return ["--within", chance.choice(NUMBERS)]
+    return ["--within", chance.choice(NUMBERS), *chance.choice(([], ["--wide"]))]
 
 
 def of_tile(chance):

@@ -151,5 +151,6 @@ pub fn passes_knowing(
         held.push(*here)?;
         return Ok(true);
     }
-    tested(alloc, p, held, here, n, limit)
+    let pass = tested(alloc, p, held, here, n, limit)?;
+    Ok(pass)
 }

@@ -47,7 +47,8 @@ fn next_stays(
     }
     let p = start_of(first);
     *sure = narrowed(sure, &p, &here, half);
-    passes_knowing(alloc, &p, held, sure, &here, &end_of(next), limit)
+    let stay = passes_knowing(alloc, &p, held, sure, &here, &end_of(next), limit)?;
+    Ok(stay)
 }
 
 /// The straight courses that replace the slices, within the distance `d`. They are those of
