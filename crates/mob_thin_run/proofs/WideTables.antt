@@ -4,8 +4,8 @@ use Rattle.mob_ratio.specs.Ratio.{Ratio}
 use Rattle.mob_slice.{specs.Entries.{IsFirst}, specs.declared.formula.Formula.{Formula}, specs.declared.mode.Mode.{Mode}, specs.declared.mode.Mode.TheVariants.{Wide}, proofs.Firsts.{one_first}}
 use Rattle.mob_value.{specs.declared.value.Value.{Value}, specs.declared.value.Value.TheVariants.{MovingPoint}}
 use Rattle.mob_simplify.{proofs.Found.{found}, proofs.OneRuns.{one_thin}}
-use Rattle.mob_trips.specs.Modes.{mode_of}
-use Rattle.mob_thin_run.{specs.ThinRows.{AreThinRows, IsThinText, IsThinValue, OnTests, PassesFirst, RowTestPasses, RowTestsFit, table_text}, specs.WideThin.{HasOneText, WideStopsNowhere, WideWritesTheSame}}
+use Rattle.mob_trips.specs.Modes.{trips_mode}
+use Rattle.mob_thin_run.{specs.ThinRows.{AreThinRows, IsThinText, IsThinValue, OnTests, PassesFirst, RowTestPasses, RowTestsFit, table_text}, specs.WideThin.{HasOneThinText, WideStopsNowhere, WideWritesTheSameTable}}
 
 -- ---- no part stops
 no_formula : (f : Formula) → IsFirst [] (Some f) → ⊥
@@ -21,7 +21,7 @@ row_passes d (v ∷ row) f (inl h) = value_passes d v f h
 row_passes d (v ∷ row) f (inr h) = row_passes d row f h.1
 
 pub stops_nowhere : WideStopsNowhere
-stops_nowhere settings rows names f e h = row_passes settings.within h.2.here f (subst (λ z. RowTestPasses (mode_of z) settings.within h.2.here f) e h.2.passes)
+stops_nowhere settings rows names f e h = row_passes settings.within h.2.here f (subst (λ z. RowTestPasses (trips_mode z) settings.within h.2.here f) e h.2.passes)
 
 -- ---- all parts fit
 value_fits : (d : Ratio) (v : Value) → OnTests Wide d v (λ tests. IsFirst tests None)
@@ -39,9 +39,9 @@ rows_fit d (row ∷ rows) = (row_fits d row, rows_fit d rows)
 text_moves : (d e : Ratio) (day dawn : ℤ) (rows : List (List Value)) (text : List ℕ) → d ≡ e → day ≡ dawn → IsThinText d day rows text → IsThinText e dawn rows text
 text_moves d e day dawn rows text h k is = subst (λ z. IsThinText z dawn rows text) h (subst (λ z. IsThinText d z rows text) k is)
 
-pub writes_the_same : WideWritesTheSame
+pub writes_the_same : WideWritesTheSameTable
 writes_the_same one other rows text differ h = (
-  subst (λ z. AllByRecursion (RowTestsFit (mode_of z) other.within) rows) (sym differ.asks) (rows_fit other.within rows),
+  subst (λ z. AllByRecursion (RowTestsFit (trips_mode z) other.within) rows) (sym differ.asks) (rows_fit other.within rows),
   text_moves one.within other.within one.epoch other.epoch rows text differ.within differ.epoch h.1,
 )
 
@@ -68,5 +68,5 @@ one_table d (row ∷ rows) [] b h k = absurd h
 one_table d (row ∷ rows) (x ∷ a) [] h k = absurd k
 one_table d (row ∷ rows) (x ∷ a) (y ∷ b) h k = ap (λ z. z ∷ a) (one_row d row x y h.0 k.0) ∙ ap (λ z. y ∷ z) (one_table d rows a b h.1 k.1)
 
-pub one_text : HasOneText
+pub one_text : HasOneThinText
 one_text settings rows a b h k = h.1.3 ∙ ap (table_text settings.epoch) (one_table settings.within rows h.1.0 k.1.0 h.1.1 k.1.1) ∙ sym k.1.3

@@ -1,6 +1,6 @@
 //! Laws of every file that is written. No code runs here.
 ghost use Rattle.mob_thin_run.specs.TableAgain.{ReadsTableAgain};
-ghost use Rattle.mob_thin_run.specs.WideThin.{HasOneText, WideStopsNowhere, WideWritesTheSame};
+ghost use Rattle.mob_thin_run.specs.WideThin.{HasOneThinText, WideStopsNowhere, WideWritesTheSameTable};
 
 /// The file that is written for a table is read again as its rows with each trip simplified. The
 /// premises: it is no longer than a table file may be, and each trip of the table prints at most
@@ -13,6 +13,6 @@ pub fn table_read_again()
 /// with the same bytes.
 pub fn wide_changes_no_table()
     ensures stops { WideStopsNowhere }
-    ensures writes { WideWritesTheSame }
-    ensures one { HasOneText }
+    ensures writes { WideWritesTheSameTable }
+    ensures one { HasOneThinText }
 {}
