@@ -8,7 +8,7 @@ use Rattle.mob_value.specs.declared.value.Value.{Value}
 use Rattle.mob_literal.specs.Fields.{field_text}
 use Rattle.mob_records.specs.AnswerText.{answer_text}
 use Rattle.mob_knn.specs.Nearest.{Asked, AreNearest, IsPassed}
-use Rattle.mob_trips.{specs.Modes.{mode_of}, specs.Rows.{Trip, id_of, id_at, trips_in}}
+use Rattle.mob_trips.{specs.Modes.{trips_mode}, specs.Rows.{Trip, id_of, id_at, trips_in}}
 use Rattle.mob_near_run.{specs.declared.settings.NearSettings.{NearSettings}, specs.declared.settings.Target.{Target}, specs.declared.settings.Target.TheVariants.{Moving, Fixed}}
 
 abbrev pub target_operand : Target → Asked
@@ -29,7 +29,7 @@ ArePrintable Wide near = AllByRecursion (λ r. Fits r.1) near
 
 -- the text of the nearest rows
 abbrev pub NearWrites : NearSettings → List (List Value) → List ℕ → Type 0
-NearWrites settings rows text = (near : List (ℕ × Ratio)) × AreNearest (trips_in rows) (target_operand settings.to) settings.k near × ArePrintable (mode_of settings.wide) near × (text ≡ answer_text near_names (map (near_fields settings.epoch (map id_of rows)) near))
+NearWrites settings rows text = (near : List (ℕ × Ratio)) × AreNearest (trips_in rows) (target_operand settings.to) settings.k near × ArePrintable (trips_mode settings.wide) near × (text ≡ answer_text near_names (map (near_fields settings.epoch (map id_of rows)) near))
 
 -- the first row whose approach does not fit
 pub record IsFirstLarge (near : List (ℕ × Ratio)) (row : ℕ) : Type 0 where
@@ -55,4 +55,4 @@ IsPassedIn Narrow trips asked k row formula = IsPassed trips asked k row formula
 IsPassedIn Wide trips asked k row formula = IsUnprintable trips asked k row formula
 
 abbrev pub IsRowPassed : NearSettings → List (List Value) → ℕ → Formula → Type 0
-IsRowPassed settings rows row formula = IsPassedIn (mode_of settings.wide) (trips_in rows) (target_operand settings.to) settings.k row formula
+IsRowPassed settings rows row formula = IsPassedIn (trips_mode settings.wide) (trips_in rows) (target_operand settings.to) settings.k row formula
