@@ -26,10 +26,7 @@ module _ (d : Ratio) (s l r : Slice PlaneLine) (goes : continues_run l r ≡ tru
   pub held_before : (held : List Break) → AllByRecursion (IsReached s.span.lower l.span.lower) held → AllByRecursion (IsWithin s.span.lower r.span.lower) held
   held_before = each_on (IsReached s.span.lower l.span.lower) (IsWithin s.span.lower r.span.lower) (λ b w. (w.0, up_to-before b.instant l.span.lower r.span.lower w.1 rises))
 
-  module _ (h : Ratio) (sure more : Sure) (inside : IsInCircle h d)
-      (narrow : (x y : Ratio) → is_sure more x y ≡ true → is_sure sure x y ≡ true)
-      (near : (x y : Ratio) → is_sure more x y ≡ true → has_velocity (velocities_near h (start_of s) (start_of r)) x y ≡ true)
-      (held between : List Break) (known : IsKnownBetween d (start_of s) l.span.lower between held sure) where
+  module _ (h : Ratio) (sure more : Sure) (inside : IsInCircle h d) (narrow : (x y : Ratio) → is_sure more x y ≡ true → is_sure sure x y ≡ true) (near : (x y : Ratio) → is_sure more x y ≡ true → has_velocity (velocities_near h (start_of s) (start_of r)) x y ≡ true) (held between : List Break) (known : IsKnownBetween d (start_of s) l.span.lower between held sure) where
     wide_alike : DecideAlike d (start_of s) r.span.lower (held ++ start_of r ∷ []) (between ++ start_of r ∷ [])
     wide_alike = alike_more d (start_of s) l.span.lower (start_of r) (before-weak l.span.lower r.span.lower rises) held between known.alike
 
