@@ -1,7 +1,7 @@
 -- The nearest rows of those seen, row by row.
 use Rattle.std.{specs.Prelude.{◌≡◌, ◌⊎◌, ℕ, zero, suc, ◌+◌, ◌<◌, ◌≤◌, Bool, true, false, cond, not, List, [], ◌∷◌, ◌++◌, Option, Some, None, Contains, length, take, drop, slice_get, get_or, refl}, specs.List.{AllByRecursion}}
-use Rattle.std.{proofs.Common.{arith, ap, sym, ◌∙◌, subst, inl, inr, true≢false}, proofs.lemmas.Option.{none-some}}
-use Rattle.mob_list.{proofs.Each.{each_both, each_on}, proofs.Entries.{each_of_all, all_by_each, first_in, later_in, none_in, which_in}}
+use Rattle.std.{proofs.Common.{arith, ap, sym, ◌∙◌, subst, inl, inr, true≢false}, proofs.lemmas.List.{take_more}, proofs.lemmas.Option.{none-some}}
+use Rattle.mob_list.{proofs.Each.{each_both, each_more, each_on}, proofs.Entries.{each_of_all, all_by_each, first_in, later_in, none_in, which_in}}
 use Rattle.mob_ratio.{specs.Ratio.{Ratio}, specs.Order.{before, up_to, same}, proofs.Order.{before-trans, before-up_to, before-weak, same_exact, up_to-before, up_to-self}}
 use Rattle.mob_slice.{specs.Lines.{plane_value_of}, specs.Sides.{Slices, given_at}}
 use Rattle.mob_near.specs.Approaches.{IsApproach}
@@ -234,6 +234,16 @@ module _ (asked : Asked) (area : BoxOf) (trip : TripOf) (b : BoxOf) (its : IsAsk
 
   pub far_out : (k : ℕ) (rs : List Row) (g : Ratio) → AtLeast g ≡ gap_of b area → AreAllBelow k g rs → (m : Ratio) → IsItsApproach asked (Some trip) m → AreAllBelow k m rs
   far_out k rs g e all m h = more_below k g m rs (subst (λ z. gap_reaches z m ≡ true) (sym e) (reaches m h)) all
+
+-- ---- the loop over rows
+pub each_taken : {A : Type 0} (P : A → Type 0) (xs : List A) (i : ℕ) (x : A) → i < length xs → x ≡ get_or xs i x → AllByRecursion P (take i xs) → P x → AllByRecursion P (take (i + 1) xs)
+each_taken P xs i x lt is h k = subst (AllByRecursion P) (sym (take_more xs i x lt ∙ ap (λ z. take i xs ++ z ∷ []) (sym is))) (each_more P (take i xs) x h k)
+
+pub place_here : (m : Ratio) (rs : List Row) (place : ℕ) (r : Row) (rest : List Row) → drop place rs ≡ r ∷ rest → AllByRecursion (λ r. up_to r.1 m ≡ true) (take place rs) → before m r.1 ≡ true → IsPlaceOf m rs place
+place_here m rs place r rest e h b = record { behind = h; ahead = subst (IsBelowFirst m) (sym e) b }
+
+pub place_last : (m : Ratio) (rs : List Row) (place : ℕ) → drop place rs ≡ [] → AllByRecursion (λ r. up_to r.1 m ≡ true) (take place rs) → IsPlaceOf m rs place
+place_last m rs place e h = record { behind = h; ahead = subst (IsBelowFirst m) (sym e) tt }
 
 -- ---- the rows of trips
 same_inside : {A : Type 0} {a b : A} → ◌≡◌ {A = Option A} (Some a) (Some b) → a ≡ b
