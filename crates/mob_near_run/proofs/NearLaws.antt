@@ -29,7 +29,7 @@ printed_apart trips asked k row near f are fit h =
 
 pub is_exact : (settings : NearSettings) → settings.wide ≡ true → IsExactWith near_program settings
 is_exact settings wide = record {
-  written_stops = λ rows text names f h k. printed_apart (trips_in rows) (target_operand settings.to) settings.k k.0 h.0 f h.1 (subst (λ z. ArePrintable (trips_mode z) h.0) wide h.2) (subst (λ z. IsPassedIn (trips_mode z) (trips_in rows) (target_operand settings.to) settings.k k.0 f) wide k.2);
+  written_stops = λ rows text names f h k. printed_apart (trips_in rows) (target_operand settings.to) settings.k k.0 h.0 f h.1 h.2 (subst (λ z. IsPassedIn (trips_mode z) (trips_in rows) (target_operand settings.to) settings.k k.0 f) wide k.2);
   written_limits = λ rows text names h k. k;
   stopped_limits = λ rows names others f h k. k;
 }

@@ -22,14 +22,13 @@ near_fields day ids near = field_text day (id_at ids near.0) ∷ number_text nea
 abbrev pub near_names : List (List ℕ)
 near_names = codes "id" ∷ codes "approach" ∷ []
 
--- the approaches of these rows can be printed; in the narrow mode each has been computed in 62 bits
-abbrev pub ArePrintable : Mode → List (ℕ × Ratio) → Type 0
-ArePrintable Narrow near = Unit {0}
-ArePrintable Wide near = AllByRecursion (λ r. Fits r.1) near
+-- the approaches of these rows can be printed
+abbrev pub ArePrintable : List (ℕ × Ratio) → Type 0
+ArePrintable near = AllByRecursion (λ r. Fits r.1) near
 
 -- the text of the nearest rows
 abbrev pub NearWrites : NearSettings → List (List Value) → List ℕ → Type 0
-NearWrites settings rows text = (near : List (ℕ × Ratio)) × AreNearest (trips_in rows) (target_operand settings.to) settings.k near × ArePrintable (trips_mode settings.wide) near × (text ≡ answer_text near_names (map (near_fields settings.epoch (map id_of rows)) near))
+NearWrites settings rows text = (near : List (ℕ × Ratio)) × AreNearest (trips_in rows) (target_operand settings.to) settings.k near × ArePrintable near × (text ≡ answer_text near_names (map (near_fields settings.epoch (map id_of rows)) near))
 
 -- the first row whose approach does not fit
 pub record IsFirstLarge (near : List (ℕ × Ratio)) (row : ℕ) : Type 0 where

@@ -1,6 +1,5 @@
 //! The text of the answer of mobnear.
 ghost use Rattle.std.specs.Prelude.{◌≡◌, ◌≤◌, ◌<◌, IfOk, IfErr, length, map};
-ghost use Rattle.std.specs.List.{AllByRecursion};
 ghost use Rattle.mob_list.specs.Faults.{OnCause};
 ghost use Rattle.mob_numeral.specs.NumberText.{number_text};
 ghost use Rattle.mob_slice.specs.Sides.{operand_of};
@@ -8,7 +7,6 @@ ghost use Rattle.mob_records.specs.AnswerText.{answer_text};
 ghost use Rattle.mob_knn.specs.Nearest.{AreNearest, AreOfTrips, IsPassed};
 ghost use Rattle.mob_frac.specs.Fits.{Fits};
 ghost use Rattle.mob_slice.specs.declared.formula.Formula.TheVariants.{Given};
-ghost use Rattle.mob_slice.specs.declared.mode.Mode.TheVariants.{Wide};
 ghost use Rattle.mob_near_run.specs.NearAnswers.{ArePrintable, IsFirstLarge, IsPassedIn, IsRowPassed, IsUnprintable, NearWrites, target_operand, near_fields, near_names};
 
 use crate::settings::{NearSettings, Target};
@@ -89,7 +87,7 @@ fn printed_row(alloc: Global, row: &(u32, Exact)) -> Result<(u32, Frac), NearFau
 
 // Rows whose approaches can be printed, or the first that cannot.
 fn printed(alloc: Global, rows: &[(u32, Exact)]) -> Result<Items<(u32, Frac)>, NearFault>
-    ensures printed { IfOk result (λ rs. (rs ≡ rows.now) × AllByRecursion (λ r. Fits r.1) rows.now) }
+    ensures printed { IfOk result (λ rs. rs ≡ rows.now) }
     ensures large { IfErr result (OnCause (λ f. (f.1 ≡ Given) × IsFirstLarge rows.now f.0)) }
 {
     let mut printed = Items::new(alloc);
@@ -107,7 +105,7 @@ fn found_wide(
     k: u32,
 ) -> Result<Items<(u32, Frac)>, NearFault>
     requires few { length trips.now ≤ 1000000 }
-    ensures nearest { IfOk result (λ rs. AreNearest trips.now (target_operand to.now) k rs × ArePrintable Wide rs) }
+    ensures nearest { IfOk result (λ rs. AreNearest trips.now (target_operand to.now) k rs) }
     ensures passed { IfErr result (OnCause (λ f. IsUnprintable trips.now (target_operand to.now) k f.0 f.1)) }
 {
     let rows = nearest_exact(alloc, trips, asked(to), k)?;
@@ -123,12 +121,29 @@ fn found_in(
     k: u32,
 ) -> Result<Items<(u32, Frac)>, NearFault>
     requires few { length trips.now ≤ 1000000 }
-    ensures nearest { IfOk result (λ rs. AreNearest trips.now (target_operand to.now) k rs × ArePrintable mode rs) }
+    ensures nearest { IfOk result (λ rs. AreNearest trips.now (target_operand to.now) k rs) }
     ensures passed { IfErr result (OnCause (λ f. IsPassedIn mode trips.now (target_operand to.now) k f.0 f.1)) }
 {
     match mode {
         Mode::Narrow => found(alloc, trips, to, k),
         Mode::Wide => found_wide(alloc, trips, to, k),
+    }
+}
+
+// A number of 62 bits fits: the clauses of these two calls say so.
+fn knows_it_fits(number: &Frac)
+    ensures fits { Fits number.now }
+{
+    let _num = number.num();
+    let _den = number.den();
+}
+
+// So do those of rows.
+fn know_they_fit(rows: &[(u32, Frac)])
+    ensures fit { ArePrintable rows.now }
+{
+    for row in rows {
+        knows_it_fits(&row.1);
     }
 }
 
@@ -217,5 +232,6 @@ pub fn near_text(
         &settings.to,
         settings.k,
     )?;
+    know_they_fit(found.as_slice());
     Ok(text_of(alloc, ids.as_slice(), found.as_slice(), &settings.epoch)?)
 }
