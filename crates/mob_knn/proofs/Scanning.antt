@@ -2,7 +2,7 @@
 use Rattle.std.{specs.Prelude.{◌≡◌, ◌⊎◌, ℕ, zero, suc, ◌+◌, ◌<◌, ◌≤◌, Bool, true, false, cond, not, List, [], ◌∷◌, ◌++◌, Option, Some, None, Contains, length, take, drop, slice_get, get_or, refl}, specs.List.{AllByRecursion}}
 use Rattle.std.{proofs.Common.{arith, ap, sym, ◌∙◌, subst, inl, inr, true≢false}, proofs.lemmas.List.{take_more}, proofs.lemmas.Option.{none-some}}
 use Rattle.mob_list.{proofs.Each.{each_both, each_more, each_on}, proofs.Entries.{each_of_all, all_by_each, first_in, later_in, none_in, which_in}}
-use Rattle.mob_ratio.{specs.Ratio.{Ratio}, specs.Order.{before, up_to, same}, proofs.Order.{before-trans, before-up_to, before-weak, same_exact, up_to-before, up_to-self}}
+use Rattle.mob_ratio.{specs.Ratio.{Ratio}, specs.Order.{before, up_to, same}, proofs.Order.{before-trans, before-up_to, before-weak, same_exact, up_to-before, up_to-equal, up_to-self}}
 use Rattle.mob_slice.{specs.Lines.{plane_value_of}, specs.Sides.{Slices, given_at}}
 use Rattle.mob_near.specs.Approaches.{IsApproach}
 use Rattle.mob_stbox.specs.Boxes.{BoxOf}
@@ -66,12 +66,12 @@ up_nearer a b h lt = by_test (before a.1 b.1) refl
   where
     by_test : (s : Bool) → before a.1 b.1 ≡ s → nearer a b ≡ true
     by_test true e = nearer_before a b e
-    by_test false e = nearer_level a b (let k = h in grind (arith, e, k)) lt
+    by_test false e = nearer_level a b (up_to-equal a.1 b.1 h e) lt
 
 module _ (x : Row) where
   rising_by : (r : Row) (rs : List Row) → r.0 < x.0 → AllByRecursion (λ s. nearer r s ≡ true) rs → IsRising rs → IsRising (put_in x rs) → (b : Bool) → before x.1 r.1 ≡ b → IsRising (cond b (x ∷ r ∷ rs) (r ∷ put_in x rs))
   rising_by r rs lt h k more true e =
-      ((nearer_before x r e, each_on (λ s. nearer r s ≡ true) (λ s. nearer x s ≡ true) (λ s n. nearer_before x s (before-up_to x.1 r.1 s.1 e (nearer_up r s n))) rs h), h, k)
+      ((nearer_before x r e, each_on (λ s. nearer r s ≡ true) (λ s. nearer x s ≡ true) (λ s n. nearer_before x s (before-up_to x.1 r.1 s.1 e (nearer_up r s n))) rs h), (h, k))
   rising_by r rs lt h k more false e = (put_each (λ s. nearer r s ≡ true) x (up_nearer r x (ap not e) lt) rs h, more)
 
   pub put_rising : (rs : List Row) → AllByRecursion (λ r. r.0 < x.0) rs → IsRising rs → IsRising (put_in x rs)
@@ -99,14 +99,14 @@ module _ (x : Row) where
   -- if the first k are below m, those with one more row are
   below_by : (m : Ratio) (k : ℕ) (r : Row) (rs : List Row) → before r.1 m ≡ true → AreAllBelow k m (take k rs) → AreAllBelow k m (take k (put_in x rs)) → (b : Bool) → before x.1 r.1 ≡ b → AreAllBelow (suc k) m (take (suc k) (cond b (x ∷ r ∷ rs) (r ∷ put_in x rs)))
   below_by m k r rs h all more true e = record {
-    full = ap suc (shorter k r rs all.full);
+    full = (let f = shorter k r rs all.full in omega (arith, f));
     below = (before-trans x.1 r.1 m e h, each_shorter k r rs h all.below);
   }
     where
       shorter : (k : ℕ) (r : Row) (rs : List Row) → length (take k rs) ≡ k → length (take k (r ∷ rs)) ≡ k
       shorter zero r rs f = refl
       shorter (suc k) r [] f = absurd (omega (arith, f))
-      shorter (suc k) r (s ∷ rs) f = ap suc (shorter k s rs (omega (arith, f)))
+      shorter (suc k) r (s ∷ rs) f = let e = shorter k s rs (omega (arith, f)) in omega (arith, e)
 
       each_shorter : (k : ℕ) (r : Row) (rs : List Row) → before r.1 m ≡ true → AllByRecursion (λ s. before s.1 m ≡ true) (take k rs) → AllByRecursion (λ s. before s.1 m ≡ true) (take k (r ∷ rs))
       each_shorter zero r rs h k = tt
@@ -116,7 +116,7 @@ module _ (x : Row) where
           each_none zero = tt
           each_none (suc k) = tt
       each_shorter (suc k) r (s ∷ rs) h all = (h, each_shorter k s rs all.0 all.1)
-  below_by m k r rs h all more false e = record { full = ap suc more.full; below = (h, more.below) }
+  below_by m k r rs h all more false e = record { full = (let f = more.full in omega (arith, f)); below = (h, more.below) }
 
   pub put_below : (m : Ratio) (k : ℕ) (rs : List Row) → AreAllBelow k m (take k rs) → AreAllBelow k m (take k (put_in x rs))
   put_below m zero rs h = record { full = refl; below = tt }
