@@ -84,7 +84,7 @@ in_itself p = record {
   to_north = not-up_to-le _ _ (greater_right p.y p.y);
 }
 
-asked_covers : (asked : Asked) (q : BoxOf) → IsAskedBox asked q → Covers (given_at plane_value_of asked) q
+pub asked_covers : (asked : Asked) (q : BoxOf) → IsAskedBox asked q → Covers (given_at plane_value_of asked) q
 asked_covers (Slices v) q h = h.has
 asked_covers (Base p) q h = λ t. subst (λ b. IfSome (Some p) (λ z. InBox b t z)) (sym h) (record { in_space = in_itself p; in_time = tt })
 

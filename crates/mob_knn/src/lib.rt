@@ -11,10 +11,12 @@ mod fault;
 pub mod gaps;
 mod index;
 pub mod laws;
+mod scan;
 mod search;
 mod trips;
 mod waiting;
 
 pub use fault::NearFault;
 pub use index::index_of;
+pub use scan::nearest_exact;
 pub use search::nearest;

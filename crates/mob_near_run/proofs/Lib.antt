@@ -1,3 +1,4 @@
 pub mod Facts
 pub mod NearLaws
 pub mod Targets
+pub mod WideRows

@@ -5,7 +5,7 @@ use Rattle.mob_ast.specs.declared.types.SqlType.{SqlType}
 use Rattle.mob_value.specs.declared.value.Value.{Value}
 use Rattle.mob_numeral.{specs.declared.fault.ReadText.{ReadText}, specs.declared.fault.ReadText.TheVariants.{NoMemory}}
 use Rattle.mob_literal.{specs.SqlText.{SaysAs}, proofs.SqlReading.{one_sql_reading}}
-use Rattle.mob_arguments.{specs.Arguments.{IsCount, IsRequired, option_value}, proofs.Readings.{one_count, one_day, one_required}}
+use Rattle.mob_arguments.{specs.Arguments.{IsCount, IsRequired, option_value}, proofs.Readings.{one_count, one_day, one_flag, one_required}}
 use Rattle.mob_near_run.{specs.CommandLine.{NearSays, near_command, target_type, target_value}, specs.declared.settings.NearSettings.{NearSettings}, specs.declared.settings.Target.{Target}}
 use Rattle.mob_near_run.specs.declared.settings.Target.TheVariants.{Moving, Fixed}
 use Rattle.mob_ast.specs.declared.types.SqlType.TheVariants as sql
@@ -51,8 +51,8 @@ same_target (Fixed p) (Fixed q) e = cc
 ok_same : (v w : Value) → ◌≡◌ {A = Result Value ReadText} (Ok v) (Ok w) → v ≡ w
 ok_same v w e = cc
 
-same_settings : (a b : NearSettings) → a.k ≡ b.k → a.epoch ≡ b.epoch → a.to ≡ b.to → a ≡ b
-same_settings a b k e t = rw (k, e, t) refl
+same_settings : (a b : NearSettings) → a.k ≡ b.k → a.epoch ≡ b.epoch → a.to ≡ b.to → a.wide ≡ b.wide → a ≡ b
+same_settings a b k e t w = rw (k, e, t, w) refl
 
 -- arguments give one record of settings
 pub near_one : (words : List Text) (a b : NearSettings) → NearSays words a → NearSays words b → a ≡ b
@@ -62,4 +62,4 @@ near_one words a b h k =
     let s = subst (λ d. SaysAs (target_type h.text) d h.text (Ok (target_value a.to))) e h.says in
     let u = subst (λ x. SaysAs (target_type x) b.epoch x (Ok (target_value b.to))) (sym t) k.says in
     let v = ok_same (target_value a.to) (target_value b.to) (one_sql_reading (target_type h.text) b.epoch h.text (Ok (target_value a.to)) (Ok (target_value b.to)) (value_known (target_value a.to)) (value_known (target_value b.to)) s u) in
-    same_settings a b (one_row_count (option_value near_command (codes "k") words) a.k b.k h.count k.count) e (same_target a.to b.to v)
+    same_settings a b (one_row_count (option_value near_command (codes "k") words) a.k b.k h.count k.count) e (same_target a.to b.to v) (one_flag (option_value near_command (codes "wide") words) a.wide b.wide h.wide k.wide)

@@ -1,3 +1,4 @@
 pub mod CommandLine
 pub mod NearAnswers
 pub mod NearProgram
+pub mod WideNear

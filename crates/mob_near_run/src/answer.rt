@@ -5,11 +5,14 @@ ghost use Rattle.mob_numeral.specs.NumberText.{number_text};
 ghost use Rattle.mob_slice.specs.Sides.{operand_of};
 ghost use Rattle.mob_records.specs.AnswerText.{answer_text};
 ghost use Rattle.mob_knn.specs.Nearest.{AreNearest, AreOfTrips, IsPassed};
-ghost use Rattle.mob_near_run.specs.NearAnswers.{IsRowPassed, NearWrites, target_operand, near_fields, near_names};
+ghost use Rattle.mob_frac.specs.Fits.{Fits};
+ghost use Rattle.mob_slice.specs.declared.formula.Formula.TheVariants.{Given};
+ghost use Rattle.mob_near_run.specs.NearAnswers.{ArePrintable, IsFirstLarge, IsPassedIn, IsRowPassed, IsUnprintable, NearWrites, target_operand, near_fields, near_names};
 
 use crate::settings::{NearSettings, Target};
 use mob_frac::Frac;
-use mob_knn::{NearFault, index_of, nearest};
+use mob_knn::{NearFault, index_of, nearest, nearest_exact};
+use mob_list::fault::Fault;
 use mob_list::items::Items;
 use mob_list::steps::Steps;
 use mob_list::text::Text;
@@ -17,9 +20,10 @@ use mob_numeral::write_number;
 use mob_records::counted_text;
 use mob_rtree::RTree;
 use mob_scalar::Epoch;
-use mob_slice::{Moving, Operand, PlaneLine};
-use mob_trips::{id_text, split_rows};
+use mob_slice::{Formula, Mode, Moving, Operand, PlaneLine};
+use mob_trips::{id_text, split_rows, trips_mode};
 use mob_value::{Rows, Value};
+use mob_wide::Exact;
 use std::alloc::{AllocError, Global};
 use std::marker::Brand;
 use std::sync::ledger::{Blank, Ledger};
@@ -67,6 +71,80 @@ fn found(
 {
     let tree = index_of(alloc, trips)?;
     nearest_alone::<Brand>(alloc, &tree, trips, to, k, Blank::new(1))
+}
+
+// A row whose approach can be printed.
+fn printed_row(alloc: Global, row: &(u32, Exact)) -> Result<(u32, Frac), NearFault>
+    ensures printed { IfOk result (λ r. (r ≡ row.now) × Fits row.now.1) }
+    ensures large { IfErr result (OnCause (λ f. (f ≡ (row.now.0, Given)) × (¬ Fits row.now.1))) }
+{
+    let fitting = row.1.fitting(alloc)?;
+    match fitting {
+        Some(approach) => Ok((row.0, approach)),
+        None => Err(Fault::Because((row.0, Formula::Given))),
+    }
+}
+
+// Rows whose approaches can be printed, or the first that cannot.
+fn printed(alloc: Global, rows: &[(u32, Exact)]) -> Result<Items<(u32, Frac)>, NearFault>
+    ensures printed { IfOk result (λ rs. rs ≡ rows.now) }
+    ensures large { IfErr result (OnCause (λ f. (f.1 ≡ Given) × IsFirstLarge rows.now f.0)) }
+{
+    let mut printed = Items::new(alloc);
+    for row in rows {
+        printed.push(printed_row(alloc, row)?)?;
+    }
+    Ok(printed)
+}
+
+// The nearest rows of these trips, with approaches of any size, if they can be printed.
+fn found_wide(
+    alloc: Global,
+    trips: &[Option<Moving<PlaneLine>>],
+    to: &Target,
+    k: u32,
+) -> Result<Items<(u32, Frac)>, NearFault>
+    requires few { length trips.now ≤ 1000000 }
+    ensures nearest { IfOk result (λ rs. AreNearest trips.now (target_operand to.now) k rs) }
+    ensures passed { IfErr result (OnCause (λ f. IsUnprintable trips.now (target_operand to.now) k f.0 f.1)) }
+{
+    let rows = nearest_exact(alloc, trips, asked(to), k)?;
+    printed(alloc, rows.as_slice())
+}
+
+// The nearest rows of these trips, in a mode.
+fn found_in(
+    alloc: Global,
+    mode: Mode,
+    trips: &[Option<Moving<PlaneLine>>],
+    to: &Target,
+    k: u32,
+) -> Result<Items<(u32, Frac)>, NearFault>
+    requires few { length trips.now ≤ 1000000 }
+    ensures nearest { IfOk result (λ rs. AreNearest trips.now (target_operand to.now) k rs) }
+    ensures passed { IfErr result (OnCause (λ f. IsPassedIn mode trips.now (target_operand to.now) k f.0 f.1)) }
+{
+    match mode {
+        Mode::Narrow => found(alloc, trips, to, k),
+        Mode::Wide => found_wide(alloc, trips, to, k),
+    }
+}
+
+// A number of 62 bits fits: the clauses of these two calls say so.
+fn knows_it_fits(number: &Frac)
+    ensures fits { Fits number.now }
+{
+    let _num = number.num();
+    let _den = number.den();
+}
+
+// So do those of rows.
+fn know_they_fit(rows: &[(u32, Frac)])
+    ensures fit { ArePrintable rows.now }
+{
+    for row in rows {
+        knows_it_fits(&row.1);
+    }
 }
 
 // An approach, as a field.
@@ -147,6 +225,13 @@ pub fn near_text(
     ensures passed { IfErr result (OnCause (λ f. IsRowPassed settings.now rows f.0 f.1)) }
 {
     let (ids, trips) = split_rows(alloc, rows)?;
-    let found = found(alloc, trips.as_slice(), &settings.to, settings.k)?;
+    let found = found_in(
+        alloc,
+        trips_mode(settings.wide),
+        trips.as_slice(),
+        &settings.to,
+        settings.k,
+    )?;
+    know_they_fit(found.as_slice());
     Ok(text_of(alloc, ids.as_slice(), found.as_slice(), &settings.epoch)?)
 }

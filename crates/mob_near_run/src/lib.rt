@@ -4,6 +4,7 @@
 
 mod answer;
 mod decide;
+pub mod laws;
 mod reading;
 mod settings;
 mod top;

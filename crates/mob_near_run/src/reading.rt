@@ -10,7 +10,7 @@ ghost use Rattle.mob_near_run.specs.declared.settings.Target.{Target as TargetSe
 
 use crate::settings::{NearSettings, Target};
 use crate::values::values_in;
-use mob_arguments::{count_of, epoch_of};
+use mob_arguments::{count_of, epoch_of, flag_of};
 use mob_ast::SqlType;
 use mob_literal::read_value;
 use mob_scalar::{Epoch, ReadText};
@@ -73,8 +73,8 @@ fn target(alloc: Global, text: &str, epoch: &Epoch) -> Result<Option<Target>, Al
 }
 
 /// The settings that the arguments give, the first of which is the program's name: `--k K` with a
-/// whole number from 1 to 1000, `--to TEXT` with a point or a moving point, and `--epoch DATE`.
-/// `--k` and `--to` are required, and each option may be given once. `--epoch` applies to TEXT,
+/// whole number from 1 to 1000, `--to TEXT` with a point or a moving point, `--epoch DATE`, and
+/// `--wide` without a value. `--k` and `--to` are required, and each option may be given once. `--epoch` applies to TEXT,
 /// wherever it is given.
 ///
 /// `None` exactly if the arguments are not accepted. The only error is a failed allocation.
@@ -97,5 +97,10 @@ pub fn settings(alloc: Global, words: &[String]) -> Result<Option<NearSettings>,
     let Some(to) = target(alloc, text, &epoch)? else {
         return Ok(None);
     };
-    Ok(Some(NearSettings { k, epoch, to }))
+    Ok(Some(NearSettings {
+        k,
+        epoch,
+        to,
+        wide: flag_of(values.wide),
+    }))
 }

@@ -21,4 +21,6 @@ pub struct NearSettings {
     pub epoch: Epoch,
     /// The target.
     pub to: Target,
+    /// Whether approaches of any size are computed, of which only those that are printed must fit.
+    pub wide: bool,
 }
