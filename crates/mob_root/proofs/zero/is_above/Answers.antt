@@ -1,5 +1,5 @@
 use Rattle.std.{specs.Int.{w8}, proofs.Common.{rules, ◌≡◌, ◌∙◌, sym, ap, pos, FitsSigned, to_z, of_z}, proofs.lemmas.Int.{to_z-of_z}}
-use Rattle.mob_root.proofs.Zeros.{above_by, not_above_by}
+use Rattle.mob_ratio.proofs.SignTests.{above_by, not_above_by}
 use Rattle.mob_root.proofs.zero.is_above.Goals as goal
 
 pub returns-then-sign-eq1 : goal.returns-then-sign-eq1

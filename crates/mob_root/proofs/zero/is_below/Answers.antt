@@ -1,5 +1,5 @@
 use Rattle.std.{specs.Int.{w8}, proofs.Common.{rules, ◌≡◌, ◌∙◌, sym, ap, negsuc, FitsSigned, to_z, of_z}, proofs.lemmas.Int.{to_z-of_z}}
-use Rattle.mob_root.proofs.Zeros.{below_by, not_below_by}
+use Rattle.mob_ratio.proofs.SignTests.{below_by, not_below_by}
 use Rattle.mob_root.proofs.zero.is_below.Goals as goal
 
 pub returns-then-sign-eq255 : goal.returns-then-sign-eq255
