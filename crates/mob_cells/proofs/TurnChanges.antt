@@ -5,9 +5,9 @@ use Rattle.std.{proofs.Common.{arith, ap, inl, inr, sym, ◌∙◌, subst, true�
 use Rattle.mob_list.proofs.Entries.{all_by_each, each_of_all, first_in, flat-Contains, later_in, none_in, which_in}
 use Rattle.mob_ratio.{specs.Gcd.{gcd, gcd_steps}, specs.Ratio.{Ratio, inverse, over, turned as turned_round, whole, ◌+ℚ◌, ◌*ℚ◌, ◌/ℚ◌}, specs.Order.{before, greater, same, smaller}, specs.Sign.{opposite, root_at, sign_on}}
 use Rattle.mob_ratio.{proofs.Clear.{clear1, cleared}, proofs.Field.{midpoint, mul_comm}, proofs.IntRing.{linear}, proofs.Order.{before-back, before-differ, before-differ-back, before-lt, before-neither, before-self, before-trans, before-up_to, between, lt-before, up_to-before}}
-use Rattle.mob_frac.{specs.Fits.{Fits}, specs.Formula.{AllFit, inner_root_parts}, proofs.Fits.{fits_unless}}
+use Rattle.mob_frac.{specs.Fits.{Fits}, specs.Formula.{AllFit, inner_root_parts}, proofs.Fits.{fits_unless}, proofs.Fitting.{all_both, all_first, all_second}}
 use Rattle.mob_span.{specs.Span.{SpanOf, has, has_instant}, specs.Neighbours.{is_inside}, proofs.Insides.{inner_has, inside_has}}
-use Rattle.mob_slice.{specs.Entries.{IsFirst}, specs.Modes.{entry_given}, specs.declared.comparison.Rel.{Rel}, specs.declared.formula.Formula.{Formula}, proofs.Narrowing.{fit_back, fit_both, fit_front}}
+use Rattle.mob_slice.{specs.Entries.{IsFirst}, specs.Modes.{entry_given}, specs.declared.comparison.Rel.{Rel}, specs.declared.formula.Formula.{Formula}}
 use Rattle.mob_cells.{specs.declared.linear.Ends.{Ends}, specs.declared.turning.Turn.{Turn}, specs.declared.turning.Turning.{Turning}, specs.Cells.{NoneWithin, is_cell, is_cell_of, signs_of, start_cells}, specs.Gaps.{related_by}, specs.Roots.{IsLevel, as_list, root_of, root_parts, roots, roots_parts}}
 use Rattle.mob_cells.{specs.Changes.{IsConstantOn, IsSteadyAround, cells_of, changes, changes_inside, halfway}, specs.Turnings.{IsTurnInside, IsTurning, turn_numbers, turned, turned_by}}
 use Rattle.mob_cells.{proofs.Changed.{before_smaller, changes_are, changes_are_cuts, greater_before, no_change}, proofs.Keeps.{kept}, proofs.Splits.{start_are}, proofs.Walking.{all_self, all_split}}
@@ -52,9 +52,9 @@ one_fit s f false h = tt
 roots_fit : (s : SpanOf) (functions : List Ends) → AllFit (roots_parts s functions) → AllFit (roots s functions)
 roots_fit s [] h = tt
 roots_fit s (f ∷ functions) h =
-    fit_both (as_list (root_of s f)) (roots s functions)
-    (one_fit s f (opposite f.at_lower f.at_upper) (fit_front (root_parts s f) (roots_parts s functions) h))
-    (roots_fit s functions (fit_back (root_parts s f) (roots_parts s functions) h))
+    all_both (as_list (root_of s f)) (roots s functions)
+    (one_fit s f (opposite f.at_lower f.at_upper) (all_first (root_parts s f) (roots_parts s functions) h))
+    (roots_fit s functions (all_second (root_parts s f) (roots_parts s functions) h))
 
 -- where they fit, so do the instants at which a test changes
 pub changes_fit : (s : SpanOf) (functions : List Ends) (meets : Ratio → Bool) → AllFit (roots_parts s functions) → AllFit (changes_inside meets s functions)

@@ -2,9 +2,9 @@
 use Rattle.std.specs.Prelude.{◌≡◌, true, false, List, [], ◌∷◌, ◌++◌, Result, refl}
 use Rattle.std.proofs.Common.{ap, sym, subst, ◌∙◌}
 use Rattle.mob_ratio.{specs.Ratio.{Ratio}, specs.Order.{before, same}, specs.Line.{line_at}, proofs.LineAt.{line_at-short, line_at-lower, line_at-upper, line_at-level}, proofs.Order.{same_exact}}
-use Rattle.mob_frac.specs.Formula.{AllFit}
+use Rattle.mob_frac.{specs.Formula.{AllFit}, proofs.Fitting.{all_first, all_second}}
 use Rattle.mob_list.{specs.declared.fault.Fault.{Fault}, specs.declared.fault.Fault.TheVariants.{Because, NoMemory}}
-use Rattle.mob_slice.{specs.Entries.{IsMadeBy, IsPartFault}, specs.Numbers.{line_numbers}, specs.declared.formula.Formula.{Formula}, specs.declared.formula.Formula.TheVariants.{Given}, proofs.Narrowing.{fit_front, fit_back}}
+use Rattle.mob_slice.{specs.Entries.{IsMadeBy, IsPartFault}, specs.Numbers.{line_numbers}, specs.declared.formula.Formula.{Formula}, specs.declared.formula.Formula.TheVariants.{Given}}
 
 module _ (x0 x1 l u t : Ratio) where
   -- a number that is held
@@ -29,9 +29,9 @@ module _ (x0 x1 l u t : Ratio) where
 
 -- the fault of one of two coordinates
 pub front_fails : (xs ys : List Ratio) (f : Fault Formula) → IsPartFault Given xs f → IsPartFault Given (xs ++ ys) f
-front_fails xs ys (Because g) h = (h.0, λ all. h.1 (fit_front xs ys all))
+front_fails xs ys (Because g) h = (h.0, λ all. h.1 (all_first xs ys all))
 front_fails xs ys NoMemory h = tt
 
 pub back_fails : (xs ys : List Ratio) (f : Fault Formula) → IsPartFault Given ys f → IsPartFault Given (xs ++ ys) f
-back_fails xs ys (Because g) h = (h.0, λ all. h.1 (fit_back xs ys all))
+back_fails xs ys (Because g) h = (h.0, λ all. h.1 (all_second xs ys all))
 back_fails xs ys NoMemory h = tt

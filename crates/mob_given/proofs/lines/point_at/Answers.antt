@@ -1,5 +1,6 @@
 use Rattle.std.proofs.lemmas.Result.{err_from_is_err_and}
-use Rattle.mob_slice.{specs.Numbers.{line_numbers}, proofs.Narrowing.{fit_both}}
+use Rattle.mob_frac.proofs.Fitting.{all_both}
+use Rattle.mob_slice.specs.Numbers.{line_numbers}
 use Rattle.mob_given.proofs.Held.{back_fails, front_fails}
 use Rattle.mob_given.proofs.lines.point_at.Goals as goal
 
@@ -27,4 +28,4 @@ returns c =
     let l = c.args.l.now in
     let u = c.args.u.now in
     let t = c.args.t.now in
-    record { made = (λ i. record { x = c.in_ok-x.ensures.made.0 i; y = c.in_ok-y.ensures.made.0 i }, fit_both (line_numbers s.from.x s.to.x l u t) (line_numbers s.from.y s.to.y l u t) c.in_ok-x.ensures.made.1 c.in_ok-y.ensures.made.1) }
+    record { made = (λ i. record { x = c.in_ok-x.ensures.made.0 i; y = c.in_ok-y.ensures.made.0 i }, all_both (line_numbers s.from.x s.to.x l u t) (line_numbers s.from.y s.to.y l u t) c.in_ok-x.ensures.made.1 c.in_ok-y.ensures.made.1) }
