@@ -6,9 +6,9 @@
 A script is one SELECT of one to three items: `eDwithin`, `nearestApproachSquared`, `?` and `%`
 signs of points and of numbers, the instants of `#` signs, `atValues` and `minusValues`, and `+`,
 `-` and `*` of numbers and of such squares. Points move in sequences with and without their ends,
-stay, or are there at instants alone. Coordinates, distances and instants are whole numbers and fractions of
-up to 62 bits. In half of the scripts points keep their first coordinate, so that many distances are
-numbers that can be written: such a distance is often asked for exactly.
+stay, or are there at instants alone. Coordinates, distances and instants are whole numbers and
+fractions of up to 62 bits. In half of the scripts points keep their first coordinate, so that many
+distances are numbers that can be written: such a distance is often asked for exactly.
 
 With the option the answer, or the byte of the note, must be what this trial computes with fractions
 of any size: the first operator whose value does not fit ends the run. Without the option a run that
