@@ -3,12 +3,12 @@
 
     checks/random/wide.py PROGRAM [SCRIPTS [SEED]]
 
-A script is one SELECT of one to three items: `eDwithin`, `nearestApproachSquared`, `?` and `%` signs
-of points and of numbers, the instants of `#` signs, `atValues` and `minusValues`, and `+`, `-` and
-`*` of numbers and of such squares. Points move in sequences with and without their ends, stay, or
-are there at instants alone. Coordinates, distances and instants are whole numbers and fractions of
-up to 62 bits. In half of the scripts points keep their first coordinate, so that many distances are
-numbers that can be written: such a distance is often asked for exactly.
+A script is one SELECT of one to three items: `eDwithin`, `nearestApproachSquared`, `?` and `%`
+signs of points and of numbers, the instants of `#` signs, `atValues` and `minusValues`, and `+`,
+`-` and `*` of numbers and of such squares. Points move in sequences with and without their ends,
+stay, or are there at instants alone. Coordinates, distances and instants are whole numbers and
+fractions of up to 62 bits. In half of the scripts points keep their first coordinate, so that many
+distances are numbers that can be written: such a distance is often asked for exactly.
 
 With the option the answer, or the byte of the note, must be what this trial computes with fractions
 of any size: the first operator whose value does not fit ends the run. Without the option a run that
@@ -191,12 +191,13 @@ class Writer:
         return f"eDwithin({text}, {distance})", value
 
     def passing(self):
-        """A point or a number over time and a value of it, often one that it takes, and the pieces."""
+        """A point or a number over time, a value that it often takes, and its pieces."""
         if self.chance.random() < 0.5:
             text, course = self.moving()
             place = self.on_the_way(course) if self.chance.random() < 0.8 else None
             place = (self.east(), self.number()) if place is None else place
-            return f"tgeompoint '{text}'", f"geometry 'POINT({place[0]} {place[1]})'", course, place
+            value = f"geometry 'POINT({place[0]} {place[1]})'"
+            return f"tgeompoint '{text}'", value, course, place
         text, course = self.changing()
         place = self.on_the_way(course) if self.chance.random() < 0.6 else None
         place = (self.number(),) if place is None else place
@@ -240,8 +241,8 @@ class Writer:
         return f"{first} {scope}{relation} {second}", value
 
     def item(self):
-        items = self.within, self.sign, self.changed, self.changed, self.taken, self.square, self.term
-        return self.chance.choice(items)
+        signs = self.sign, self.changed, self.changed, self.taken
+        return self.chance.choice((*signs, self.within, self.square, self.term))
 
     def script(self):
         """The script, the place of each mark, and the answer: lines, or a mark."""
@@ -358,7 +359,7 @@ def orders(piece):
 
 
 def cells(piece, relation):
-    """The instants and the open spans of a piece, in order, each with whether the relation holds."""
+    """The instants and open spans of a piece, in order, each with whether the relation holds."""
     begin, end, p, q, first, last = piece
     if begin == end:
         return [(begin, end, True, holds(relation, order_of(p)))]
@@ -376,8 +377,10 @@ def cells(piece, relation):
 
 
 def true_times(pieces, relation, mark):
-    """The text of the instants at which the relation holds. Those inside a piece at which it begins
-    or ceases to hold have to fit."""
+    """The text of the instants at which the relation holds.
+
+    Those inside a piece at which it begins or ceases to hold have to fit.
+    """
     spans = []
     for piece in pieces:
         row = cells(piece, relation)

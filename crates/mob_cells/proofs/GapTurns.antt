@@ -6,18 +6,18 @@ use Rattle.mob_ratio.{proofs.LineAt.{line_at-lower, line_at-upper}, proofs.Order
 use Rattle.mob_span.{specs.Span.{SpanOf, has}, proofs.SpanLemmas.{has_upto_lower, has_upto_upper}}
 use Rattle.mob_slice.{specs.Ranks.{holds}, specs.declared.comparison.Rel.{Rel}, specs.declared.comparison.Rel.TheVariants.{Eq, Ne, Lt, Le, Gt, Ge}}
 use Rattle.mob_cells.{specs.declared.turning.Turning.{Turning}, specs.declared.turning.Meeting.TheVariants.{Never, Always, Once}, specs.Cells.{signs_of}, specs.Gaps.{related_by}}
-use Rattle.mob_cells.{specs.Turnings.{IsMeeting, IsTurning, are_nil_at, level, order_by, sign_between, turned, turned_by}, proofs.Meetings.{gap}, proofs.SharedRoots.{level_sign}}
+use Rattle.mob_cells.{specs.Turnings.{IsMeeting, IsTurning, are_nil_at, level, order_by, sign_between, turning_at, turning_inside}, proofs.Meetings.{gap}, proofs.SharedRoots.{level_sign}}
 
 -- ---- an instant of a span is an end of it or lies strictly between its ends
 strictly_earlier : (a u : Ratio) → up_to a u ≡ true → same a u ≡ false → before a u ≡ true
 unfolding same
 strictly_earlier a u h k = grind (arith, h, k)
 
-pub each_by : (s : SpanOf) (w : Turning) (results : Ratio → Bool) → results s.lower ≡ w.at_lower → (before s.lower s.upper ≡ true → results s.upper ≡ w.at_upper) → ((t : Ratio) → before s.lower t ≡ true → before t s.upper ≡ true → results t ≡ turned_by w.first w.turn t)
-    → (t : Ratio) → has s t ≡ true → results t ≡ turned s w t
+pub each_by : (s : SpanOf) (w : Turning) (results : Ratio → Bool) → results s.lower ≡ w.at_lower → (before s.lower s.upper ≡ true → results s.upper ≡ w.at_upper) → ((t : Ratio) → before s.lower t ≡ true → before t s.upper ≡ true → results t ≡ turning_inside w.first w.turn t)
+    → (t : Ratio) → has s t ≡ true → results t ≡ turning_at s w t
 each_by s w results low high inside t i = by (same t s.lower) refl (same t s.upper) refl
   where
-    by : (a : Bool) → same t s.lower ≡ a → (b : Bool) → same t s.upper ≡ b → results t ≡ cond a w.at_lower (cond b w.at_upper (turned_by w.first w.turn t))
+    by : (a : Bool) → same t s.lower ≡ a → (b : Bool) → same t s.upper ≡ b → results t ≡ cond a w.at_lower (cond b w.at_upper (turning_inside w.first w.turn t))
     by true ea b eb = ap results ((same_exact t s.lower).0 ea) ∙ low
     by false ea true eb =
         let q : t ≡ s.upper = (same_exact t s.upper).0 eb in

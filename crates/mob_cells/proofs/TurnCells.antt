@@ -7,7 +7,7 @@ use Rattle.mob_span.{specs.Span.{SpanOf, has, has_instant}, specs.Flags.{same_bo
 use Rattle.mob_slice.{specs.Cut.{slice_value}, specs.Entries.{IsFirst, IsPartFault}, specs.Modes.{entry_given}, specs.OnPiece.{AreKeptOn}, specs.Operands.{steady_value, steady_limit}, specs.Sides.{HasValues}, specs.declared.formula.Formula.{Formula}, specs.declared.formula.Formula.TheVariants.{Given}, specs.declared.slice.Slice.{Slice}}
 use Rattle.mob_slice.proofs.OnOnePiece.{one_kept, one_steady}
 use Rattle.mob_cells.{specs.declared.turning.Turn.{Turn}, specs.declared.turning.Turning.{Turning}, specs.Cells.{AreCells, IsCut, IsRisingFrom, NoneWithin, is_cell, is_cell_of, split_all, start_cells}}
-use Rattle.mob_cells.{specs.Turnings.{IsCellBetween, IsTurnInside, beside, beside_cuts, kept_turned, turn_numbers, turned, turned_by, turned_on}, proofs.Keeps.{open_has, point_has, upto_of}, proofs.Making.{are_cells}, proofs.Splits.{start_are}, proofs.Walking.{all_self, all_split, only_cuts}}
+use Rattle.mob_cells.{specs.Turnings.{IsCellBetween, IsTurnInside, by_cut, beside_cuts, kept_turned, turn_numbers, turning_at, turning_inside, turned_on}, proofs.Keeps.{open_has, point_has, upto_of}, proofs.Making.{are_cells}, proofs.Splits.{start_are}, proofs.Walking.{all_self, all_split, only_cuts}}
 
 -- ---- the cells of a span, cut where the result changes
 pub rising_turn : (s : SpanOf) (turn : Option Turn) (cuts : List Ratio) → cuts ≡ turn_numbers turn → IsTurnInside s turn → IsRisingFrom s.lower cuts
@@ -31,7 +31,7 @@ pub cells_whole : (s : SpanOf) (cuts : List Ratio) → has_instant s ≡ true �
 cells_whole s cuts h = are_cells s (split_all cuts (start_cells s)) (all_split s cuts (start_cells s) (start_are s h))
 
 -- ---- the result on a cell
-beside_long : (first : Bool) (turn : Turn) (c : SpanOf) (t : Ratio) → NoneWithin turn.at c → before c.lower t ≡ true → before t c.upper ≡ true → (a : Bool) → before c.lower turn.at ≡ a → beside first turn turn.at c ≡ cond (before t turn.at) first (cond (before turn.at t) turn.after turn.there)
+beside_long : (first : Bool) (turn : Turn) (c : SpanOf) (t : Ratio) → NoneWithin turn.at c → before c.lower t ≡ true → before t c.upper ≡ true → (a : Bool) → before c.lower turn.at ≡ a → by_cut first turn turn.at c ≡ cond (before t turn.at) first (cond (before turn.at t) turn.after turn.there)
 beside_long first turn c t n h k true e =
     let up : up_to c.upper turn.at ≡ true = grind (arith, n, e) in
     rw (e, before-up_to t c.upper turn.at k up) refl
@@ -40,13 +40,13 @@ beside_long first turn c t n h k false e =
     let b = up_to-before turn.at c.lower t low h in
     rw (e, before-trans turn.at t c.upper b k, before-back turn.at t b, b) refl
 
-beside_is : (first : Bool) (turn : Turn) (c : SpanOf) (t : Ratio) → NoneWithin turn.at c → is_cell c ≡ true → has c t ≡ true → (b : Bool) → before c.lower c.upper ≡ b → beside first turn turn.at c ≡ cond (before t turn.at) first (cond (before turn.at t) turn.after turn.there)
+beside_is : (first : Bool) (turn : Turn) (c : SpanOf) (t : Ratio) → NoneWithin turn.at c → is_cell c ≡ true → has c t ≡ true → (b : Bool) → before c.lower c.upper ≡ b → by_cut first turn turn.at c ≡ cond (before t turn.at) first (cond (before turn.at t) turn.after turn.there)
 beside_is first turn c t n i k true e = let p = open_has c t i e k in beside_long first turn c t n p.0 p.1 (before c.lower turn.at) refl
 beside_is first turn c t n i k false e =
     let q = point_has c t i e k in
     ap (λ z. cond (before z turn.at) first (cond (before turn.at c.upper) turn.after turn.there)) (sym q.1) ∙ ap (λ z. cond (before t turn.at) first (cond (before turn.at z) turn.after turn.there)) (sym (q.1 ∙ q.0))
 
-cuts_are : (first : Bool) (turn : Option Turn) (cuts : List Ratio) (c : SpanOf) (t : Ratio) → cuts ≡ turn_numbers turn → AllByRecursion (λ r. NoneWithin r c) cuts → is_cell c ≡ true → has c t ≡ true → beside_cuts first turn cuts c ≡ turned_by first turn t
+cuts_are : (first : Bool) (turn : Option Turn) (cuts : List Ratio) (c : SpanOf) (t : Ratio) → cuts ≡ turn_numbers turn → AllByRecursion (λ r. NoneWithin r c) cuts → is_cell c ≡ true → has c t ≡ true → beside_cuts first turn cuts c ≡ turning_inside first turn t
 cuts_are first None cuts c t e n i k = refl
 cuts_are first (Some turn) cuts c t e n i k =
     let apart = subst (AllByRecursion (λ r. NoneWithin r c)) e n in
@@ -67,15 +67,15 @@ module _ (s c : SpanOf) (t : Ratio) (i : is_cell c ≡ true) (low : up_to s.lowe
   not_last n true e = before-differ t s.upper (before-up_to t c.upper s.upper (open_has c t i e k).1 high)
   not_last n false e = let q = point_has c t i e k in subst (λ z. same z s.upper ≡ false) (sym q.1) n
 
-  turned_by_tests : (w : Turning) (cuts : List Ratio) → cuts ≡ turn_numbers w.turn → AllByRecursion (λ r. NoneWithin r c) cuts → turned_on s w cuts c ≡ turned s w t
+  turned_by_tests : (w : Turning) (cuts : List Ratio) → cuts ≡ turn_numbers w.turn → AllByRecursion (λ r. NoneWithin r c) cuts → turned_on s w cuts c ≡ turning_at s w t
   turned_by_tests w cuts e n = by (same c.upper s.lower) refl (same c.lower s.upper) refl
     where
-      by : (a : Bool) → same c.upper s.lower ≡ a → (b : Bool) → same c.lower s.upper ≡ b → cond a w.at_lower (cond b w.at_upper (beside_cuts w.first w.turn cuts c)) ≡ turned s w t
+      by : (a : Bool) → same c.upper s.lower ≡ a → (b : Bool) → same c.lower s.upper ≡ b → cond a w.at_lower (cond b w.at_upper (beside_cuts w.first w.turn cuts c)) ≡ turning_at s w t
       by true ea b eb = rw ((same_exact t s.lower).1 (at_first ea)) refl
       by false ea true eb = rw (not_first ea (before c.lower c.upper) refl, (same_exact t s.upper).1 (at_last eb)) refl
       by false ea false eb = rw (not_first ea (before c.lower c.upper) refl, not_last eb (before c.lower c.upper) refl) (cuts_are w.first w.turn cuts c t e n i k)
 
-pub turned_is : (s : SpanOf) (w : Turning) (cuts : List Ratio) (c : SpanOf) → cuts ≡ turn_numbers w.turn → IsCellBetween s cuts c → (t : Ratio) → has c t ≡ true → turned_on s w cuts c ≡ turned s w t
+pub turned_is : (s : SpanOf) (w : Turning) (cuts : List Ratio) (c : SpanOf) → cuts ≡ turn_numbers w.turn → IsCellBetween s cuts c → (t : Ratio) → has c t ≡ true → turned_on s w cuts c ≡ turning_at s w t
 turned_is s w cuts c e h t k =
     let x = and_parts (is_cell c) (is_inside s c) h.cell in
     let y = and_parts (before s.lower c.lower || (up_to s.lower c.lower && (s.lower_inc || not c.lower_inc))) (before c.upper s.upper || (up_to c.upper s.upper && (s.upper_inc || not c.upper_inc))) x.1 in
@@ -86,8 +86,8 @@ within_of s cuts c h = (and_parts (is_cell c) (is_inside s c) h.cell).1
 
 -- ---- flags
 pub flag_is : (s : SpanOf) (w : Turning) (cuts : List Ratio) (c : SpanOf) (value : Bool) → has_instant c ≡ true → cuts ≡ turn_numbers w.turn → IsCellBetween s cuts c → value ≡ turned_on s w cuts c
-    → AreKeptOn steady_value steady_limit steady_limit (λ t. Some (turned s w t)) c (record { span = c; course = record { value = value } } ∷ [])
-flag_is s w cuts c value some e h is = one_steady (λ t. Some (turned s w t)) c value some (λ t k. ap Some (is ∙ turned_is s w cuts c e h t k))
+    → AreKeptOn steady_value steady_limit steady_limit (λ t. Some (turning_at s w t)) c (record { span = c; course = record { value = value } } ∷ [])
+flag_is s w cuts c value some e h is = one_steady (λ t. Some (turning_at s w t)) c value some (λ t k. ap Some (is ∙ turned_is s w cuts c e h t k))
 
 -- ---- parts of a slice
 pub held_cut : (s : SpanOf) (turn : Option Turn) (cuts : List Ratio) (t : Ratio) (P : Ratio → Type 0) → cuts ≡ turn_numbers turn → IfSome turn (λ c. P c.at) → IsCut s cuts t → same t s.lower ≡ false → same t s.upper ≡ false → P t

@@ -9,7 +9,7 @@ use Rattle.mob_frac.{specs.Fits.{Fits}, specs.Formula.{AllFit, inner_root_parts}
 use Rattle.mob_span.{specs.Span.{SpanOf, has, has_instant}, specs.Neighbours.{is_inside}, proofs.Insides.{inner_has, inside_has}}
 use Rattle.mob_slice.{specs.Entries.{IsFirst}, specs.Modes.{entry_given}, specs.declared.comparison.Rel.{Rel}, specs.declared.formula.Formula.{Formula}}
 use Rattle.mob_cells.{specs.declared.linear.Ends.{Ends}, specs.declared.turning.Turn.{Turn}, specs.declared.turning.Turning.{Turning}, specs.Cells.{NoneWithin, is_cell, is_cell_of, signs_of, start_cells}, specs.Gaps.{related_by}, specs.Roots.{IsLevel, as_list, root_of, root_parts, roots, roots_parts}}
-use Rattle.mob_cells.{specs.Changes.{IsConstantOn, IsSteadyAround, cells_of, changes, changes_inside, halfway}, specs.Turnings.{IsTurnInside, IsTurning, turn_numbers, turned, turned_by}}
+use Rattle.mob_cells.{specs.Changes.{IsConstantOn, IsSteadyAround, cells_of, changes, changes_inside, halfway}, specs.Turnings.{IsTurnInside, IsTurning, turn_numbers, turning_at, turning_inside}}
 use Rattle.mob_cells.{proofs.Changed.{before_smaller, changes_are, changes_are_cuts, greater_before, no_change}, proofs.Keeps.{kept}, proofs.Splits.{start_are}, proofs.Walking.{all_self, all_split}}
 
 -- ---- lists of numbers
@@ -131,19 +131,19 @@ module _ (s : SpanOf) (functions : List Ends) (rel : Rel) (w : Turning) (meets :
   constant : AllByRecursion (IsConstantOn meets) (cells_of s functions)
   constant = cells_constant s functions meets (related_by rel) some level is
 
-  inner_turned : (t : Ratio) → before s.lower t ≡ true → before t s.upper ≡ true → turned s w t ≡ turned_by w.first w.turn t
+  inner_turned : (t : Ratio) → before s.lower t ≡ true → before t s.upper ≡ true → turning_at s w t ≡ turning_inside w.first w.turn t
   inner_turned t a b = rw (before-differ-back s.lower t a, before-differ t s.upper b) refl
 
-  meets_inside : (turn : Option Turn) → w.turn ≡ turn → (t : Ratio) → before s.lower t ≡ true → before t s.upper ≡ true → meets t ≡ turned_by w.first turn t
-  meets_inside turn e t a b = let i = inner_has s t a b in is t i ∙ results.each t i ∙ inner_turned t a b ∙ ap (λ z. turned_by w.first z t) e
+  meets_inside : (turn : Option Turn) → w.turn ≡ turn → (t : Ratio) → before s.lower t ≡ true → before t s.upper ≡ true → meets t ≡ turning_inside w.first turn t
+  meets_inside turn e t a b = let i = inner_has s t a b in is t i ∙ results.each t i ∙ inner_turned t a b ∙ ap (λ z. turning_inside w.first z t) e
 
-  left_of : (c : Turn) (t : Ratio) → before t c.at ≡ true → turned_by w.first (Some c) t ≡ w.first
+  left_of : (c : Turn) (t : Ratio) → before t c.at ≡ true → turning_inside w.first (Some c) t ≡ w.first
   left_of c t h = rw h refl
 
-  right_of : (c : Turn) (t : Ratio) → before c.at t ≡ true → turned_by w.first (Some c) t ≡ c.after
+  right_of : (c : Turn) (t : Ratio) → before c.at t ≡ true → turning_inside w.first (Some c) t ≡ c.after
   right_of c t h = rw (before-back c.at t h, h) refl
 
-  at_turn : (c : Turn) → turned_by w.first (Some c) c.at ≡ c.there
+  at_turn : (c : Turn) → turning_inside w.first (Some c) c.at ≡ c.there
   at_turn c = rw (before-self c.at) refl
 
   -- an instant at which the test changes is that one

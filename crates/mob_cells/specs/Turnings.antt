@@ -8,17 +8,17 @@ use Rattle.mob_cells.{specs.declared.linear.Ends.{Ends}, specs.declared.turning.
 use Rattle.mob_cells.{specs.declared.turning.Meeting.{Meeting}, specs.declared.turning.Meeting.TheVariants.{Never, Always, Once}}
 
 -- the result inside the span
-abbrev pub turned_by : Bool → Option Turn → Ratio → Bool
-turned_by first None t = first
-turned_by first (Some c) t = cond (before t c.at) first (cond (before c.at t) c.after c.there)
+abbrev pub turning_inside : Bool → Option Turn → Ratio → Bool
+turning_inside first None t = first
+turning_inside first (Some c) t = cond (before t c.at) first (cond (before c.at t) c.after c.there)
 
 -- the result at the instant t
-abbrev pub turned : SpanOf → Turning → Ratio → Bool
-turned s w t = cond (same t s.lower) w.at_lower (cond (same t s.upper) w.at_upper (turned_by w.first w.turn t))
+abbrev pub turning_at : SpanOf → Turning → Ratio → Bool
+turning_at s w t = cond (same t s.lower) w.at_lower (cond (same t s.upper) w.at_upper (turning_inside w.first w.turn t))
 
 -- the value of a slice at t, if the result there is the wanted one
 abbrev pub kept_turned : {C B : Type 0} → (C → Ratio → Ratio → Ratio → B) → Bool → Turning → Slice C → Ratio → Option B
-kept_turned value want w s t = kept_value want (turned s.span w t) (slice_value value s t)
+kept_turned value want w s t = kept_value want (turning_at s.span w t) (slice_value value s t)
 
 -- the instant inside the span at which the result changes, if there is one
 abbrev pub turn_numbers : Option Turn → List Ratio
@@ -32,7 +32,7 @@ IsTurnInside s turn = IfSome turn (λ c. (before s.lower c.at ≡ true) × (befo
 -- The results are those of a comparison by the signs of linear functions on the span. They change
 -- at the instant, at which each function is 0.
 pub record IsTurning (s : SpanOf) (functions : List Ends) (rel : Rel) (w : Turning) : Type 0 where
-  pub each : (t : Ratio) → has s t ≡ true → related_by rel (signs_of s functions t) ≡ turned s w t
+  pub each : (t : Ratio) → has s t ≡ true → related_by rel (signs_of s functions t) ≡ turning_at s w t
   pub inside : IsTurnInside s w.turn
   pub zero : IfSome w.turn (λ c. AllByRecursion (λ f. function_at s f c.at ≡ nil) functions)
   pub changes : IfSome w.turn (λ c. w.first ≡ c.there → c.there ≡ c.after → ⊥)
@@ -71,11 +71,11 @@ pub record IsCellBetween (s : SpanOf) (cuts : List Ratio) (c : SpanOf) : Type 0 
   pub apart : AllByRecursion (λ r. NoneWithin r c) cuts
 
 -- the result on a cell, by how it lies to the cut t
-abbrev pub beside : Bool → Turn → Ratio → SpanOf → Bool
-beside first turn t c = cond (before c.lower t) first (cond (before t c.upper) turn.after turn.there)
+abbrev pub by_cut : Bool → Turn → Ratio → SpanOf → Bool
+by_cut first turn t c = cond (before c.lower t) first (cond (before t c.upper) turn.after turn.there)
 
 abbrev pub beside_cuts : Bool → Option Turn → List Ratio → SpanOf → Bool
-beside_cuts first (Some turn) (t ∷ []) c = beside first turn t c
+beside_cuts first (Some turn) (t ∷ []) c = by_cut first turn t c
 beside_cuts first turn cuts c = first
 
 -- the result on a cell of the span, cut at the instant at which the result changes

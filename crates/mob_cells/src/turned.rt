@@ -12,7 +12,7 @@ ghost use Rattle.mob_slice.specs.Slices.{IsSound};
 ghost use Rattle.mob_slice.specs.declared.formula.Formula.TheVariants.{Given};
 ghost use Rattle.mob_span.specs.Neighbours.{is_inside};
 ghost use Rattle.mob_cells.specs.Cells.{AreCells};
-ghost use Rattle.mob_cells.specs.Turnings.{IsCellBetween, IsHeldInside, IsTurnInside, beside, kept_turned, turn_numbers, turned, turned_on};
+ghost use Rattle.mob_cells.specs.Turnings.{IsCellBetween, IsHeldInside, IsTurnInside, by_cut, kept_turned, turn_numbers, turning_at, turned_on};
 
 use crate::cutting::cells_at;
 use crate::keeping::append;
@@ -47,8 +47,8 @@ fn one_cut(alloc: Global, turn: &Turn) -> Result<Vec<Frac>, Fault<Formula>>
 }
 
 // The result on a cell, by how it lies to the cut.
-fn beside(first: bool, turn: &Turn, at: &Frac, cell: &Span) -> bool
-    ensures value { result ≡ beside first turn.now at.now cell.now }
+fn by_cut(first: bool, turn: &Turn, at: &Frac, cell: &Span) -> bool
+    ensures value { result ≡ by_cut first turn.now at.now cell.now }
 {
     if cell.lower().is_before(at) {
         return first;
@@ -71,7 +71,7 @@ fn turned_on(span: &Span, turning: &Turning, cuts: &[Frac], cell: &Span) -> bool
     }
     match &turning.turn {
         Some(turn) => match cuts {
-            [at] => beside(turning.first, turn, at, cell),
+            [at] => by_cut(turning.first, turn, at, cell),
             _ => turning.first,
         },
         None => turning.first,
@@ -82,7 +82,7 @@ fn turned_on(span: &Span, turning: &Turning, cuts: &[Frac], cell: &Span) -> bool
 fn flag_between(span: &Span, turning: &Turning, cuts: &[Frac], cell: &Span) -> Slice<Steady<bool>>
     requires cuts { cuts.now ≡ turn_numbers turning.now.turn }
     requires cell { IsCellBetween span.now cuts.now cell.now }
-    ensures flag { AreKeptOn steady_value steady_limit steady_limit (λ t. Some (turned span.now turning.now t)) cell.now (result ∷ []) }
+    ensures flag { AreKeptOn steady_value steady_limit steady_limit (λ t. Some (turning_at span.now turning.now t)) cell.now (result ∷ []) }
 {
     // A method call gives the proof the invariant of a span.
     let _ = cell.lower();
@@ -104,7 +104,7 @@ fn flags_between(
     requires cuts { cuts.now ≡ turn_numbers turning.now.turn }
     requires between { AllByRecursion (IsCellBetween span.now cuts.now) cells.now }
     requires whole { AreCells span.now cells.now }
-    ensures flags { IfOk result (λ v. AreKeptOn steady_value steady_limit steady_limit (λ t. Some (turned span.now turning.now t)) span.now v.items) }
+    ensures flags { IfOk result (λ v. AreKeptOn steady_value steady_limit steady_limit (λ t. Some (turning_at span.now turning.now t)) span.now v.items) }
 {
     let mut out = Vec::new(alloc);
     for cell in cells {
@@ -122,7 +122,7 @@ fn flags_at(
 ) -> Result<Vec<Slice<Steady<bool>>>, AllocError>
     requires cuts { cuts.now ≡ turn_numbers turning.now.turn }
     requires inside { IsTurnInside span.now turning.now.turn }
-    ensures flags { IfOk result (λ v. AreKeptOn steady_value steady_limit steady_limit (λ t. Some (turned span.now turning.now t)) span.now v.items) }
+    ensures flags { IfOk result (λ v. AreKeptOn steady_value steady_limit steady_limit (λ t. Some (turning_at span.now turning.now t)) span.now v.items) }
 {
     // A method call gives the proof the invariant of a span.
     let _lower = span.lower();
@@ -140,7 +140,7 @@ pub fn flagged_wide(
     turning: &Turning,
 ) -> Result<Vec<Slice<Steady<bool>>>, Fault<Formula>>
     requires inside { IsTurnInside span.now turning.now.turn }
-    ensures flags { IsKeptBy steady_value steady_limit steady_limit (λ v. v.items) (λ t. Some (turned span.now turning.now t)) span.now (entry_given (turn_numbers turning.now.turn)) result }
+    ensures flags { IsKeptBy steady_value steady_limit steady_limit (λ v. v.items) (λ t. Some (turning_at span.now turning.now t)) span.now (entry_given (turn_numbers turning.now.turn)) result }
 {
     let cuts = turning_cuts(alloc, turning)?;
     let flags = flags_at(alloc, span, turning, cuts.as_slice())?;

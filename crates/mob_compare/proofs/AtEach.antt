@@ -9,7 +9,7 @@ use Rattle.mob_slice.{specs.Comparison.{IsComparison, MayAsk}, specs.Course.{IsC
 use Rattle.mob_slice.{specs.declared.comparison.Gaps.{Gaps}, specs.declared.comparison.Rel.{Rel}, specs.declared.formula.Formula.{Formula}, specs.declared.slice.Slice.{Slice}, specs.declared.steady.Steady.{Steady}}
 use Rattle.mob_slice.proofs.{Firsts.{one_first}, JoinedFirsts.{first_joined}, Narrowing.{given_fits}, OnOnePiece.{kept_behind, one_steady}, Options.{none_some}}
 use Rattle.mob_lift.specs.Given.{AreOn, IsGiven, on_sides}
-use Rattle.mob_cells.{specs.declared.turning.Turning.{Turning}, specs.Gaps.{entries_of_ends, gap_ends, piece_gaps}, specs.Kept.{entry_of_roots}, specs.Roots.{roots_parts}, specs.Turnings.{IsTurning, turn_numbers, turned}}
+use Rattle.mob_cells.{specs.declared.turning.Turning.{Turning}, specs.Gaps.{entries_of_ends, gap_ends, piece_gaps}, specs.Kept.{entry_of_roots}, specs.Roots.{roots_parts}, specs.Turnings.{IsTurning, turn_numbers, turning_at}}
 use Rattle.mob_cells.proofs.{AllFirst.{none_back, none_one}, PieceTurns.{level_piece, related_at, turning_piece}, SteadyEnds.{gap_none}, TurnChanges.{changes_fit, same_first}}
 use Rattle.mob_compare.{specs.Compared.{entries_of_gaps}, specs.Sql.Wide.{given_changes, sign_changes}}
 
@@ -27,7 +27,7 @@ module _ {C B : Type 0} (value : C → Ratio → Ratio → Ratio → B) (lines :
 module _ {C B : Type 0} {steady copies : Bool} {value : C → Ratio → Ratio → Ratio → B} {start end : C → B} {can_make : B → B → Type 0} {make : B → B → C} {continues : C → C → Ratio → Ratio → Ratio → Bool} {parts : C → Ratio → Ratio → Ratio → List Ratio} (laws : IsCourse steady copies value start end can_make make continues parts)
     {relation : Rel → B → B → Bool} {gaps : B → B → Gaps} {ordered : Bool} (comparison : IsComparison steady ordered value start end relation gaps) where
   pub turned_given : {V : Type 0} (items : V → List (Slice (Steady Bool))) (q : Result V (Fault Formula)) (p : PieceOf (SideOf C B) (SideOf C B)) (rel : Rel) (w : Turning) (first last : Gaps) → steady ≡ false → MayAsk ordered rel → HoldsPiece start end start end p → has_instant p.span ≡ true
-      → first ≡ piece_gaps value gaps p p.span.lower → last ≡ piece_gaps value gaps p p.span.upper → IsTurning p.span (gap_ends first last) rel w → IsKeptBy steady_value steady_limit steady_limit items (λ t. Some (turned p.span w t)) p.span (entry_given (turn_numbers w.turn)) q
+      → first ≡ piece_gaps value gaps p p.span.lower → last ≡ piece_gaps value gaps p p.span.upper → IsTurning p.span (gap_ends first last) rel w → IsKeptBy steady_value steady_limit steady_limit items (λ t. Some (turning_at p.span w t)) p.span (entry_given (turn_numbers w.turn)) q
       → IsGiven steady_value steady_limit steady_limit items (on_sides value value (relation rel) p) p.span (given_changes value gaps (relation rel) p) q
   turned_given items q p rel w first last moves asked held some ef el t m =
       let fs = gap_ends (piece_gaps value gaps p p.span.lower) (piece_gaps value gaps p p.span.upper) in
@@ -35,7 +35,7 @@ module _ {C B : Type 0} {steady copies : Bool} {value : C → Ratio → Ratio �
       let meets : Ratio → Bool = λ u. relation rel (side_at value p.left u) (side_at value p.right u) in
       let level = level_piece value gaps p (piece_gaps value gaps p p.span.lower) (piece_gaps value gaps p p.span.upper) some refl refl in
       let is = related_at laws comparison p held some moves rel asked in
-      kept_behind steady_value steady_limit steady_limit items (λ u. Some (turned p.span w u)) (λ u. Some (on_sides value value (relation rel) p u)) p.span (given_changes value gaps (relation rel) p) (entry_given (turn_numbers w.turn)) q
+      kept_behind steady_value steady_limit steady_limit items (λ u. Some (turning_at p.span w u)) (λ u. Some (on_sides value value (relation rel) p u)) p.span (given_changes value gaps (relation rel) p) (entry_given (turn_numbers w.turn)) q
       (λ u i. ap Some (sym (results.each u i) ∙ sym (is u i)))
       (same_first p.span fs rel w meets some level results is) m
 

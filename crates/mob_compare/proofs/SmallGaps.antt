@@ -7,7 +7,7 @@ use Rattle.mob_frac.specs.Fits.{Fits, ratio}
 use Rattle.mob_span.specs.Span.{SpanOf}
 use Rattle.mob_slice.{specs.declared.comparison.Gaps.{Gaps}, specs.declared.comparison.Gaps.TheVariants.{Constant, One, Two}}
 use Rattle.mob_cells.{specs.declared.differences.EndGaps.{EndGaps}, specs.declared.linear.Ends.{Ends}}
-use Rattle.mob_compare.{specs.Met.{gaps_meet, line_between, one_meets, two_meet}, specs.Small.{DecideAlike, small, twice, last_small}, specs.Taken.{takes_inside, is_nil_line, nil_inside}}
+use Rattle.mob_compare.{specs.Met.{gaps_meet, line_between, one_meets, two_meet}, specs.Small.{AreDecidedAlike, small, twice, last_small}, specs.Taken.{takes_inside, is_nil_line, nil_inside}}
 
 -- ---- integers
 whole_parts : (n : ℤ) → ((whole n).num ≡ n) × ((whole n).den ≡ 1)
@@ -107,7 +107,7 @@ one_by test s x y f g h k o = rw (h.below, h.above, h.none, k.below, k.above, k.
 one_is : (test : Ordering → Bool) (s : SpanOf) (f g x y : Ratio) → IsAlike x f → IsAlike y g → one_meets test s (line_between x y) ≡ one_meets test s (line_between f g)
 one_is test s f g x y h k = one_by test s x y f g h k (opposite_alike x y f g h k)
 
-pub one_alike : (f g x y : Ratio) (o p : Ordering) → o ≡ sign_of f → p ≡ sign_of g → x ≡ small o → y ≡ small p → DecideAlike (One f) (One g) (record { at_lower = One x; at_upper = One y })
+pub one_alike : (f g x y : Ratio) (o p : Ordering) → o ≡ sign_of f → p ≡ sign_of g → x ≡ small o → y ≡ small p → AreDecidedAlike (One f) (One g) (record { at_lower = One x; at_upper = One y })
 one_alike f g x y o p eo ep ex ey =
     let h = subst (λ z. IsAlike z f) (sym (ex ∙ ap small eo)) (small_alike f) in
     let k = subst (λ z. IsAlike z g) (sym (ey ∙ ap small ep)) (small_alike g) in
@@ -141,7 +141,7 @@ shared_by : (f e g h x w y z : Ratio) (shared : Bool) → x ≡ small (sign_of f
 shared_by f e g h x w y z shared ex ew ey ez o p = rw (ex, ew, ey, ez) (ratios_by shared (sign_of f) (sign_of g) (sign_of e) (sign_of h) (opposite_signs f g o) (opposite_signs e h p))
 
 pub two_alike : (f e g h x w y z : Ratio) (o p q r : Ordering) (shared : Bool) → shared ≡ (opposite f g && opposite e h && same (f /ℚ g) (e /ℚ h)) → o ≡ sign_of f → p ≡ sign_of e → q ≡ sign_of g → r ≡ sign_of h → x ≡ small o → w ≡ small p → y ≡ small q → z ≡ last_small shared r
-    → DecideAlike (Two f e) (Two g h) (record { at_lower = Two x w; at_upper = Two y z })
+    → AreDecidedAlike (Two f e) (Two g h) (record { at_lower = Two x w; at_upper = Two y z })
 two_alike f e g h x w y z o p q r shared es eo ep eq er mx mw my mz =
     let ex = mx ∙ ap small eo in
     let ew = mw ∙ ap small ep in
@@ -155,20 +155,20 @@ two_alike f e g h x w y z o p q r shared es eo ep eq er mx mw my mz =
     record { alike = λ test s. two_by test s x w y z f e g h hx hw hy hz inside }
 
 -- gaps that are not of one kind
-none_alike : (f g : Gaps) (ends : EndGaps) → ends.at_lower ≡ Constant → ((test : Ordering → Bool) (s : SpanOf) → test Equal ≡ gaps_meet test s f g) → DecideAlike f g ends
+none_alike : (f g : Gaps) (ends : EndGaps) → ends.at_lower ≡ Constant → ((test : Ordering → Bool) (s : SpanOf) → test Equal ≡ gaps_meet test s f g) → AreDecidedAlike f g ends
 none_alike f g ends e h = record { alike = λ test s. ap (λ z. gaps_meet test s z ends.at_upper) e ∙ h test s }
 
-pub steady_alike : (g : Gaps) (ends : EndGaps) → ends.at_lower ≡ Constant → DecideAlike Constant g ends
+pub steady_alike : (g : Gaps) (ends : EndGaps) → ends.at_lower ≡ Constant → AreDecidedAlike Constant g ends
 steady_alike g ends e = none_alike Constant g ends e (λ test s. refl)
 
-pub one_steady : (x : Ratio) (ends : EndGaps) → ends.at_lower ≡ Constant → DecideAlike (One x) Constant ends
+pub one_steady : (x : Ratio) (ends : EndGaps) → ends.at_lower ≡ Constant → AreDecidedAlike (One x) Constant ends
 one_steady x ends e = none_alike (One x) Constant ends e (λ test s. refl)
 
-pub one_two : (x y z : Ratio) (ends : EndGaps) → ends.at_lower ≡ Constant → DecideAlike (One x) (Two y z) ends
+pub one_two : (x y z : Ratio) (ends : EndGaps) → ends.at_lower ≡ Constant → AreDecidedAlike (One x) (Two y z) ends
 one_two x y z ends e = none_alike (One x) (Two y z) ends e (λ test s. refl)
 
-pub two_steady : (x y : Ratio) (ends : EndGaps) → ends.at_lower ≡ Constant → DecideAlike (Two x y) Constant ends
+pub two_steady : (x y : Ratio) (ends : EndGaps) → ends.at_lower ≡ Constant → AreDecidedAlike (Two x y) Constant ends
 two_steady x y ends e = none_alike (Two x y) Constant ends e (λ test s. refl)
 
-pub two_one : (x y z : Ratio) (ends : EndGaps) → ends.at_lower ≡ Constant → DecideAlike (Two x y) (One z) ends
+pub two_one : (x y z : Ratio) (ends : EndGaps) → ends.at_lower ≡ Constant → AreDecidedAlike (Two x y) (One z) ends
 two_one x y z ends e = none_alike (Two x y) (One z) ends e (λ test s. refl)

@@ -25,5 +25,5 @@ last_small shared o = cond shared (small o) (twice o)
 
 -- each test of orders has the same result on each span for the gaps f and g at its two ends and for
 -- those of `ends`
-pub record DecideAlike (f g : Gaps) (ends : EndGaps) : Type 0 where
+pub record AreDecidedAlike (f g : Gaps) (ends : EndGaps) : Type 0 where
   pub alike : (test : Ordering → Bool) (s : SpanOf) → gaps_meet test s ends.at_lower ends.at_upper ≡ gaps_meet test s f g

@@ -1,6 +1,5 @@
 pub mod Cutting
 pub mod ValueBoxes
-pub mod Answered
 pub mod OneSpan
 pub mod Widening
 pub mod OneValue

@@ -1,5 +1,5 @@
 //! Optional temporal and base values as values of SQL, where `None` is NULL.
-ghost use Rattle.std.specs.Prelude.{◌≡◌, Ok, Err, MatchOption, MatchResult};
+ghost use Rattle.std.specs.Prelude.{◌≡◌, MatchOption};
 ghost use Rattle.mob_ratio.specs.Order.{same};
 ghost use Rattle.mob_span.specs.Flags.{same_bool};
 ghost use Rattle.mob_slice.specs.Sameness.{same_bytes};
@@ -10,10 +10,9 @@ ghost use Rattle.mob_value.specs.Truths.{known};
 
 use crate::value::Value;
 use mob_frac::Frac;
-use mob_list::fault::Fault;
 use mob_list::text::Text;
 use mob_plane::Point;
-use mob_slice::{Formula, Line, Moving, PlaneLine, Steady};
+use mob_slice::{Line, Moving, PlaneLine, Steady};
 
 /// A tbool, or NULL for None.
 pub fn bool_or_null(value: Option<Moving<Steady<bool>>>) -> Value
@@ -127,15 +126,5 @@ pub fn known(truth: Option<bool>) -> Value
     match truth {
         Some(truth) => Value::Bool(truth),
         None => Value::Null,
-    }
-}
-
-/// The answer of a test, as a truth value or NULL, or its overflow.
-pub fn answered(answer: Result<Option<bool>, Formula>) -> Result<Value, Fault<Formula>>
-    ensures value { MatchResult answer (λ truth. result ≡ Ok (known truth)) (λ e. result ≡ Err (Fault.Because e)) }
-{
-    match answer {
-        Ok(truth) => Ok(known(truth)),
-        Err(formula) => Err(Fault::Because(formula)),
     }
 }

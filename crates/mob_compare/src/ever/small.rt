@@ -3,7 +3,7 @@ ghost use Rattle.std.specs.Prelude.{◌≡◌, ◌<◌, ◌^◌, nat_abs, IfOk};
 ghost use Rattle.mob_ratio.specs.Ratio.{whole};
 ghost use Rattle.mob_slice.specs.declared.comparison.Gaps.TheVariants.{Constant, One, Two};
 ghost use Rattle.mob_broad.specs.Coordinates.{as_gaps};
-ghost use Rattle.mob_compare.specs.Small.{DecideAlike, small, twice, last_small};
+ghost use Rattle.mob_compare.specs.Small.{AreDecidedAlike, small, twice, last_small};
 
 use mob_broad::{Coordinates, share_root};
 use mob_cells::EndGaps;
@@ -59,7 +59,7 @@ fn last_small(shared: bool, sign: Ordering) -> Frac
 // Small gaps in place of one gap, which is `f` at the lower end and `g` at the upper one.
 #[tactic(auto, using(crate::proofs::SmallGaps::one_alike))]
 fn one_small(f: &Broad, g: &Broad) -> EndGaps
-    ensures alike { DecideAlike (One f.now) (One g.now) result }
+    ensures alike { AreDecidedAlike (One f.now) (One g.now) result }
 {
     EndGaps {
         at_lower: Gaps::One(small(f.sign())),
@@ -77,7 +77,7 @@ fn two_small(
     g: &Broad,
     h: &Broad,
 ) -> Result<EndGaps, AllocError>
-    ensures alike { IfOk result (DecideAlike (Two f.now e.now) (Two g.now h.now)) }
+    ensures alike { IfOk result (AreDecidedAlike (Two f.now e.now) (Two g.now h.now)) }
 {
     let shared = share_root(alloc, f, g, e, h)?;
     Ok(EndGaps {
@@ -105,7 +105,7 @@ pub fn small_gaps(
     lower: &Coordinates,
     upper: &Coordinates,
 ) -> Result<EndGaps, AllocError>
-    ensures alike { IfOk result (DecideAlike (as_gaps lower.now) (as_gaps upper.now)) }
+    ensures alike { IfOk result (AreDecidedAlike (as_gaps lower.now) (as_gaps upper.now)) }
 {
     match lower {
         Coordinates::Steady => Ok(no_gaps()),
