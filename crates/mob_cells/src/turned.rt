@@ -16,9 +16,9 @@ ghost use Rattle.mob_cells.specs.Turnings.{IsCellBetween, IsHeldInside, IsTurnIn
 
 use crate::cutting::cells_at;
 use crate::keeping::append;
+use crate::numbers::given;
 use crate::turning::{Turn, Turning};
 use mob_frac::Frac;
-use mob_given::given;
 use mob_list::fault::Fault;
 use mob_slice::{Course, Formula, Slice, Steady};
 use mob_span::{Span, same_bool};

@@ -5,12 +5,13 @@ ghost use Rattle.std.specs.Prelude.{◌≡◌, ◌∷◌, [], ◌&&◌, true, fa
 ghost use Rattle.mob_ratio.specs.Order.{before, same};
 ghost use Rattle.mob_ratio.specs.Sign.{nil, opposite};
 ghost use Rattle.mob_slice.specs.Ranks.{holds};
-ghost use Rattle.mob_broad.specs.Coordinates.{as_gaps};
+ghost use Rattle.mob_cells.specs.Coordinates.{as_gaps};
 ghost use Rattle.mob_cells.specs.Gaps.{gap_ends};
 ghost use Rattle.mob_cells.specs.Roots.{IsLevel};
 ghost use Rattle.mob_cells.specs.Turnings.{IsMeeting, IsTurning, level, order_by, shares_root, sign_between};
 
-use mob_broad::{Coordinates, share_root};
+use crate::coordinates::Coordinates;
+use crate::shared::share_root;
 use mob_slice::Rel;
 use mob_span::{Span, same_bool};
 use mob_wide::{Broad, are_opposite, root_within};

@@ -10,8 +10,7 @@ ghost use Rattle.mob_lift.specs.Given.{AreLifted, IsGiven, on_sides};
 ghost use Rattle.mob_compare.specs.Sql.Wide.{given_changes};
 
 use crate::courses::on_lines;
-use mob_broad::{HasCoordinates, gaps_at};
-use mob_cells::{flagged_wide, turning_on};
+use mob_cells::{HasCoordinates, flagged_wide, gaps_at, turning_on};
 use mob_lift::normal::normal;
 use mob_lift::walks::Pieces;
 use mob_lift::{lift, single};

@@ -10,8 +10,7 @@ ghost use Rattle.mob_cells.specs.Restricted.{IsRestricted};
 ghost use Rattle.mob_restrict.specs.Sql.Wide.{given_values};
 
 use crate::by_value::{on_lines, on_steps};
-use mob_broad::{HasCoordinates, gaps_at};
-use mob_cells::{Restriction, kept_wide, restricted, turning_on};
+use mob_cells::{HasCoordinates, Restriction, gaps_at, kept_wide, restricted, turning_on};
 use mob_lift::normal::normal;
 use mob_list::fault::Fault;
 use mob_slice::{Course, Formula, Moving, Piece, Rel, Side, Slice};

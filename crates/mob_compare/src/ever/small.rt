@@ -2,11 +2,10 @@
 ghost use Rattle.std.specs.Prelude.{◌≡◌, ◌<◌, ◌^◌, nat_abs, IfOk};
 ghost use Rattle.mob_ratio.specs.Ratio.{whole};
 ghost use Rattle.mob_slice.specs.declared.comparison.Gaps.TheVariants.{Constant, One, Two};
-ghost use Rattle.mob_broad.specs.Coordinates.{as_gaps};
+ghost use Rattle.mob_cells.specs.Coordinates.{as_gaps};
 ghost use Rattle.mob_compare.specs.Small.{AreDecidedAlike, small, twice, last_small};
 
-use mob_broad::{Coordinates, share_root};
-use mob_cells::EndGaps;
+use mob_cells::{Coordinates, EndGaps, share_root};
 use mob_frac::Frac;
 use mob_slice::Gaps;
 use mob_wide::Broad;

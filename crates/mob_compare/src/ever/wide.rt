@@ -11,7 +11,7 @@ use crate::ever::decided::contrary;
 use crate::ever::piece::lines_meet;
 use crate::ever::small::small_gaps;
 use crate::ever::taken::gaps_meet;
-use mob_broad::{HasCoordinates, gaps_at};
+use mob_cells::{HasCoordinates, gaps_at};
 use mob_lift::either;
 use mob_lift::walks::Pieces;
 use mob_slice::{Operand, Piece, Rel};

@@ -25,7 +25,7 @@ use crate::courses::compare;
 use crate::ever::{always, always_wide, ever, ever_wide};
 use crate::sql::when::When;
 use mob_ast::{Cmp, SqlType};
-use mob_broad::HasCoordinates;
+use mob_cells::HasCoordinates;
 use mob_list::fault::Fault;
 use mob_slice::{Formula, Mode, Moving, Operand, Ranked, Rel, Steady};
 use mob_value::Value;

@@ -13,7 +13,7 @@ ghost use Rattle.mob_value.specs.Outcomes.{IsOutcome};
 
 use crate::broadly::{at_value_wide, minus_value_wide};
 use crate::by_value::{at_value, minus_value};
-use mob_broad::HasCoordinates;
+use mob_cells::HasCoordinates;
 use mob_list::fault::Fault;
 use mob_slice::{Formula, Mode, Moving};
 use mob_value::Value;

@@ -1,6 +1,6 @@
 use Rattle.std.proofs.Common.{ap, ◌∙◌}
 use Rattle.mob_slice.specs.Sides.{piece_of}
-use Rattle.mob_broad.specs.Coordinates.{as_gaps}
+use Rattle.mob_cells.specs.Coordinates.{as_gaps}
 use Rattle.mob_cells.{specs.Gaps.{piece_gaps}, proofs.PieceTurns.{level_piece}}
 use Rattle.mob_compare.proofs.AtEach.{turned_given}
 use Rattle.mob_compare.proofs.broadly.on_broad_lines.Goals as goal

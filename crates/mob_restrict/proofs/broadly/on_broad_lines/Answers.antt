@@ -1,6 +1,6 @@
 use Rattle.std.proofs.Common.{ap, ◌∙◌}
 use Rattle.mob_slice.specs.declared.comparison.Rel.TheVariants.{Eq}
-use Rattle.mob_broad.specs.Coordinates.{as_gaps}
+use Rattle.mob_cells.specs.Coordinates.{as_gaps}
 use Rattle.mob_cells.proofs.PieceTurns.{equal_turn, level_piece, turning_piece}
 use Rattle.mob_restrict.{specs.Values.{slice_gaps}, proofs.Widely.{beside, beside_holds, turned_kept}}
 use Rattle.mob_restrict.proofs.broadly.on_broad_lines.Goals as goal

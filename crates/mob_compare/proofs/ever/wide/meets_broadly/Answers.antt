@@ -1,5 +1,5 @@
 use Rattle.mob_slice.specs.Sides.{piece_of}
-use Rattle.mob_broad.specs.Coordinates.{as_gaps}
+use Rattle.mob_cells.specs.Coordinates.{as_gaps}
 use Rattle.mob_compare.proofs.Widely.{met_alike}
 use Rattle.mob_compare.proofs.ever.wide.meets_broadly.Goals as goal
 

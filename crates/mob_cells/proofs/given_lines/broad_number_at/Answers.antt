@@ -1,7 +1,7 @@
 use Rattle.std.proofs.Common.{◌≡◌, true, false}
 use Rattle.mob_ratio.specs.Order.{before, same}
-use Rattle.mob_given.proofs.Held.{computed, held_first, held_last, held_level, held_short}
-use Rattle.mob_given.proofs.lines.broad_number_at.Goals as goal
+use Rattle.mob_cells.proofs.HeldNumbers.{computed, held_first, held_last, held_level, held_short}
+use Rattle.mob_cells.proofs.given_lines.broad_number_at.Goals as goal
 
 pub returns-then-not-long : goal.returns-then-not-long
 returns-then-not-long c =

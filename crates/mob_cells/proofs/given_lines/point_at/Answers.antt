@@ -1,8 +1,8 @@
 use Rattle.std.proofs.lemmas.Result.{err_from_is_err_and}
 use Rattle.mob_frac.proofs.Fitting.{all_both}
 use Rattle.mob_slice.specs.Numbers.{line_numbers}
-use Rattle.mob_given.proofs.Held.{back_fails, front_fails}
-use Rattle.mob_given.proofs.lines.point_at.Goals as goal
+use Rattle.mob_cells.proofs.HeldNumbers.{back_fails, front_fails}
+use Rattle.mob_cells.proofs.given_lines.point_at.Goals as goal
 
 pub returns-in_err-x : goal.returns-in_err-x
 returns-in_err-x c =

@@ -3,7 +3,7 @@ use Rattle.std.specs.Prelude.{◌≡◌, refl}
 use Rattle.mob_ratio.specs.Ratio.{Ratio, ◌-ℚ◌}
 use Rattle.mob_plane.specs.declared.point.Point.{Point}
 use Rattle.mob_slice.{specs.LineComparison.{number_gaps, point_gaps}, specs.declared.comparison.Gaps.{Gaps}, specs.declared.comparison.Gaps.TheVariants.{Constant, One, Two}}
-use Rattle.mob_broad.{specs.declared.coordinates.Coordinates.{Coordinates}, specs.declared.coordinates.Coordinates.TheVariants.{Steady, One as OneOf, Two as TwoOf}}
+use Rattle.mob_cells.{specs.declared.coordinates.Coordinates.{Coordinates}, specs.declared.coordinates.Coordinates.TheVariants.{Steady, One as OneOf, Two as TwoOf}}
 
 abbrev pub as_gaps : Coordinates → Gaps
 as_gaps Steady = Constant

@@ -1,7 +1,7 @@
 //! The gaps of two courses at an instant, in numbers of any size.
 ghost use Rattle.std.specs.Prelude.{◌≡◌, IfOk};
 ghost use Rattle.mob_slice.specs.Sides.{side_at, side_of};
-ghost use Rattle.mob_broad.specs.Coordinates.{apart_of, as_gaps};
+ghost use Rattle.mob_cells.specs.Coordinates.{apart_of, as_gaps};
 
 use crate::coordinates::{Coordinates, HasCoordinates};
 use mob_frac::Frac;

@@ -2,7 +2,7 @@
 ghost use Rattle.std.specs.Prelude.{◌≡◌, IfOk};
 ghost use Rattle.mob_slice.specs.declared.comparison.Gaps.{Gaps};
 ghost use Rattle.mob_slice.specs.declared.comparison.Gaps.TheVariants.{Constant, One, Two};
-ghost use Rattle.mob_broad.specs.Coordinates.{AreCoordinates, as_gaps, number_coordinates, point_coordinates, steps_apart, numbers_apart, points_apart};
+ghost use Rattle.mob_cells.specs.Coordinates.{AreCoordinates, as_gaps, number_coordinates, point_coordinates, steps_apart, numbers_apart, points_apart};
 
 use mob_frac::Frac;
 use mob_plane::Point;
