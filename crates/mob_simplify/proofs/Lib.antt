@@ -10,7 +10,7 @@ pub mod OneRuns
 pub mod Ordered
 pub mod Reaching
 pub mod Rectangles
-pub mod Skipping
+pub mod Sifting
 pub mod Squares
 pub mod Stepping
 pub mod Tidied

@@ -6,7 +6,7 @@ use Rattle.mob_span.specs.Span.{has_instant}
 use Rattle.mob_slice.{specs.declared.line.PlaneLine.{PlaneLine}, specs.declared.slice.Slice.{Slice}}
 use Rattle.mob_simplify.{specs.Breaks.{start_of, end_of, passes_within}, specs.Skips.{AreSure, DecideAlike, IsInCircle, IsKnownBetween, has_velocity, is_sure, velocities_near}, specs.Walk.{continues_run, stays, leg_over, all_legs}}
 use Rattle.mob_simplify.{specs.declared.breaks.Break.{Break}, specs.declared.velocities.Sure.{Sure}, specs.declared.velocities.Sure.TheVariants.{All}, proofs.InTurn.{IsWithin}}
-use Rattle.mob_simplify.{proofs.Along.{IsMaking, IsReached, going, making_start, making_stays, making_breaks, making_end}, proofs.Skipping.{alike_more, known_nothing, sure_more}}
+use Rattle.mob_simplify.{proofs.Along.{IsMaking, IsReached, going, making_start, making_stays, making_breaks, making_end}, proofs.Sifting.{alike_more, known_nothing, sure_more}}
 
 -- the slice does not continue the run
 pub not_going : (d : Ratio) (s l r : Slice PlaneLine) (between : List Break) → continues_run l r ≡ false → false ≡ stays d s between l r
@@ -31,14 +31,14 @@ module _ (d : Ratio) (s l r : Slice PlaneLine) (goes : continues_run l r ≡ tru
     wide_alike = alike_more d (start_of s) l.span.lower (start_of r) (before-weak l.span.lower r.span.lower rises) held between known.alike
 
     wide_sure : AreSure d (start_of s) r.span.lower (between ++ start_of r ∷ []) more
-    wide_sure = sure_more d (start_of s) l.span.lower (start_of r) (before-weak l.span.lower r.span.lower rises) h between sure more after_start inside narrow near known.sure
+    wide_sure = sure_more d (start_of s) l.span.lower (start_of r) (before-weak l.span.lower r.span.lower rises) h between sure more after_start inside narrow near known.all_near
 
     pub next_value : (pass : Bool) → ((wide : List Break) → DecideAlike d (start_of s) r.span.lower (held ++ start_of r ∷ []) wide → AreSure d (start_of s) r.span.lower wide more → pass ≡ passes_within d (start_of s) wide (end_of r))
         → pass ≡ stays d s (between ++ start_of r ∷ []) l r
     next_value pass told = told (between ++ start_of r ∷ []) wide_alike wide_sure ∙ sym (ap (λ z. z && passes_within d (start_of s) (between ++ start_of r ∷ []) (end_of r)) goes)
 
     pub next_known : (now : List Break) → DecideAlike d (start_of s) r.span.lower now (held ++ start_of r ∷ []) → IsKnownBetween d (start_of s) r.span.lower (between ++ start_of r ∷ []) now more
-    next_known now same = record { alike = λ n later. same n later ∙ wide_alike n later; sure = wide_sure }
+    next_known now same = record { alike = λ n later. same n later ∙ wide_alike n later; all_near = wide_sure }
 
 -- ---- the loop
 -- the slices before the rest are walked; what is held, and what is sure, know the breaks between

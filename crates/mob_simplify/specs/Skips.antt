@@ -73,4 +73,4 @@ AreSure d p u between sure = (n : Break) → before u n.instant ≡ true → is_
 -- held say the same as all, and velocities that are sure are near all.
 pub record IsKnownBetween (d : Ratio) (p : Break) (u : Ratio) (between held : List Break) (sure : Sure) : Type 0 where
   pub alike : DecideAlike d p u held between
-  pub sure : AreSure d p u between sure
+  pub all_near : AreSure d p u between sure

@@ -79,7 +79,8 @@ fn time_to(p: &Break, n: &Break) -> Result<Frac, Overflow>
     ensures value { IfOk result (λ t. t ≡ time_to p.now n.now) }
     ensures later { IfOk result (λ t. before nil t ≡ true) }
 {
-    n.instant.sub(&p.instant)
+    let time = n.instant.sub(&p.instant)?;
+    Ok(time)
 }
 
 // The velocities with which a course from `p` is at most `half` from `b` in each coordinate.

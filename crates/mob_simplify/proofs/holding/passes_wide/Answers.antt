@@ -1,6 +1,6 @@
 use Rattle.std.proofs.Common.{drop, ◌+◌, arith, sym, ◌∙◌}
 use Rattle.mob_list.proofs.Entries.{drop_read}
-use Rattle.mob_simplify.proofs.Skipping.{testing_next}
+use Rattle.mob_simplify.proofs.Sifting.{testing_next}
 use Rattle.mob_simplify.proofs.holding.passes_wide.Goals as goal
 
 pub loop-b-preserved : goal.loop-b-preserved

@@ -1,5 +1,5 @@
 use Rattle.std.proofs.Common.{drop}
-use Rattle.mob_simplify.proofs.Skipping.{IsTesting}
+use Rattle.mob_simplify.proofs.Sifting.{IsTesting}
 use Rattle.mob_simplify.proofs.holding.passes_wide.Given as goal
 
 abbrev pub invariant-loop-b : goal.invariant-loop-b

@@ -1,6 +1,6 @@
 use Rattle.std.proofs.Common.{rules, drop, ◌+◌, ◌≡◌, [], ◌∷◌, ◌++◌, arith}
 use Rattle.mob_list.proofs.Entries.{drop_read}
-use Rattle.mob_simplify.proofs.Skipping.{sifting_start, sifting_drop, sifting_keep, sifting_end}
+use Rattle.mob_simplify.proofs.Sifting.{sifting_start, sifting_drop, sifting_keep, sifting_end}
 use Rattle.mob_simplify.proofs.holding.sifted.Goals as goal
 
 pub loop-b-init : goal.loop-b-init
@@ -18,4 +18,4 @@ loop-b-preserved c =
     let at = c.loop-b in
     let xs = c.args.held.now in
     let b = c.b-item.result in
-    sifting_keep c.args.d.now c.args.p.now c.args.q.now xs at.left.items (drop at.b-index xs) b (drop (at.b-index + 1) xs) (drop_read xs at.b-index b (omega arith) c.b-item.is) at.invariant c.push-2.new.self.items (search rules)
+    sifting_keep c.args.d.now c.args.p.now c.args.q.now xs at.left.items (drop at.b-index xs) b (drop (at.b-index + 1) xs) (drop_read xs at.b-index b (omega arith) c.b-item.is) at.invariant c.push-in-loop-b.new.self.items (search rules)

@@ -1,5 +1,5 @@
 use Rattle.std.proofs.Common.{drop}
-use Rattle.mob_simplify.proofs.Skipping.{IsSifting}
+use Rattle.mob_simplify.proofs.Sifting.{IsSifting}
 use Rattle.mob_simplify.proofs.holding.sifted.Given as goal
 
 abbrev pub invariant-loop-b : goal.invariant-loop-b

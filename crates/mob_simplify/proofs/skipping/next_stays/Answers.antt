@@ -28,3 +28,6 @@ pub returns-clause-known : goal.returns-clause-known
 returns-clause-known c stays between known =
     next_known c.args.limit.now.distance c.args.first.now c.args.last.now c.args.next.now (sym c.continues_run.ensures.value ∙ c.if-not-continues_run.false) c.requires.order c.args.half.now c.args.sure.now c.narrowed.result c.requires.inside
     c.narrowed.ensures.sure (rw (c.start_of-p.ensures.value, c.start_of-here.ensures.value) at c.narrowed.ensures.near) c.args.held.now.items between known c.passes_knowing.new.held.items (rw (c.start_of-p.ensures.value, c.start_of-here.ensures.value) at c.in_ok-stay.ensures.alike)
+
+pub returns-clause-between : goal.returns-clause-between
+returns-clause-between c stays = rw (c.start_of-p.ensures.value, c.start_of-here.ensures.value) at c.in_ok-stay.ensures.between

@@ -28,6 +28,16 @@ passes_both d p (b ∷ xs) ys n = ap (λ z. is_near d p n b && z) (passes_both d
 abbrev pub IsUntil : Ratio → Ratio → Break → Type 0
 IsUntil l u b = (before l b.instant ≡ true) × (up_to b.instant u ≡ true)
 
+-- they are between p and each later break
+pub until_within : (l u t : Ratio) (bs : List Break) → before u t ≡ true → AllByRecursion (IsUntil l u) bs → AllByRecursion (IsWithin l t) bs
+until_within l u t bs later = each_on (IsUntil l u) (IsWithin l t) (λ b h. (h.0, up_to-before b.instant u t h.1 later)) bs
+
+-- with q itself, the breaks between p and q are such breaks
+pub until_more : (l : Ratio) (q : Break) (held more : List Break) → before l q.instant ≡ true → more ≡ held ++ q ∷ [] → AllByRecursion (IsWithin l q.instant) held → AllByRecursion (IsUntil l q.instant) more
+until_more l q held more long put h =
+    subst (AllByRecursion (IsUntil l q.instant)) (sym put)
+    (each_both (IsUntil l q.instant) held (q ∷ []) (each_on (IsWithin l q.instant) (IsUntil l q.instant) (λ b k. (k.0, before-weak b.instant q.instant k.1)) held h) ((long, up_to-self q.instant), tt))
+
 -- the breaks before the rest are sifted: left are q and those for which it does not decide
 pub record IsSifting (d : Ratio) (p q : Break) (all left rest : List Break) : Type 0 where
   pub others : List Break
@@ -132,5 +142,5 @@ by_held d p u now then between n pass later h k e = e ∙ h n later ∙ k n late
 pub known_nothing : (d : Ratio) (p : Break) (u : Ratio) (held : List Break) (sure : Sure) → held ≡ [] → sure ≡ All → IsKnownBetween d p u [] held sure
 known_nothing d p u held sure e k = record {
   alike = λ n later. ap (λ z. passes_within d p z n) e;
-  sure = λ n later h. refl;
+  all_near = λ n later h. refl;
 }
