@@ -1,8 +1,8 @@
 -- Differences in numbers of any size, as the definitions have them.
 use Rattle.std.specs.Prelude.{◌≡◌, Option}
-use Rattle.mob_ratio.specs.Ratio.{Ratio, ◌-ℚ◌}
+use Rattle.mob_ratio.specs.Ratio.{Ratio, ◌+ℚ◌, ◌-ℚ◌, ◌*ℚ◌}
 use Rattle.mob_plane.specs.declared.point.Point.{Point}
-use Rattle.mob_near.{specs.Legs.{foot_of, foot_square}, specs.declared.leg.Leg.{Leg}, specs.declared.foot.Foot.{Foot}}
+use Rattle.mob_near.{specs.Legs.{foot_of, foot_square, squares_of}, specs.declared.leg.Leg.{Leg}, specs.declared.leg.Squares.{Squares}, specs.declared.foot.Foot.{Foot}}
 use Rattle.mob_near.{specs.declared.broad.leg.Spot.{Spot}, specs.declared.broad.leg.BroadLeg.{BroadLeg}, specs.declared.broad.foot.BroadWay.{BroadWay}, specs.declared.broad.foot.BroadFoot.{BroadFoot}}
 
 abbrev pub as_point : Spot → Point
