@@ -1,5 +1,6 @@
 #!/bin/sh
-# Runs each script of examples/ in its folder, with one worker and with three.
+# Runs each script of examples/ in its folder, with one worker and with three, and with --wide if it
+# ends with status 0.
 #
 # - NAME.sql must print NAME.answer, put NAME.note on standard error and exit with the status in
 #   NAME.status. A missing file means no answer, no note or status 0.
@@ -27,7 +28,8 @@ for script in examples/*/*.sql; do
     text_of "$name.answer" > "$work/wanted.answer"
     text_of "$name.note" > "$work/wanted.note"
     wanted_status=$(text_of "$name.status")
-    for words in "" "--workers 3"; do
+    for words in "" "--workers 3" --wide; do
+        [ "$words" != --wide ] || [ -z "$wanted_status" ] || continue
         tried=$((tried + 1))
         status=0
         (cd "$(dirname "$script")" && "$program" $words < "$(basename "$script")") \

@@ -197,7 +197,8 @@ CASES = [
         b"SELECT 1;",
         "rows 2: formula F6 passes 62 bits\n",
         0,
-        "F6: The square of a distance does not fit. Give fewer decimal places.\n" + MORE,
+        "F6: The square of a distance does not fit. Use `mobsql --wide`, or fewer digits.\n"
+        + MORE,
     ),
     (
         "a note of mobtile",

@@ -4,15 +4,15 @@ use Rattle.std.{specs.List.{AllByRecursion}, proofs.Common.{◌≡◌, ◌+◌, 
 use Rattle.std.proofs.lemmas.List.{take-append-drop}
 use Rattle.mob_ast.{specs.declared.refusal.Kind.TheVariants.{Syntax, TooComplex}, specs.declared.refusal.Refusal.{Refusal}, specs.Trees.{StatementParts}}
 use Rattle.mob_chars.{specs.declared.token.Token.{Token}, specs.Tokens.{tokens_of}}
-use Rattle.mob_grammar.{specs.Symbols.{PlacedSymbol}, specs.Places.{statement_places}, specs.Held.{statement_held}, specs.Cuts.{ends_among, StandsBehind, AllStandBehind}}
-use Rattle.mob_grammar.proofs.Cuts.{places_are_cut, held_are_cut}
+use Rattle.mob_grammar.{specs.Symbols.{PlacedSymbol}, specs.Places.{statement_places}, specs.Sites.{statement_sites}, specs.Cuts.{ends_among, StandsBehind, AllStandBehind}}
+use Rattle.mob_grammar.proofs.Cuts.{places_are_cut, sites_are_cut}
 use Rattle.mob_parse.specs.Refusals.{HasTokens, first_place, IsCause}
 use Rattle.mob_lexemes.specs.Lexed.{lexed}
 use Rattle.mob_typed.{specs.declared.typed.ConstText.{ConstText}, specs.Statements.{ScriptOut}}
 use Rattle.mob_typing.{specs.Names.{NameLists}, proofs.Walk.{Belongs, places_of}}
-use Rattle.mob_typing.proofs.WalkedScripts.{AreMade, none_made, one_made, HoldPlaces, script_made, script_made_at, script_stops_inside, operators_stand, typing_refuses_what_is_held}
+use Rattle.mob_typing.proofs.WalkedScripts.{AreMade, none_made, one_made, AllSites, script_made, script_made_at, script_stops_inside, operators_stand, typing_refuses_at_sites}
 use Rattle.mob_accept.specs.Numbers.{statement_number, AreIn, TreesAreIn, RowsAreIn, TreesAreNumbered, TypingKeepsNumbers, TextIsNumbered, OperatorsAreNumbered, TypingRefusesInside}
-use Rattle.mob_accept.{specs.Numbers.{WrongNamesHavePlaces, WrongNamesAreNumbered, WrongTokensAreNumbered}, proofs.Ends.{behind_is, place_behind}, proofs.OnParts.{all_within}}
+use Rattle.mob_accept.{specs.Numbers.{WrongNamesAreAtSites, WrongNamesAreNumbered, WrongTokensAreNumbered}, proofs.Ends.{behind_is, place_behind}, proofs.OnParts.{all_within}}
 use Rattle.mob_list.proofs.Each.{each_both, each_on}
 
 module _ (bytes : List ℕ) (ts : List Token) (l : List PlacedSymbol) (are : tokens_of bytes ≡ Ok ts) (is : l ≡ lexed bytes ts) (places : StatementParts → List ℕ) where
@@ -21,7 +21,7 @@ module _ (bytes : List ℕ) (ts : List Token) (l : List PlacedSymbol) (are : tok
   trees_in n (s ∷ ss) h = (each_on (StandsBehind l n) (λ p. statement_number bytes p ≡ n + 1) (λ p b. behind_is bytes ts are l n p is b ∙ omega arith) (places s) h.0, trees_in (n + 1) ss h.1)
 
 pub trees_are_numbered : TreesAreNumbered
-trees_are_numbered bytes x (u, (l, (ts, are, is), d)) = (trees_in bytes ts l are is statement_places 0 x (places_are_cut l x d), trees_in bytes ts l are is statement_held 0 x (held_are_cut l x d))
+trees_are_numbered bytes x (u, (l, (ts, are, is), d)) = (trees_in bytes ts l are is statement_places 0 x (places_are_cut l x d), trees_in bytes ts l are is statement_sites 0 x (sites_are_cut l x d))
 
 module _ (bytes : List ℕ) where
   abbrev IsOwn : ConstText → Type 0
@@ -49,26 +49,26 @@ module _ (bytes : List ℕ) where
         rows = (all_within (λ p. statement_number bytes p ≡ n) made.rows at.0, rest.rows);
       }
 
-  -- the places that the trees hold are in their statements
-  hold_places : (n : ℕ) (ss : List StatementParts) → TreesAreIn statement_held bytes n ss → HoldPlaces (λ k p. statement_number bytes p ≡ k) n ss
-  hold_places n [] at = tt
-  hold_places n (s ∷ ss) at = (at.0, hold_places (n + 1) ss at.1)
+  -- the sites of the trees are in their statements
+  all_sites : (n : ℕ) (ss : List StatementParts) → TreesAreIn statement_sites bytes n ss → AllSites (λ k p. statement_number bytes p ≡ k) n ss
+  all_sites n [] at = tt
+  all_sites n (s ∷ ss) at = (at.0, all_sites (n + 1) ss at.1)
 
 pub typing_keeps_numbers : TypingKeepsNumbers
 typing_keeps_numbers bytes ss out at typed = let h = script_stands bytes (script_made ss out typed) at in record { literals = subst (AllByRecursion (IsOwn bytes)) (sym h.is) h.own; rows = h.rows }
 
 pub typing_refuses_inside : TypingRefusesInside
-typing_refuses_inside bytes ss e at wrong = sym (script_stops_inside (λ k p. statement_number bytes p ≡ k) ss (hold_places bytes 1 ss at) e wrong)
+typing_refuses_inside bytes ss e at wrong = sym (script_stops_inside (λ k p. statement_number bytes p ≡ k) ss (all_sites bytes 1 ss at) e wrong)
 
 pub wrong_names_are_numbered : WrongNamesAreNumbered
 wrong_names_are_numbered bytes e h = typing_refuses_inside bytes h.trees e (trees_are_numbered bytes h.trees h.read.tree).1 h.first
 
 pub operators_are_numbered : OperatorsAreNumbered
 operators_are_numbered bytes out h =
-    operators_stand (script_made_at (λ k p. statement_number bytes p ≡ k) h.trees (hold_places bytes 1 h.trees (trees_are_numbered bytes h.trees h.script.read.tree).1) out h.script.typed)
+    operators_stand (script_made_at (λ k p. statement_number bytes p ≡ k) h.trees (all_sites bytes 1 h.trees (trees_are_numbered bytes h.trees h.script.read.tree).1) out h.script.typed)
 
-pub wrong_names_are_held : WrongNamesHavePlaces
-wrong_names_are_held bytes e h = (h.trees, h.read.tree, typing_refuses_what_is_held h.trees e h.first)
+pub wrong_names_are_at_sites : WrongNamesAreAtSites
+wrong_names_are_at_sites bytes e h = (h.trees, h.read.tree, typing_refuses_at_sites h.trees e h.first)
 
 pub text_is_numbered : TextIsNumbered
 text_is_numbered bytes out h = typing_keeps_numbers bytes h.trees out (trees_are_numbered bytes h.trees h.script.read.tree).0 h.script.typed

@@ -3,7 +3,7 @@
 use Rattle.std.{specs.Prelude.{◌≡◌, ◌⊎◌, ◌+◌, ℕ, List, [], ◌∷◌, filter, nat_lt, Result, Ok, Err}, specs.List.{AllByRecursion}}
 use Rattle.mob_ast.{specs.Trees.{StatementParts}, specs.declared.refusal.Kind.TheVariants.{Syntax, TooComplex}, specs.declared.refusal.Refusal.{Refusal}}
 use Rattle.mob_chars.{specs.declared.token.Token.{Token}, specs.Tokens.{tokens_of}}
-use Rattle.mob_grammar.{specs.Symbols.{PlacedSymbol}, specs.Cuts.{ends_among}, specs.Places.{statement_places}, specs.Held.{statement_held}}
+use Rattle.mob_grammar.{specs.Symbols.{PlacedSymbol}, specs.Cuts.{ends_among}, specs.Places.{statement_places}, specs.Sites.{statement_sites}}
 use Rattle.mob_lexemes.specs.Lexed.{lexed}
 use Rattle.mob_parse.specs.Refusals.{IsTreeOf}
 use Rattle.mob_typed.{specs.Statements.{StatementOut, ScriptOut}, specs.Written.{brackets_of}}
@@ -47,10 +47,10 @@ pub record IsNumbered (bytes : List ℕ) (out : ScriptOut) : Type 0 where
   pub literals : AllByRecursion (λ c. c.statement ≡ statement_number bytes c.place) out.consts
   pub rows : RowsAreIn bytes 1 out.statements
 
--- the literals and rows of the trees of a text are in their statements, and so are all places that
--- the trees hold
+-- the literals and rows of the trees of a text are in their statements, and so are the
+-- sites of the trees
 abbrev pub TreesAreNumbered : Type 0
-TreesAreNumbered = (bytes : List ℕ) (trees : List StatementParts) → IsTreeOf bytes trees → TreesAreIn statement_places bytes 1 trees × TreesAreIn statement_held bytes 1 trees
+TreesAreNumbered = (bytes : List ℕ) (trees : List StatementParts) → IsTreeOf bytes trees → TreesAreIn statement_places bytes 1 trees × TreesAreIn statement_sites bytes 1 trees
 
 -- typing keeps the numbers of the trees
 abbrev pub TypingKeepsNumbers : Type 0
@@ -67,15 +67,15 @@ OperatorsAreNumbered = (bytes : List ℕ) (out : ScriptOut) → IsAccepted bytes
 
 -- a refusal of typing names the statement that its place is in
 abbrev pub TypingRefusesInside : Type 0
-TypingRefusesInside = (bytes : List ℕ) (trees : List StatementParts) (e : Refusal) → TreesAreIn statement_held bytes 1 trees → typed_script trees ≡ Err e → e.statement ≡ statement_number bytes e.place
+TypingRefusesInside = (bytes : List ℕ) (trees : List StatementParts) (e : Refusal) → TreesAreIn statement_sites bytes 1 trees → typed_script trees ≡ Err e → e.statement ≡ statement_number bytes e.place
 
 -- a refusal of a name or a type names the statement that its place is in
 abbrev pub WrongNamesAreNumbered : Type 0
 WrongNamesAreNumbered = (bytes : List ℕ) (e : Refusal) → IsWrongName bytes e → e.statement ≡ statement_number bytes e.place
 
--- the tree of that statement, among the trees of the text, holds the place
-abbrev pub WrongNamesHavePlaces : Type 0
-WrongNamesHavePlaces = (bytes : List ℕ) (e : Refusal) → IsWrongName bytes e → (trees : List StatementParts) × IsTreeOf bytes trees × IsPlacedRefusal trees e
+-- the place is a site of the tree of that statement, among the trees of the text
+abbrev pub WrongNamesAreAtSites : Type 0
+WrongNamesAreAtSites = (bytes : List ℕ) (e : Refusal) → IsWrongName bytes e → (trees : List StatementParts) × IsTreeOf bytes trees × IsPlacedRefusal trees e
 
 -- a refusal of a wrong token, or of the token at which an expression is too complex, also names the
 -- statement that its place is in

@@ -1,6 +1,6 @@
 //! Laws of script texts: which are accepted, their order, and how places are numbered. No code runs
 //! here.
-ghost use Rattle.mob_accept.specs.Numbers.{OperatorsAreNumbered, TextIsNumbered, TreesAreNumbered, TypingKeepsNumbers, TypingRefusesInside, WrongNamesHavePlaces, WrongNamesAreNumbered, WrongTokensAreNumbered};
+ghost use Rattle.mob_accept.specs.Numbers.{OperatorsAreNumbered, TextIsNumbered, TreesAreNumbered, TypingKeepsNumbers, TypingRefusesInside, WrongNamesAreAtSites, WrongNamesAreNumbered, WrongTokensAreNumbered};
 ghost use Rattle.mob_accept.specs.Outcomes.{HasOneScript, NeverTakenAndRefused, HasOneTextRefusal};
 ghost use Rattle.mob_accept.specs.Written.{AreWritten, TreesRise, TypingKeepsOrder};
 
@@ -35,11 +35,12 @@ pub fn text_is_numbered()
 {}
 
 /// A refusal of a name, a type or a token gives the number of the statement that its place is in.
-/// If the places that the trees hold are numbered by statement, so are the refusals of typing. A
-/// refusal of a name or a type has a place that the tree of its statement holds.
+/// If the sites of the trees are numbered by statement, so are the refusals of typing. A refusal of
+/// a name or a type is at a site of the tree of its statement: the place of a node, a word or a
+/// string.
 pub fn refusals_are_numbered()
     ensures typing { TypingRefusesInside }
     ensures names { WrongNamesAreNumbered }
-    ensures held { WrongNamesHavePlaces }
+    ensures sites { WrongNamesAreAtSites }
     ensures tokens { WrongTokensAreNumbered }
 {}

@@ -7,10 +7,10 @@ use Rattle.std.proofs.lemmas.Bool.{cases_Bool}
 use Rattle.mob_ast.specs.Trees.{Tree, Trees}
 use Rattle.mob_grammar.{specs.declared.mark.Mark.TheVariants.{Times, Open, Close}, specs.TokenKinds.{expression_heads}}
 use Rattle.mob_grammar.specs.Symbols.{Symbol, fixed, name, number, quoted, PlacedSymbol, sign, identifier, is_sign, is_count, is_count_symbol, counts_all, rest, starts, binding}
-use Rattle.mob_grammar.specs.Expressions.{Rank, disjunction, conjunction, negation, nullness, comparison, other as other_rank, complement, sum, product, signed, cast, primary, chains, prefixes}
+use Rattle.mob_grammar.specs.Expressions.{Rank, disjunction, chains, prefixes}
 use Rattle.mob_grammar.specs.Expressions.{Phrase, plain, inner, up, chain, prefixed, is_null, is_not_null, compared, cast_to, a_number, a_string, is_true, is_false, a_null, a_literal, a_call}
 use Rattle.mob_grammar.{specs.Expressions.{a_column, a_table_column, in_brackets, Arguments, nothing, something}, specs.Forms.{Production, Builds, ◌⇒◌, ◌▸◌, Expression, CountOrExpression}}
-use Rattle.mob_grammar.{specs.Reading.{Answer, TokenReader, ◌>>=◌, closed, expression_at, counted_at}, proofs.Steps.{token_is, passed}, proofs.Tells.{Tells, Alike, tells_token}}
+use Rattle.mob_grammar.{specs.Reading.{Answer, TokenReader, ◌>>=◌, closed, expression_at, counted_at}, proofs.Steps.{token_is, passed}, proofs.Tells.{left_of, Tells, Alike, tells_token}}
 use Rattle.mob_grammar.{proofs.Heads.{not_this, phrase_begins}, proofs.Sets.{both_true}, proofs.Complete.{Stops, stops_mark}}
 use Rattle.mob_grammar.proofs.ReadRules.{Complete, IsRead, built_keeps, read_built, read_closed, read_expression, read_then}
 
@@ -63,10 +63,6 @@ counted_alone l h = passed (counts_all l) _ _ h
 counted_all : (p q o : ℕ) (u : List PlacedSymbol) → counted_at (identifier (codes "count") p ∷ (sign Open q ∷ (sign Times o ∷ u))) ≡ closed Close (inl p) u
 unfolding counted_at
 counted_all p q o u = refl
-
-left_of : {A : Type 0} → Answer A → List PlacedSymbol
-left_of (Ok x) = x.1
-left_of (Err r) = r
 
 -- a name alone and a call without arguments are expressions
 alone_left : {l : List PlacedSymbol} {e : Tree} → Phrase disjunction l e [] → left_of (alone_at l) ≡ []
@@ -147,17 +143,7 @@ chains_no_open : (k : Rank) (t : PlacedSymbol) → chains k t ≡ true → is_si
 chains_no_open k t c h = let e = token_is Open t h in let f : chains k (sign Open t.place) ≡ true = subst (λ v. chains k v ≡ true) e c in no k t.place f where
   no : (k : Rank) (p : ℕ) → chains k (sign Open p) ≡ true → ⊥
   no disjunction p h = cc h
-  no conjunction p h = cc h
-  no other_rank p h = cc h
-  no sum p h = cc h
-  no product p h = cc h
-  no negation p h = cc h
-  no nullness p h = cc h
-  no comparison p h = cc h
-  no complement p h = cc h
-  no signed p h = cc h
-  no cast p h = cc h
-  no primary p h = cc h
+  no _ p h = cc h
 
 prefix_no_count : (k : Rank) (t : PlacedSymbol) → prefixes k t ≡ true → is_count t ≡ false
 prefix_no_count k t c = elim (cases_Bool (is_count t)) [
@@ -166,17 +152,7 @@ prefix_no_count k t c = elim (cases_Bool (is_count t)) [
 ] where
   no : (k : Rank) (p : ℕ) → prefixes k (identifier (codes "count") p) ≡ true → ⊥
   no disjunction p h = cc h
-  no conjunction p h = cc h
-  no other_rank p h = cc h
-  no sum p h = cc h
-  no product p h = cc h
-  no negation p h = cc h
-  no nullness p h = cc h
-  no comparison p h = cc h
-  no complement p h = cc h
-  no signed p h = cc h
-  no cast p h = cc h
-  no primary p h = cc h
+  no _ p h = cc h
 
 arguments_no_times : {l r : List PlacedSymbol} {es : Trees} → Arguments l es r → starts Times l ≡ false
 arguments_no_times nothing = refl

@@ -8,6 +8,10 @@ pub both_true : (b c : Bool) → cond b c false ≡ true → (b ≡ true) × (c 
 both_true true c h = (refl, h)
 both_true false c h = absurd (cc h)
 
+pub second_alone : (b c : Bool) → cond b false c ≡ true → (b ≡ false) × (c ≡ true)
+second_alone true c h = absurd (cc h)
+second_alone false c h = (refl, h)
+
 pub not_true : (b : Bool) → cond b false true ≡ true → b ≡ false
 not_true true h = absurd (cc h)
 not_true false h = refl

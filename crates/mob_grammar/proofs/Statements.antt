@@ -1,5 +1,5 @@
 -- Each production of the table fits, has no `;`, and keeps the nodes and places of its parts. So
--- scripts are read, have no more nodes than tokens, and hold places of their tokens.
+-- scripts are read, have no more nodes than tokens, and have their sites at their tokens.
 use Rattle.std.{specs.List.{AllByRecursion, flat_map, sum_by}, proofs.Common.{◌≡◌, ◌∙◌, ◌≤◌, ◌++◌, inl, inr, map, refl, sym, ap, subst, ℕ, List, [], ◌∷◌, true, false, Some, None, arith}}
 use Rattle.std.{proofs.lemmas.List.{map-append}, proofs.lemmas.List.Concat.{flat_map-append}, proofs.lemmas.List.Sums.{sum_by-cons, sum_by-append}}
 use Rattle.mob_list.proofs.Each.{each_both, each_parts}
@@ -12,7 +12,7 @@ use Rattle.mob_grammar.specs.Scripts.{sources_form, from_form, alias_form, named
 use Rattle.mob_grammar.{specs.Scripts.{group_form, order_form, limit_form, ordering_form, select_form, delete_form, explain_form, statement_form, script_form}, specs.Reading.{read}}
 use Rattle.mob_grammar.specs.Sizes.{from_nodes, HasFewNodes}
 use Rattle.mob_grammar.specs.Places.{IsWithin, nothing, other, item_places, condition_places, from_places, key_places, sort_places, statement_places, script_places, StandsAtTokens}
-use Rattle.mob_grammar.{specs.Held.{word_held, type_held, tree_held, from_held, statement_held}, proofs.Along.{Along, whole, form_along}, proofs.Forms.{Stop, fits, form_read}}
+use Rattle.mob_grammar.{specs.Sites.{word_sites, type_sites, tree_sites, from_sites, statement_sites}, proofs.Along.{Along, whole, form_along}, proofs.Forms.{Stop, fits, form_read}}
 use Rattle.mob_grammar.{proofs.Parts.{IsBuiltOf, KeepsParts}, proofs.Places.{Passes, in_front}, proofs.ReadRules.{IsRead}, proofs.Sets.{both_true}, proofs.Sizes.{form_few}}
 use Rattle.mob_grammar.proofs.Within.{within_all, within_back, within_both, within_front}
 
@@ -79,7 +79,7 @@ number_keeps = ((λ n. (omega arith, within_all _, λ P h. h)), tt)
 
 typed_keeps : KeepsParts typed_form
 unfolding typed_form
-typed_keeps = ((λ (ty, s). (omega arith, within_all _, in_front (type_held ty) s.place [])), (tt, tt))
+typed_keeps = ((λ (ty, s). (omega arith, within_all _, in_front (type_sites ty) s.place [])), (tt, tt))
 
 const_keeps : KeepsParts const_form
 unfolding const_form
@@ -125,7 +125,7 @@ second_name_keeps = (some_name_keeps, (some_name_keeps, no_word))
 
 entry_keeps : KeepsParts entry_form
 unfolding entry_form
-entry_keeps = ((λ (table, alias). (omega arith, nothing, λ P h. (h.0, each_both P (word_held alias) [] h.1 tt))), (tt, second_name_keeps))
+entry_keeps = ((λ (table, alias). (omega arith, nothing, λ P h. (h.0, each_both P (word_sites alias) [] h.1 tt))), (tt, second_name_keeps))
 
 joined_keeps : KeepsParts joined_form
 unfolding joined_form
@@ -144,7 +144,7 @@ tables_flat f [] = refl
 tables_flat f (s ∷ ss) = ap (λ u. flat_map f s ++ u) (tables_flat f ss) ∙ sym (flat_map-append f s (tables_of ss))
 
 tables_part : (ss : Meaning (many (many from))) → IsBuiltOf (many (many from)) (many from) ss (tables_of ss)
-tables_part ss = (tables_few ss, subst (IsWithin (flat_map from_places (tables_of ss))) (sym (tables_flat from_places ss)) (within_all _), λ P h. subst (AllByRecursion P) (tables_flat from_held ss) h)
+tables_part ss = (tables_few ss, subst (IsWithin (flat_map from_places (tables_of ss))) (sym (tables_flat from_places ss)) (within_all _), λ P h. subst (AllByRecursion P) (tables_flat from_sites ss) h)
 
 from_keeps : KeepsParts from_form
 unfolding from_form sources_form
@@ -164,7 +164,7 @@ item_keeps = (((λ p. (omega arith, nothing, λ P h. h)), tt), (item_part, (tt, 
 
 key_keeps : KeepsParts key_form
 unfolding key_form direction_form
-key_keeps = ((λ (value, descending). (omega arith, within_front [] (within_all _), λ P h. (each_parts P (tree_held value) [] h).0)), (tt, (no_flag false, (no_flag true, no_flag false))))
+key_keeps = ((λ (value, descending). (omega arith, within_front [] (within_all _), λ P h. (each_parts P (tree_sites value) [] h).0)), (tt, (no_flag false, (no_flag true, no_flag false))))
 
 distinct_keeps : KeepsParts distinct_form
 unfolding distinct_form
@@ -224,6 +224,6 @@ one_way : (l r : List PlacedSymbol) (ps us qs : List ℕ) → Passes l ps us r �
 one_way l r ps us qs w rest = subst (λ k. IsWithin (ps ++ qs) (map (λ t. t.place) k)) (sym w.parts) (subst (IsWithin (ps ++ qs)) (sym (map-append (λ t. t.place) w.own r)) (within_both w.places rest))
 
 pub stands_at_tokens : StandsAtTokens
-stands_at_tokens l _ (single {x = s} d) = one_way l [] (statement_places s) (statement_held s) [] (statement_along l s [] d) nothing
+stands_at_tokens l _ (single {x = s} d) = one_way l [] (statement_places s) (statement_sites s) [] (statement_along l s [] d) nothing
 stands_at_tokens l _ (several {u = u} {x = s} {xs = ss} {p = p} d ds) =
-    one_way l (sign Semicolon p ∷ u) (statement_places s) (statement_held s) (script_places ss) (statement_along l s (sign Semicolon p ∷ u) d) (other (stands_at_tokens u ss ds))
+    one_way l (sign Semicolon p ∷ u) (statement_places s) (statement_sites s) (script_places ss) (statement_along l s (sign Semicolon p ∷ u) d) (other (stands_at_tokens u ss ds))

@@ -2,7 +2,7 @@
 use Rattle.std.{specs.Prelude.{Result, Ok, Err, nat_abs}, proofs.Common.{◌≡◌, Bool, true, false, List, [], ◌∷◌, ◌++◌, refl, subst, ◌^◌}, proofs.lemmas.Bool.{and_parts, and_from, ltb-true, lt-ltb}}
 use Rattle.mob_ratio.{specs.Ratio.{Ratio}, specs.Sign.{nil}}
 use Rattle.mob_frac.{specs.Fits.{Fits}, specs.Formula.{AllFit, IsFormula, square_parts}, proofs.Fitting.{all_both, all_second}}
-use Rattle.mob_near.specs.Distances.{length_squared}
+use Rattle.mob_legs.specs.Legs.{length_squared}
 use Rattle.mob_knn.specs.Gaps.{part_fits, all_fit, exact_or_nil}
 
 fits_is : (q : Ratio) → part_fits q ≡ true → Fits q

@@ -5,7 +5,8 @@ use Rattle.mob_frac.specs.Formula.{AllFit, difference_parts, square_parts}
 use Rattle.mob_span.specs.Span.{SpanOf, InSpan}
 use Rattle.mob_plane.specs.declared.point.Point.{Point}
 use Rattle.mob_stbox.{specs.Areas.{InArea}, specs.Boxes.{BoxOf, where_both, spans_meet}, specs.declared.area.Area.{Area}}
-use Rattle.mob_near.specs.Distances.{length_squared, distance_squared}
+use Rattle.mob_legs.specs.Legs.{length_squared}
+use Rattle.mob_near.specs.Distances.{distance_squared}
 use Rattle.mob_knn.{specs.declared.gaps.kind.Gap.{Gap}, specs.declared.gaps.kind.Gap.TheVariants.{Apart, AtLeast}}
 
 -- The distance between the ranges from a to b and from c to d: the greater of the two lower ends

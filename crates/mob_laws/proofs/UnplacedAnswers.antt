@@ -9,7 +9,8 @@ use Rattle.mob_tail.{specs.Answers.{IsAnswerBy, IsAnswerOnKept, IsField, IsKey, 
 use Rattle.mob_tail.specs.Outcomes.{HasOneQueryAnswer}
 use Rattle.mob_shell.{specs.Answers.{QueryAnswers}, specs.SameAnswers.{DifferInIndexes}}
 use Rattle.mob_laws.{specs.IndexScripts.{unplaced_key, unplaced_output, unplaced_select}, proofs.Unplaced.{evaluated_bare, kept_alike}}
-use Rattle.mob_laws.proofs.UnplacedGroups.{fault_bare, groups_same, row_bare, zip_carried}
+use Rattle.mob_typing.proofs.WalkedSelects.{zip_on}
+use Rattle.mob_laws.proofs.UnplacedGroups.{fault_bare, groups_same, row_bare}
 use Rattle.mob_meaning.specs.declared.terms.Terms.{Terms}
 
 made_mapped : {X Z Y F : Type 0} (R : X → Result Y F → Type 0) (Q : Z → Result Y F → Type 0) (f : X → Z) → ((x : X) (y : Y) → R x (Ok y) → Q (f x) (Ok y)) → (xs : List X) (ys : List Y) → IsMadeOfEach R xs (Ok ys) → IsMadeOfEach Q (map f xs) (Ok ys)
@@ -53,7 +54,7 @@ module _ (q : TypedSelectParts) (store : Store) (terms : Terms) where
     (
       h.1.0,
       subst (λ (groups : List (List (List ℕ))). AllZip (IsGroupRow bare store terms) groups h.1.0) (groups_same q store terms kept)
-          (zip_carried (IsGroupRow q store terms) (IsGroupRow bare store terms) (row_bare q store terms) (groups_on q store terms kept) h.1.0 h.1.1),
+          (zip_on (IsGroupRow q store terms) (IsGroupRow bare store terms) (row_bare q store terms) (groups_on q store terms kept) h.1.0 h.1.1),
       arranged_bare h.1.0 answer h.1.2,
     ),
   )

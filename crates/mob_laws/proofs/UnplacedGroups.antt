@@ -8,6 +8,7 @@ use Rattle.mob_literal.specs.Fields.{field_text}
 use Rattle.mob_meaning.{specs.Evaluation.{PlacedFormula}, specs.Scene.{Scene, scene}}
 use Rattle.mob_groups.specs.Groups.{groups_by}
 use Rattle.mob_tagg.specs.Rows.{IsItem, IsRowFault, IsTuple, earlier}
+use Rattle.mob_typing.proofs.WalkedSelects.{zip_on}
 use Rattle.mob_arrange.specs.Keyed.{Keyed}
 use Rattle.mob_tail.specs.GroupedAnswers.{AnswerColumn, IsAddingTo, IsArgumentOf, IsArgumentOn, IsColumnValue, IsGroupRow, IsGroupedFault, columns_from, columns_of, answer_key, keys_from, answer_item}
 use Rattle.mob_tail.specs.Groups.{column_on, first_value, group_fields, groups_on, is_bare_column, same_group, same_texts}
@@ -23,12 +24,6 @@ zip_mapped R Q f each [] (y ∷ ys) h = h
 zip_mapped R Q f each (x ∷ xs) [] h = h
 zip_mapped R Q f each (x ∷ xs) (y ∷ ys) h = (each x y h.0, zip_mapped R Q f each xs ys h.1)
 
-pub zip_carried : {A C : Type 0} (R Q : A → C → Type 0) → ((x : A) (y : C) → R x y → Q x y) → (xs : List A) (ys : List C) → AllZip R xs ys → AllZip Q xs ys
-zip_carried R Q each [] [] h = h
-zip_carried R Q each [] (y ∷ ys) h = h
-zip_carried R Q each (x ∷ xs) [] h = h
-zip_carried R Q each (x ∷ xs) (y ∷ ys) h = (each x y h.0, zip_carried R Q each xs ys h.1)
-
 -- ---- no fault of adding
 
 module _ {T I J V F : Type 0} (E : T → I → Result V F → Type 0) (A : I → List V → V → Option F → Type 0) (K : T → J → Result V F → Type 0) (B : J → List V → V → Option F → Type 0) (f : I → J)
@@ -37,7 +32,7 @@ module _ {T I J V F : Type 0} (E : T → I → Result V F → Type 0) (A : I →
   item_bare group t i h = (
     h.0,
     evaluated t i h.0 h.1,
-    (h.2.0, zip_carried (λ u v. E u i (Ok v)) (λ u v. K u (f i) (Ok v)) (λ u v. evaluated u i v) group h.2.0 h.2.1, added i h.2.0 h.0 h.2.2),
+    (h.2.0, zip_on (λ u v. E u i (Ok v)) (λ u v. K u (f i) (Ok v)) (λ u v. evaluated u i v) group h.2.0 h.2.1, added i h.2.0 h.0 h.2.2),
   )
 
   items_bare : (group : List T) (t : T) (items : List I) → IsTuple E A group t items None → IsTuple K B group t (map f items) None
@@ -122,7 +117,7 @@ module _ (q : TypedSelectParts) (store : Store) (terms : Terms) where
   column_bare group (e, None) v h = h ∙ first_same group e
   column_bare group (e, Some agg) v h = (
     h.0,
-    zip_carried (λ t w. IsArgumentOn q store terms t (e, Some agg) (Ok w)) (λ t w. IsArgumentOn bare store terms t (unplaced_column (e, Some agg)) (Ok w)) (λ t w. argument_bare t (e, Some agg) w) group h.0 h.1,
+    zip_on (λ t w. IsArgumentOn q store terms t (e, Some agg) (Ok w)) (λ t w. IsArgumentOn bare store terms t (unplaced_column (e, Some agg)) (Ok w)) (λ t w. argument_bare t (e, Some agg) w) group h.0 h.1,
     h.2,
   )
 

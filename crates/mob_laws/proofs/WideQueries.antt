@@ -19,7 +19,8 @@ use Rattle.mob_join.{specs.KeptTuples.{AreThoseThatMeet}, specs.Query.{FailsBy, 
 use Rattle.mob_arrange.specs.Keyed.{Keyed}
 use Rattle.mob_tail.{specs.Answers.{IsAnswerBy, IsAnswerOnKept, IsField, IsKey, IsTupleRow}, specs.GroupedAnswers.{AnswerColumn, IsAddingTo, IsArgumentOf, IsArgumentOn, IsColumnValue, IsGroupRow, IsGroupedFault, columns_of, answer_key, keys_from, answer_item}}
 use Rattle.mob_tail.specs.Groups.{column_on, first_value, group_fields, groups_on, has_groups, same_group, same_texts}
-use Rattle.mob_laws.{proofs.UnplacedAnswers.{made_carried}, proofs.UnplacedGroups.{zip_carried}}
+use Rattle.mob_typing.proofs.WalkedSelects.{zip_on}
+use Rattle.mob_laws.proofs.UnplacedAnswers.{made_carried}
 
 -- the terms of a run in the two modes
 abbrev pub narrow_terms : ℤ → Terms
@@ -71,7 +72,7 @@ module _ (q : TypedSelectParts) (c : Catalogue) (epoch : ℤ) where
 module _ {T I V F : Type 0} (E : T → I → Result V F → Type 0) (A : I → List V → V → Option F → Type 0) (K : T → I → Result V F → Type 0) (B : I → List V → V → Option F → Type 0)
     (evaluated : (t : T) (i : I) (v : V) → E t i (Ok v) → K t i (Ok v)) (added : (i : I) (vs : List V) (v : V) → A i vs v None → B i vs v None) where
   item_wide : (group : List T) (t : T) (i : I) → IsItem E A group t i None → IsItem K B group t i None
-  item_wide group t i h = (h.0, evaluated t i h.0 h.1, (h.2.0, zip_carried (λ u v. E u i (Ok v)) (λ u v. K u i (Ok v)) (λ u v. evaluated u i v) group h.2.0 h.2.1, added i h.2.0 h.0 h.2.2))
+  item_wide group t i h = (h.0, evaluated t i h.0 h.1, (h.2.0, zip_on (λ u v. E u i (Ok v)) (λ u v. K u i (Ok v)) (λ u v. evaluated u i v) group h.2.0 h.2.1, added i h.2.0 h.0 h.2.2))
 
   items_wide : (group : List T) (t : T) (items : List I) → IsTuple E A group t items None → IsTuple K B group t items None
   items_wide group t [] h = h
@@ -151,7 +152,7 @@ module _ (q : TypedSelectParts) (store : Store) (epoch : ℤ) where
   column_wide group (e, None) v h = h ∙ first_same group e
   column_wide group (e, Some agg) v h = (
     h.0,
-    zip_carried (λ t w. IsArgumentOn q store narrow t (e, Some agg) (Ok w)) (λ t w. IsArgumentOn q store wide t (e, Some agg) (Ok w)) (λ t w. argument_wide t (e, Some agg) w) group h.0 h.1,
+    zip_on (λ t w. IsArgumentOn q store narrow t (e, Some agg) (Ok w)) (λ t w. IsArgumentOn q store wide t (e, Some agg) (Ok w)) (λ t w. argument_wide t (e, Some agg) w) group h.0 h.1,
     h.2,
   )
 
@@ -166,7 +167,7 @@ module _ (q : TypedSelectParts) (store : Store) (epoch : ℤ) where
   row_wide : (group : List (List ℕ)) (row : Keyed) → IsGroupRow q store narrow group row → IsGroupRow q store wide group row
   row_wide group row h = record {
     values = h.values;
-    made = zip_carried (IsColumnValue q store narrow group) (IsColumnValue q store wide group) (column_wide group) (columns_of q) h.values h.made;
+    made = zip_on (IsColumnValue q store narrow group) (IsColumnValue q store wide group) (column_wide group) (columns_of q) h.values h.made;
     fields = h.fields;
     keys = h.keys ∙ keys_same group h.values 0 q.keys;
   }
@@ -178,7 +179,7 @@ module _ (q : TypedSelectParts) (store : Store) (epoch : ℤ) where
     (
       h.1.0,
       subst (λ (groups : List (List (List ℕ))). AllZip (IsGroupRow q store wide) groups h.1.0) (groups_same kept)
-          (zip_carried (IsGroupRow q store narrow) (IsGroupRow q store wide) row_wide (groups_on q store narrow kept) h.1.0 h.1.1),
+          (zip_on (IsGroupRow q store narrow) (IsGroupRow q store wide) row_wide (groups_on q store narrow kept) h.1.0 h.1.1),
       h.1.2,
     ),
   )

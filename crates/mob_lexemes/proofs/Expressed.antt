@@ -11,7 +11,7 @@ use Rattle.mob_grammar.specs.Scripts.{string_form, signed_form, number_form, typ
 use Rattle.mob_grammar.specs.Scripts.{header_form, format_form, delimiter_form, options_form, copy_form, some_name_form, second_name_form, entry_form, joined_form, joins_form, source_form}
 use Rattle.mob_grammar.specs.Scripts.{sources_form, from_form, alias_form, item_form, direction_form, key_form, distinct_form, where_form, group_column_form, by_form, group_form, order_form}
 use Rattle.mob_grammar.{specs.Scripts.{limit_form, ordering_form, select_form, delete_form, explain_form, statement_form, Statement}, proofs.Forms.{begun}, proofs.Heads.{begins_mark, not_this}}
-use Rattle.mob_grammar.{proofs.Marks.{same_mark}, proofs.Sets.{both_true, not_true, begins_left, begins_right, begins_where, lies_at}}
+use Rattle.mob_grammar.{proofs.Marks.{same_mark}, proofs.Sets.{both_true, second_alone, not_true, begins_left, begins_right, begins_where, lies_at}}
 use Rattle.mob_lexemes.{specs.declared.heavy.TokenStanding.{TokenStanding}, specs.Weights.{outside, mark_counts}, specs.Heavy.{begins_expressions, ends, standing_after}}
 use Rattle.mob_lexemes.{specs.Weighed.{AllLight, HasLightExpressions, ExpressionsAreTheGrammars}, proofs.Walked.{Light, at, quiet, none_light}}
 use Rattle.mob_lexemes.proofs.Walks.{start_is, Same, follow, same_tokens, skip, skip_at, type_skips, IsStop, Stops, reset, stop, pass, pass_name, dot_calm, count_calm, Walks, walks_then, then_walks}
@@ -64,8 +64,8 @@ is_calm (separated m f) k = cond (is_quiet m) (is_calm f (only_mark m ∪ k)) fa
 abbrev end_kinds : TokenKinds
 end_kinds = only_mark Semicolon
 
--- Outside SELECT and DELETE the form has no expression. If it is the last of a statement, one of them
--- may begin in it.
+-- Outside SELECT and DELETE the form has no expression. If it is the last of a statement, one of
+-- them may begin in it.
 abbrev is_skipped : Bool → {a : Sort} → Form a → Bool
 is_skipped last (built a v) = true
 is_skipped last (mark m) = cond (begins_expressions m) false true
@@ -111,10 +111,7 @@ stop_mark : (m : Mark) → stop_kinds (of_mark m) ≡ true → IsStop (fixed m)
 stop_mark m h = by (mark_counts m) refl h where
   by : (b : Bool) → mark_counts m ≡ b → cond b false (cond (is m Open) false (ends (at 0 0) (fixed m))) ≡ true → IsStop (fixed m)
   by true e k = absurd (cc k)
-  by false e k = let n = no_open (is m Open) _ k in stop m e (λ v. n.1) n.0 where
-    no_open : (b c : Bool) → cond b false c ≡ true → (b ≡ false) × (c ≡ true)
-    no_open true c h = absurd (cc h)
-    no_open false c h = (refl, h)
+  by false e k = let n = second_alone (is m Open) _ k in stop m e (λ v. n.1) n.0
 
 stop_symbol : (x : Symbol) → stop_kinds (kind x) ≡ true → IsStop x
 stop_symbol (fixed m) h = stop_mark m h
@@ -234,10 +231,6 @@ mark_walks last m f h {p = p} {l = l} {u = u} e x r d s other = by (begins_expre
   by true i j = let t = both_true last _ j in entered m f i t.1 e x r d (s t.0)
   by false i j = then_walks (skip_at e i) (other j)
 
-not_first : (b c : Bool) → cond b false c ≡ true → (b ≡ false) × (c ≡ true)
-not_first true c h = absurd (cc h)
-not_first false c h = (refl, h)
-
 list_skips : {a : Sort} (m : Mark) (f : Form a) → begins_expressions m ≡ false → ((l : List PlacedSymbol) (x : Meaning a) (r : List PlacedSymbol) (d : Derives f l x r) → Walks (HasLightExpressions f l x r d) outside l r)
     → (l : List PlacedSymbol) (xs : List (Meaning a)) (r : List PlacedSymbol) (d : Derives (separated m f) l xs r) → Walks (AllLight m (Derives f) (HasLightExpressions f) l xs r d) outside l r
 list_skips m f h each l _ r (single {x = x} d) = each l x r d
@@ -258,12 +251,12 @@ form_skips last (both f g) h l z r (x, m, d, (y, n, e, (v, w))) s =
     walks_then (both_walk (form_skips false f t.0 l x m d (λ q. absurd (cc q))) (form_skips last g t.1 m y n e (λ q. subst IsEnd (sym w) (s q)))) (same_tokens w)
 form_skips last (behind m f) h l x r (p, u, e, d) s = mark_walks last m f h e x r d s (λ k. form_skips last f k u x r d s)
 form_skips last (ended f m) h l x r (y, u, d, (p, v, e, (w, z))) s =
-    let t = not_first (begins_expressions m) _ h in walks_then (form_skips false f t.1 l y u d (λ q. absurd (cc q))) (follow (skip_at e t.0) (same_tokens z))
+    let t = second_alone (begins_expressions m) _ h in walks_then (form_skips false f t.1 l y u d (λ q. absurd (cc q))) (follow (skip_at e t.0) (same_tokens z))
 form_skips last (choice m f g) h l x r (inl (p, u, e, d)) s = mark_walks last m f (both_true _ (is_skipped last g) h).0 e x r d s (λ k. form_skips last f k u x r d s)
 form_skips last (choice m f g) h l x r (inr d) s = form_skips last g (both_true _ (is_skipped last g) h).1 l x r d s
 form_skips last (either f g) h l x r (inl d) s = form_skips last f (both_true (is_skipped last f) (is_skipped last g) h).0 l x r d s
 form_skips last (either f g) h l x r (inr d) s = form_skips last g (both_true (is_skipped last f) (is_skipped last g) h).1 l x r d s
-form_skips last (separated m f) h l xs r d s = let t = not_first (begins_expressions m) _ h in list_skips m f t.0 (λ l x r d. form_skips false f t.1 l x r d (λ q. absurd (cc q))) l xs r d
+form_skips last (separated m f) h l xs r d s = let t = second_alone (begins_expressions m) _ h in list_skips m f t.0 (λ l x r d. form_skips false f t.1 l x r d (λ q. absurd (cc q))) l xs r d
 
 statement_skips : is_skipped true statement_form ≡ true
 unfolding string_form signed_form number_form typed_form const_form row_form column_type_form create_table_form indexed_form create_index_form create_form insert_form header_form format_form delimiter_form options_form copy_form some_name_form second_name_form entry_form joined_form joins_form source_form sources_form from_form alias_form item_form direction_form key_form distinct_form where_form group_column_form by_form group_form order_form limit_form ordering_form select_form delete_form explain_form statement_form

@@ -6,7 +6,8 @@ use Rattle.mob_plane.specs.declared.point.Point.{Point}
 use Rattle.mob_span.{specs.Pieces.{PiecesAreClear, piece_at}, proofs.SpanLemmas.{some_instant}}
 use Rattle.mob_slice.{specs.Sides.{OperandOf, side_at, pieces, given_at, has_slices}, specs.Lines.{plane_value_of}, specs.declared.line.PlaneLine.{PlaneLine}, proofs.Options.{none_some}}
 use Rattle.mob_lift.{specs.Sometime.{IsSometime}, proofs.Walking.{walked}, proofs.PieceAt.{first_at, later_at, which_at, there, found, no_common, common_by}}
-use Rattle.mob_near.{specs.Approaches.{IsNearest, IsApproach}, specs.Distances.{distance_squared}, specs.Entries.{PointPiece}, specs.Legs.{nearest_of, piece_approach}}
+use Rattle.mob_legs.specs.Legs.{PointPiece, nearest_of, piece_approach}
+use Rattle.mob_near.{specs.Approaches.{IsNearest, IsApproach}, specs.Distances.{distance_squared}}
 use Rattle.mob_near.proofs.OnPieces.{square_on, IsNearestOn}
 
 -- ---- the smaller of two

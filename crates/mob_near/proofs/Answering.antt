@@ -6,7 +6,8 @@ use Rattle.mob_plane.specs.declared.point.Point.{Point}
 use Rattle.mob_span.{specs.Pieces.{PiecesAreClear}, proofs.SpanLemmas.{some_instant}}
 use Rattle.mob_slice.{specs.Sides.{OperandOf, pieces, given_at, has_slices}, specs.Lines.{plane_value_of}, specs.declared.line.PlaneLine.{PlaneLine}, specs.declared.formula.Formula.{Formula}}
 use Rattle.mob_lift.{specs.Sometime.{HaveCommon, IsEver}, proofs.PieceAt.{no_common, common_by}}
-use Rattle.mob_near.{specs.Distances.{distance_squared, are_within}, specs.Entries.{PointPiece}, specs.Legs.{are_some}}
+use Rattle.mob_legs.specs.Legs.{PointPiece, are_some}
+use Rattle.mob_near.specs.Distances.{distance_squared, are_within}
 
 -- ---- a common instant
 -- the first step of a walk shows whether any piece exists
@@ -42,7 +43,7 @@ module _ (d : Ratio) (left right : Ratio → Option Point) where
   same_within : (s : Ratio) (x y : Point) → before d nil ≡ false → s ≡ d *ℚ d → up_to (distance_squared x y) s ≡ are_within d x y
   same_within s x y h e = rw h (ap (λ z. up_to (distance_squared x y) z) e)
 
-  ever_within_by : (s : Ratio) (r : Option Bool) → before d nil ≡ false → s ≡ d *ℚ d → IsEver (λ x y. up_to (distance_squared x y) s) left right r → IsEver (are_within d) left right r
+  pub ever_within_by : (s : Ratio) (r : Option Bool) → before d nil ≡ false → s ≡ d *ℚ d → IsEver (λ x y. up_to (distance_squared x y) s) left right r → IsEver (are_within d) left right r
   ever_within_by s None h e k = k
   ever_within_by s (Some b) h e k = (
     k.0,

@@ -7,7 +7,8 @@ use Rattle.mob_ratio.proofs.Convex.{square_le, le_mul_pos, sub_le}
 use Rattle.mob_plane.specs.declared.point.Point.{Point}
 use Rattle.mob_span.{specs.Span.{SpanOf, has}, specs.Neighbours.{is_inside}, proofs.Insides.{inside_has}, proofs.SpanLemmas.{has_upto_lower, has_upto_upper}}
 use Rattle.mob_slice.{specs.Lines.{plane_value_of}, specs.Sides.{SideOf, Moves, Stays, HoldsSide, side_at}, specs.declared.line.PlaneLine.{PlaneLine}}
-use Rattle.mob_near.{specs.Covers.{IsCovered, CoversSide, is_beyond, cover_gap}, specs.Distances.{distance_squared}, specs.declared.covers.Cover.{Cover}}
+use Rattle.mob_legs.{specs.Covers.{IsCovered, CoversSide, is_beyond, cover_gap}, specs.declared.covers.Cover.{Cover}}
+use Rattle.mob_near.specs.Distances.{distance_squared}
 
 -- ---- on one axis
 

@@ -4,7 +4,8 @@ use Rattle.mob_ratio.{specs.Gcd.{gcd, gcd_steps}, specs.Lowest.{in_lowest_terms}
 use Rattle.mob_ratio.{specs.Line.{line_at, line_value}, specs.Quadratic.{absolute}}
 use Rattle.mob_plane.specs.declared.point.Point.{Point}
 use Rattle.mob_slice.{specs.Sides.{Moves, Stays}, specs.declared.formula.Formula.TheVariants.{F1, F2, F5, F6}}
-use Rattle.mob_near.{specs.Distances.{distance_squared, are_within}, specs.Entries.{PointPiece, entries_of_within, entries_of_approach}, specs.Legs.{piece_reaches, piece_approach}}
+use Rattle.mob_legs.specs.Legs.{PointPiece, piece_reaches, piece_approach}
+use Rattle.mob_near.{specs.Distances.{distance_squared, are_within}, specs.Entries.{entries_of_within, entries_of_approach}}
 
 abbrev n : ℕ → Ratio
 n k = whole (pos k)

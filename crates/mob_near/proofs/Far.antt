@@ -3,7 +3,7 @@ use Rattle.std.{specs.Prelude.{◌≡◌, Bool, true, false, not, refl}, proofs.
 use Rattle.mob_ratio.{specs.Ratio.{Ratio, ◌*ℚ◌}, specs.Order.{before, up_to}, specs.Sign.{nil}, proofs.Order.{not-up_to-le}, proofs.Convex.{square_le}}
 use Rattle.mob_span.specs.Span.{has, has_instant}
 use Rattle.mob_slice.{specs.Sides.{side_at}, specs.Lines.{plane_value_of}}
-use Rattle.mob_near.{specs.Covers.{CoversSide, IsCovered, is_beyond, cover_gap}, specs.Entries.{PointPiece}, specs.declared.covers.Cover.{Cover}, specs.Legs.{piece_reaches, piece_approach}}
+use Rattle.mob_legs.{specs.Covers.{CoversSide, IsCovered, is_beyond, cover_gap}, specs.Legs.{PointPiece, piece_reaches, piece_approach}, specs.declared.covers.Cover.{Cover}}
 use Rattle.mob_near.{proofs.OnPieces.{IsHeld, square_on, reached_by, nearest_by}, proofs.Apart.{covered_at, gap_below, far_points}}
 
 not_both : (b : Bool) → not b ≡ true → b ≡ true → ⊥

@@ -7,8 +7,9 @@ use Rattle.mob_slice.{specs.Computed.{IsComputed}, specs.Entries.{Entry, IsFirst
 use Rattle.mob_slice.{specs.Sides.{side_parts, at_ends}, specs.declared.line.PlaneLine.{PlaneLine}, specs.declared.formula.Formula.{Formula}, specs.declared.formula.Formula.TheVariants.{F2, F5, F6}}
 use Rattle.mob_slice.{proofs.Cuts.{all_both}, proofs.JoinedFirsts.{first_joined, first_front}}
 use Rattle.mob_cells.specs.Gaps.{entries_of_ends}
-use Rattle.mob_near.{specs.Entries.{PointPiece, entries_of_squares, entries_of_reach, entries_of_within}, specs.Legs.{ends_of, leg_between, leg_parts, leg_of, squares_parts, are_some}}
-use Rattle.mob_near.specs.declared.leg.Leg.{Leg}
+use Rattle.mob_legs.specs.Legs.{PointPiece, ends_of, leg_between, leg_parts, leg_of, squares_parts, are_some}
+use Rattle.mob_near.specs.Entries.{entries_of_squares, entries_of_reach, entries_of_within}
+use Rattle.mob_legs.specs.declared.legs.Leg.{Leg}
 
 -- the differences at both ends of a piece, once the points there are known
 module _ (p : PointPiece) (l r : PlaneLine) (left : (l ≡ ends_of p.left p.span) × AllFit (at_ends (side_parts plane_parts_of p.left) p.span)) (right : (r ≡ ends_of p.right p.span) × AllFit (at_ends (side_parts plane_parts_of p.right) p.span)) where

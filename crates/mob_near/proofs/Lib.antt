@@ -1,12 +1,12 @@
-pub mod Formulas
 pub mod Place
 pub mod OnPieces
 pub mod AllNearest
 pub mod Apart
 pub mod Far
 pub mod Runs
-pub mod Broadly
 pub mod Widely
+pub mod Products
+pub mod Stretches
 pub mod Judging
 pub mod Narrowing
 pub mod Answering

@@ -5,8 +5,10 @@ use Rattle.mob_frac.{specs.Fits.{Fits}, specs.Formula.{AllFit, approach_parts, s
 use Rattle.mob_slice.{specs.Entries.{Entry, IsFirst}, specs.LineComparison.{point_gaps}, specs.Lines.{plane_value_of, plane_parts_of}, specs.Sides.{at_ends}}
 use Rattle.mob_slice.specs.declared.formula.Formula.TheVariants.{F5, F6}
 use Rattle.mob_cells.{specs.Gaps.{entries_of_ends}, specs.Roots.{as_list}}
-use Rattle.mob_near.specs.Entries.{PointPiece, gap_x, gap_y, entries_of_squares, entries_of_approach, parts_between}
-use Rattle.mob_near.{specs.Legs.{leg_of, squares_of, foot_of, is_on_the_way, leg_approach, piece_approach, nearest_of}, specs.Distances.{length_squared}, specs.Wide.{least_approach}}
+use Rattle.mob_legs.specs.Legs.{PointPiece, gap_x, gap_y}
+use Rattle.mob_near.specs.Entries.{entries_of_squares, entries_of_approach, parts_between}
+use Rattle.mob_legs.specs.Legs.{leg_of, squares_of, foot_of, is_on_the_way, leg_approach, piece_approach, nearest_of, length_squared}
+use Rattle.mob_near.specs.Wide.{least_approach}
 
 -- entries of two lists that all fit
 none_front : (xs ys : List Entry) → IsFirst (xs ++ ys) None → IsFirst xs None

@@ -5,8 +5,10 @@ use Rattle.mob_span.{specs.Span.{SpanOf, has, has_instant}, specs.Pieces.{Pieces
 use Rattle.mob_slice.{specs.Sides.{HoldsPiece, side_at}, specs.Lines.{plane_value_of}, specs.LineComparison.{plane_comparison}, specs.PlaneLaws.{plane_laws}, specs.declared.comparison.Gaps.{Gaps}}
 use Rattle.mob_slice.specs.declared.comparison.Gaps.TheVariants.{Constant, One, Two}
 use Rattle.mob_cells.proofs.AtEnds.{gaps_on}
-use Rattle.mob_near.{specs.Distances.{length_squared, distance_squared}, specs.Entries.{PointPiece}, specs.Legs.{leg_of, squares_of, leg_reaches, leg_approach, piece_reaches, piece_approach}}
-use Rattle.mob_near.{specs.declared.leg.Leg.{Leg}, proofs.Place.{square_at, reached, approached}}
+use Rattle.mob_legs.specs.Legs.{length_squared, PointPiece, leg_of, squares_of, leg_reaches, leg_approach, piece_reaches, piece_approach}
+use Rattle.mob_near.specs.Distances.{distance_squared}
+use Rattle.mob_legs.specs.declared.legs.Leg.{Leg}
+use Rattle.mob_near.proofs.Place.{square_at, reached, approached}
 
 abbrev pub IsHeld : PointPiece → Type 0
 IsHeld p = HoldsPiece (λ c. c.from) (λ c. c.to) (λ c. c.from) (λ c. c.to) p

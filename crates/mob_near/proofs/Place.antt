@@ -7,7 +7,7 @@ use Rattle.mob_ratio.{proofs.Order.{before-lt, lt-before, same_truth}, proofs.Fi
 use Rattle.mob_ratio.{proofs.Ring.{at, lit, ◌⊕◌, ◌⊗◌, ◌⊖◌}, proofs.Rings.{ring_ℚ}, proofs.Convex.{square_le, add_le, sub_lt}, proofs.QuadraticTests.{decided, bounded, inner}}
 use Rattle.mob_ratio.proofs.Absolute.{inner_test}
 use Rattle.mob_span.specs.Span.{SpanOf, has}
-use Rattle.mob_near.{specs.Distances.{length_squared}, specs.Legs.{squares_of, foot_of, leg_reaches, leg_approach}, specs.declared.leg.Leg.{Leg}}
+use Rattle.mob_legs.{specs.Legs.{length_squared, squares_of, foot_of, leg_reaches, leg_approach}, specs.declared.legs.Leg.{Leg}}
 
 -- the vector of the segment, its squared length, and its dot product with the start
 abbrev going : Ratio → Ratio → Ratio → Ratio

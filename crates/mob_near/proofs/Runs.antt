@@ -6,18 +6,19 @@ use Rattle.mob_span.{specs.Neighbours.{is_inside}, specs.Span.{SpanOf, has_insta
 use Rattle.mob_slice.{specs.Sides.{Slices, pieces}, specs.Slices.{IsSound, IsRisingInTime}, specs.declared.line.PlaneLine.{PlaneLine}, specs.declared.slice.Slice.{Slice}}
 use Rattle.mob_slice.proofs.Orders.{all_sound, ordered-clear}
 use Rattle.mob_lift.specs.Pieces.{both_move}
-use Rattle.mob_near.{specs.Covers.{CoversSlice, CoversRun, is_beyond, cover_gap, BeyondNeverReaches, GapsBoundApproaches}, specs.Legs.{piece_reaches, piece_approach}}
-use Rattle.mob_near.{specs.declared.covers.Cover.{Cover}, proofs.Far.{far_never, gap_bounds}}
+use Rattle.mob_legs.{specs.Covers.{CoversSlice, CoversRun, is_beyond, cover_gap, BeyondNeverReaches, GapsBoundApproaches}, specs.Legs.{piece_reaches, piece_approach}}
+use Rattle.mob_legs.specs.declared.covers.Cover.{Cover}
+use Rattle.mob_near.proofs.Far.{far_never, gap_bounds}
 
-each_two : {A : Type 0} (P Q : A → Type 0) (xs : List A) → AllByRecursion P xs → AllByRecursion Q xs → AllByRecursion (λ x. P x × Q x) xs
+pub each_two : {A : Type 0} (P Q : A → Type 0) (xs : List A) → AllByRecursion P xs → AllByRecursion Q xs → AllByRecursion (λ x. P x × Q x) xs
 each_two P Q [] h k = tt
 each_two P Q (x ∷ xs) h k = ((h.0, k.0), each_two P Q xs h.1 k.1)
 
-some_each : {P : Type 0} (span : P → SpanOf) (ps : List P) → PiecesAreClear span ps → AllByRecursion (λ p. has_instant (span p) ≡ true) ps
+pub some_each : {P : Type 0} (span : P → SpanOf) (ps : List P) → PiecesAreClear span ps → AllByRecursion (λ p. has_instant (span p) ≡ true) ps
 some_each span [] h = tt
 some_each span (p ∷ ps) h = (h.0, some_each span ps h.2)
 
-abbrev IsSoundLine : Slice PlaneLine → Type 0
+abbrev pub IsSoundLine : Slice PlaneLine → Type 0
 IsSoundLine s = IsSound (λ c. c.from) (λ c. c.to) s
 
 module _ (c e : Cover) (v w : List (Slice PlaneLine)) (v_order : IsRisingInTime (λ c. c.from) (λ c. c.to) v) (w_order : IsRisingInTime (λ c. c.from) (λ c. c.to) w) (left : CoversRun c v) (right : CoversRun e w) where

@@ -8,8 +8,10 @@ use Rattle.mob_span.{specs.Span.{SpanOf, has_instant}, specs.Pieces.{PiecesAreCl
 use Rattle.mob_slice.{specs.Entries.{IsJudged}, specs.Lines.{plane_value_of}, specs.Sides.{SideOf, Moves, Stays, OperandOf, given_at, has_slices, pieces}, specs.declared.formula.Formula.{Formula}}
 use Rattle.mob_slice.{specs.declared.line.PlaneLine.{PlaneLine}, specs.declared.mode.Mode.TheVariants.{Wide}, proofs.Narrowing.{given_fits}}
 use Rattle.mob_lift.{specs.Sometime.{either, IsEver}, proofs.AllPieces.{is_ever}, proofs.Walking.{IsWalking, walked}}
-use Rattle.mob_near.{specs.Approaches.{IsApproach}, specs.Distances.{distance_squared}, specs.Covers.{CoversSide, side_cover, piece_covers, is_beyond, cover_gap}, specs.Entries.{PointPiece}}
-use Rattle.mob_near.{specs.Legs.{piece_reaches, piece_approach, nearest_of}, specs.Wide.{IsGivenOf, approach_entries_in, least_approach}, proofs.AllNearest.{is_approach}}
+use Rattle.mob_legs.{specs.Covers.{CoversSide, side_cover, piece_covers, is_beyond, cover_gap}, specs.Legs.{PointPiece}}
+use Rattle.mob_near.{specs.Approaches.{IsApproach}, specs.Distances.{distance_squared}}
+use Rattle.mob_legs.specs.Legs.{piece_reaches, piece_approach, nearest_of}
+use Rattle.mob_near.{specs.Wide.{IsGivenOf, approach_entries_in, least_approach}, proofs.AllNearest.{is_approach}}
 use Rattle.mob_near.{proofs.Far.{far_never, gap_bounds}, proofs.OnPieces.{IsHeld, all_reached, all_nearest}}
 
 -- ---- the rectangles of a piece
@@ -78,7 +80,7 @@ module _ (a b m : Ratio) where
   three_by false false e f = smaller_swap m a ∙ rw (e, f) refl
 
   -- the smaller of three
-  three : smaller m (smaller a b) ≡ smaller (smaller a m) b
+  pub three : smaller m (smaller a b) ≡ smaller (smaller a m) b
   three = three_by (before b a) (before m a) refl refl
 
 abbrev or_least : Ratio → Option Ratio → Ratio

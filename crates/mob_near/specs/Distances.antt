@@ -1,11 +1,8 @@
 -- The distance of two points, and whether it is at most a given distance.
 use Rattle.std.specs.Prelude.{Bool, ◌&&◌}
-use Rattle.mob_ratio.{specs.Ratio.{Ratio, ◌+ℚ◌, ◌-ℚ◌, ◌*ℚ◌}, specs.Order.{up_to}, specs.Sign.{nil}}
+use Rattle.mob_ratio.{specs.Ratio.{Ratio, ◌-ℚ◌, ◌*ℚ◌}, specs.Order.{up_to}, specs.Sign.{nil}}
 use Rattle.mob_plane.specs.declared.point.Point.{Point}
-
--- the squared length of a vector (Pythagoras), which is always rational, unlike the length itself
-abbrev pub length_squared : Ratio → Ratio → Ratio
-length_squared x y = x *ℚ x +ℚ y *ℚ y
+use Rattle.mob_legs.specs.Legs.{length_squared}
 
 -- the squared distance of two points
 abbrev pub distance_squared : Point → Point → Ratio

@@ -1,24 +1,12 @@
 -- The formulas of nearness, on each piece that two points share, in the order in which they are
 -- checked.
 use Rattle.std.{specs.Prelude.{cond, List, [], ◌∷◌, ◌++◌}, specs.List.{flat_map}}
-use Rattle.mob_ratio.{specs.Ratio.{Ratio, ◌-ℚ◌, ◌*ℚ◌}, specs.Order.{before}, specs.Sign.{nil}}
+use Rattle.mob_ratio.{specs.Ratio.{Ratio, ◌*ℚ◌}, specs.Order.{before}, specs.Sign.{nil}}
 use Rattle.mob_frac.specs.Formula.{square_parts, distance_parts, approach_parts, within_parts}
-use Rattle.mob_plane.specs.declared.point.Point.{Point}
-use Rattle.mob_span.specs.Meets.{PieceOf}
-use Rattle.mob_slice.{specs.Entries.{Entry}, specs.Lines.{plane_value_of, plane_parts_of}, specs.LineComparison.{point_gaps}, specs.Sides.{SideOf, side_at, at_ends}}
-use Rattle.mob_slice.{specs.declared.line.PlaneLine.{PlaneLine}, specs.declared.formula.Formula.TheVariants.{F5, F6}}
+use Rattle.mob_slice.{specs.Entries.{Entry}, specs.Lines.{plane_value_of, plane_parts_of}, specs.LineComparison.{point_gaps}, specs.Sides.{at_ends}}
+use Rattle.mob_slice.specs.declared.formula.Formula.TheVariants.{F5, F6}
 use Rattle.mob_cells.specs.Gaps.{entries_of_ends}
-
--- a piece of time with two points that move linearly or stay
-abbrev pub PointPiece : Type 0
-PointPiece = PieceOf (SideOf PlaneLine Point) (SideOf PlaneLine Point)
-
--- the differences of their coordinates at t, to the east and to the north
-abbrev pub gap_x : PointPiece → Ratio → Ratio
-gap_x p t = (side_at plane_value_of p.left t).x -ℚ (side_at plane_value_of p.right t).x
-
-abbrev pub gap_y : PointPiece → Ratio → Ratio
-gap_y p t = (side_at plane_value_of p.left t).y -ℚ (side_at plane_value_of p.right t).y
+use Rattle.mob_legs.specs.Legs.{PointPiece, gap_x, gap_y}
 
 -- F1 of both points at the ends of the piece, F2, their difference there, and F6, its squared
 -- length

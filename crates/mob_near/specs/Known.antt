@@ -4,7 +4,7 @@ use Rattle.mob_ratio.specs.Ratio.{Ratio, ◌-ℚ◌}
 use Rattle.mob_frac.specs.Formula.{AllFit, square_parts}
 use Rattle.mob_plane.specs.declared.point.Point.{Point}
 use Rattle.mob_slice.{specs.Comparison.{gap_parts}, specs.LineComparison.{point_gaps}}
-use Rattle.mob_near.specs.Distances.{length_squared}
+use Rattle.mob_legs.specs.Legs.{length_squared}
 
 -- the difference of two points, to the east and to the north
 pub record ApartOf : Type 0 where

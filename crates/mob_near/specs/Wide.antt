@@ -6,7 +6,8 @@ use Rattle.mob_list.{specs.Faults.{OnCause}, specs.declared.fault.Fault.{Fault}}
 use Rattle.mob_slice.{specs.Entries.{Entry}, specs.Modes.{by_mode, entry_given}, specs.declared.formula.Formula.{Formula}, specs.declared.formula.Formula.TheVariants.{Given}}
 use Rattle.mob_slice.specs.declared.mode.Mode.{Mode}
 use Rattle.mob_cells.specs.Roots.{as_list}
-use Rattle.mob_near.{specs.Entries.{PointPiece, entries_of_within, entries_of_approach}, specs.Legs.{piece_approach, nearest_of}}
+use Rattle.mob_legs.specs.Legs.{PointPiece, piece_approach, nearest_of}
+use Rattle.mob_near.specs.Entries.{entries_of_within, entries_of_approach}
 
 -- whether two points come within a distance: in the wide mode nothing has to fit
 abbrev pub within_entries_in : Mode → Ratio → List PointPiece → List Entry

@@ -3,25 +3,10 @@ ghost use Rattle.std.specs.Prelude.{◌≡◌, ◌&&◌};
 ghost use Rattle.mob_ratio.specs.Ratio.{◌+ℚ◌, ◌-ℚ◌, ◌*ℚ◌};
 ghost use Rattle.mob_frac.specs.Formula.{IsFormula, approach_parts, within_parts};
 ghost use Rattle.mob_ratio.specs.Quadratic.{absolute};
-ghost use Rattle.mob_near.specs.Legs.{dot_parts, cross_parts, foot_by, foot_by_parts, foot_of, is_on_the_way, foot_reaches, reach_quotients, foot_square, square_quotients};
+ghost use Rattle.mob_legs.specs.Legs.{dot_parts, cross_parts, foot_by, foot_by_parts, foot_of, is_on_the_way, foot_reaches, reach_quotients, foot_square, square_quotients};
 
-use crate::leg::Leg;
 use mob_frac::{Frac, Overflow};
-
-/// The numbers that give the nearest point of the segment of a difference.
-#[derive(Clone, Copy, Drop)]
-pub struct Foot {
-    /// The squared length of the segment.
-    pub length: Frac,
-    /// The dot product of the first difference and the segment's vector: below 0 if the points
-    /// approach at the start.
-    pub along: Frac,
-    /// The dot product of the last difference and the segment's vector: above 0 if the points
-    /// recede at the end.
-    pub beyond: Frac,
-    /// The cross product of the first difference and the segment's vector.
-    pub across: Frac,
-}
+use mob_legs::{Foot, Leg};
 
 // `x·y + z·w`
 fn dot(x: &Frac, y: &Frac, z: &Frac, w: &Frac) -> Result<Frac, Overflow>

@@ -12,7 +12,7 @@ ghost use Rattle.mob_slice.specs.LineComparison.{point_gaps};
 ghost use Rattle.mob_slice.specs.Lines.{plane_value_of, plane_parts_of};
 ghost use Rattle.mob_slice.specs.Look.{IsLooked};
 ghost use Rattle.mob_slice.specs.declared.formula.Formula.TheVariants.{F1};
-ghost use Rattle.mob_near.specs.Distances.{length_squared};
+ghost use Rattle.mob_legs.specs.Legs.{length_squared};
 
 use mob_frac::{Frac, Overflow};
 use mob_lift::walks::{Found, limit_found};

@@ -10,38 +10,17 @@ ghost use Rattle.mob_slice.specs.Sides.{HoldsSide, HoldsPiece, piece_of, side_of
 ghost use Rattle.mob_slice.specs.Slices.{IsSound};
 ghost use Rattle.mob_slice.specs.declared.formula.Formula.TheVariants.{F1, F2, F6};
 ghost use Rattle.mob_cells.specs.Gaps.{entries_of_ends};
-ghost use Rattle.mob_near.specs.Legs.{ends_of, leg_between, leg_parts, leg_of, squares_of, squares_parts};
+ghost use Rattle.mob_legs.specs.Legs.{ends_of, leg_between, leg_parts, leg_of, squares_of, squares_parts};
 
 use crate::known::{
     Apart, LastFound, Squared, difference, difference_kept, point_at, square, square_kept,
 };
 use mob_frac::Frac;
+use mob_legs::{Leg, Squares};
 use mob_lift::walks::Found;
 use mob_slice::{Formula, Piece, PlaneLine, Side, Slice};
 use mob_span::Span;
 use std::alloc::Global;
-
-/// The difference of two points on a piece of time: a straight segment from (x0, y0) to (x1, y1).
-#[derive(Clone, Copy, Drop)]
-pub struct Leg {
-    /// The difference to the east at the lower end: the first point minus the second.
-    pub x0: Frac,
-    /// The difference to the north at the lower end.
-    pub y0: Frac,
-    /// The difference to the east at the upper end.
-    pub x1: Frac,
-    /// The difference to the north at the upper end.
-    pub y1: Frac,
-}
-
-/// The squared distances at both ends of a piece.
-#[derive(Clone, Copy, Drop)]
-pub struct Squares {
-    /// The squared distance at the lower end.
-    pub first: Frac,
-    /// The squared distance at the upper end.
-    pub last: Frac,
-}
 
 // The points of a slice at the two ends of a piece of its span.
 fn ends_on(

@@ -11,7 +11,7 @@ ghost use Rattle.mob_lift.specs.Sometime.{IsEver, HaveCommon};
 ghost use Rattle.mob_near.specs.Distances.{are_within, distance_squared};
 ghost use Rattle.mob_near.specs.Approaches.{IsApproach};
 ghost use Rattle.mob_near.specs.Entries.{entries_of_within, entries_of_reach, entries_of_approach};
-ghost use Rattle.mob_near.specs.Legs.{are_some, nearest_of};
+ghost use Rattle.mob_legs.specs.Legs.{are_some, nearest_of};
 
 use crate::known::nothing;
 use crate::piece::{piece_approach, piece_reaches};

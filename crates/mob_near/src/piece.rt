@@ -4,12 +4,13 @@ ghost use Rattle.mob_ratio.specs.Quadratic.{reaches_by, infimum_by};
 ghost use Rattle.mob_slice.specs.Entries.{IsDecided};
 ghost use Rattle.mob_slice.specs.Sides.{HoldsPiece, piece_of};
 ghost use Rattle.mob_near.specs.Entries.{entries_of_reach, entries_of_approach};
-ghost use Rattle.mob_near.specs.Legs.{piece_reaches, piece_approach};
+ghost use Rattle.mob_legs.specs.Legs.{piece_reaches, piece_approach};
 
 use crate::foot::{reaches_between, square_between};
 use crate::known::LastFound;
-use crate::leg::{Squares, leg_on, squares_at_ends};
+use crate::leg::{leg_on, squares_at_ends};
 use mob_frac::Frac;
+use mob_legs::Squares;
 use mob_plane::smaller;
 use mob_slice::{Formula, Piece, PlaneLine};
 use mob_span::Span;

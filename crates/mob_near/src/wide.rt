@@ -11,16 +11,16 @@ ghost use Rattle.mob_slice.specs.Sides.{HoldsPiece, given_at, has_slices, operan
 ghost use Rattle.mob_slice.specs.declared.mode.Mode.TheVariants.{Wide};
 ghost use Rattle.mob_lift.specs.Sometime.{IsEver};
 ghost use Rattle.mob_near.specs.Approaches.{IsApproach};
-ghost use Rattle.mob_near.specs.Covers.{cover_gap, is_beyond, piece_covers, range_between, is_apart_on};
+ghost use Rattle.mob_legs.specs.Covers.{cover_gap, is_beyond, piece_covers, range_between, is_apart_on};
 ghost use Rattle.mob_near.specs.Distances.{are_within, distance_squared};
-ghost use Rattle.mob_near.specs.Legs.{nearest_of, piece_approach, piece_reaches};
+ghost use Rattle.mob_legs.specs.Legs.{nearest_of, piece_approach, piece_reaches};
 ghost use Rattle.mob_near.specs.Wide.{IsGivenOf, approach_entries_in, least_approach};
 
-use crate::broad::piece::{broad_approach, broad_reaches};
 use crate::known::{LastFound, nothing, square_of};
 use crate::nearness::{never, share_time};
 use crate::piece::{piece_approach, piece_reaches};
 use mob_frac::Frac;
+use mob_legs::{broad_approach, broad_reaches};
 use mob_lift::either;
 use mob_lift::walks::Pieces;
 use mob_list::fault::Fault;
@@ -41,26 +41,6 @@ fn reaches_broadly(
     let square = square.to_broad(alloc)?;
     let here = broad_reaches(alloc, piece, &square)?;
     Ok(here)
-}
-
-// Whether the squared distance is at most `square` at some instant of the piece.
-fn reaches_wide(
-    alloc: Global,
-    piece: &Piece<'_, PlaneLine, PlaneLine>,
-    square: &Exact,
-    last: &mut LastFound,
-) -> Result<bool, AllocError>
-    requires holds { HoldsPiece (λ c. c.from) (λ c. c.to) (λ c. c.from) (λ c. c.to) (piece_of piece.now) }
-    requires square { up_to nil square.now ≡ true }
-    ensures value { IfOk result (λ b. b ≡ piece_reaches square.now (piece_of piece.now)) }
-{
-    let Some(small) = square.as_frac() else {
-        return reaches_broadly(alloc, piece, square);
-    };
-    match piece_reaches(alloc, piece, &small, last) {
-        Ok(here) => Ok(here),
-        Err(_) => reaches_broadly(alloc, piece, square),
-    }
 }
 
 // The greatest lower bound of the squared distance on the piece, in `Broad`s.
@@ -109,9 +89,9 @@ fn end_of<'a>(side: &Side<'a, PlaneLine>) -> &'a Point
     }
 }
 
-// Whether one range of coordinates ends more than `d` before another begins. If that cannot be
-// decided in `Frac`s, it is false.
-fn is_past(d: &Frac, end: &Frac, start: &Frac) -> bool
+/// Whether one range of coordinates ends more than `d` before another begins. If that cannot be
+/// decided in `Frac`s, it is false.
+pub(crate) fn is_past(d: &Frac, end: &Frac, start: &Frac) -> bool
     ensures past { result ≡ true → before (end.now +ℚ d.now) start.now ≡ true }
 {
     if !end.is_before(start) {
@@ -150,9 +130,56 @@ fn is_far(piece: &Piece<'_, PlaneLine, PlaneLine>, d: &Frac) -> bool
     is_apart_on(d, &a0.y, &a1.y, &b0.y, &b1.y)
 }
 
-// Whether the squared distance is at most `square`, that of `d`, at some instant of the piece.
+// Whether the squared distance is at most `square`, that of `d`, at some instant of a piece that
+// does not fit `Frac`s: in `Broad`s, unless the rectangles decide it.
 #[tactic(auto, using(crate::proofs::Widely::far_piece))]
-fn comes_within(
+fn comes_within_broadly(
+    alloc: Global,
+    piece: &Piece<'_, PlaneLine, PlaneLine>,
+    d: &Frac,
+    square: &Exact,
+) -> Result<bool, AllocError>
+    requires holds { HoldsPiece (λ c. c.from) (λ c. c.to) (λ c. c.from) (λ c. c.to) (piece_of piece.now) }
+    requires some { has_instant piece.now.span ≡ true }
+    requires distance { up_to nil d.now ≡ true }
+    requires square { square.now ≡ d.now *ℚ d.now }
+    ensures value { IfOk result (λ b. b ≡ piece_reaches square.now (piece_of piece.now)) }
+{
+    if is_far(piece, d) {
+        return Ok(false);
+    }
+    reaches_broadly(alloc, piece, square)
+}
+
+/// Whether the squared distance is at most `square`, that of `d`, at some instant of the piece. The
+/// piece is computed in `Frac`s, without a look at its rectangles: that serves pieces that are
+/// likely near.
+pub(crate) fn comes_within_directly(
+    alloc: Global,
+    piece: &Piece<'_, PlaneLine, PlaneLine>,
+    d: &Frac,
+    square: &Exact,
+    last: &mut LastFound,
+) -> Result<bool, AllocError>
+    requires holds { HoldsPiece (λ c. c.from) (λ c. c.to) (λ c. c.from) (λ c. c.to) (piece_of piece.now) }
+    requires some { has_instant piece.now.span ≡ true }
+    requires distance { up_to nil d.now ≡ true }
+    requires square { square.now ≡ d.now *ℚ d.now }
+    ensures value { IfOk result (λ b. b ≡ piece_reaches square.now (piece_of piece.now)) }
+{
+    let Some(small) = square.as_frac() else {
+        return comes_within_broadly(alloc, piece, d, square);
+    };
+    match piece_reaches(alloc, piece, &small, last) {
+        Ok(here) => Ok(here),
+        Err(_) => comes_within_broadly(alloc, piece, d, square),
+    }
+}
+
+/// Whether the squared distance is at most `square`, that of `d`, at some instant of the piece. A
+/// piece whose rectangles are too far apart is not computed.
+#[tactic(auto, using(crate::proofs::Widely::far_piece))]
+pub(crate) fn comes_within(
     alloc: Global,
     piece: &Piece<'_, PlaneLine, PlaneLine>,
     d: &Frac,
@@ -168,7 +195,7 @@ fn comes_within(
     if is_far(piece, d) {
         return Ok(false);
     }
-    reaches_wide(alloc, piece, square, last)
+    comes_within_directly(alloc, piece, d, square, last)
 }
 
 // Whether the squared distance is at most `square`, that of `d`, at some common instant. The walk
@@ -226,22 +253,31 @@ pub fn ever_within_wide(
     }
 }
 
+/// The distance of two ranges of coordinates, each from its least to its greatest number. It is
+/// `None` if it does not fit.
+pub(crate) fn gap_between(a0: &Frac, a1: &Frac, b0: &Frac, b1: &Frac) -> Option<Frac>
+    ensures gap { IfSome result (λ g. g ≡ range_between a0.now a1.now b0.now b1.now) }
+{
+    if a1.is_before(b0) {
+        return b0.sub(a1).ok();
+    }
+    if b1.is_before(a0) {
+        return a0.sub(b1).ok();
+    }
+    Some(Frac::zero())
+}
+
 // The distance of two ranges of coordinates, each from the one number to the other, in either
 // order. It is `None` if it does not fit.
 fn range_gap(a0: &Frac, a1: &Frac, b0: &Frac, b1: &Frac) -> Option<Frac>
     ensures gap { IfSome result (λ g. g ≡ range_between (smaller a0.now a1.now) (greater a0.now a1.now) (smaller b0.now b1.now) (greater b0.now b1.now)) }
 {
-    let a_last = greater(a0, a1);
-    let b_first = smaller(b0, b1);
-    if a_last.is_before(&b_first) {
-        return b_first.sub(&a_last).ok();
-    }
-    let b_last = greater(b0, b1);
-    let a_first = smaller(a0, a1);
-    if b_last.is_before(&a_first) {
-        return a_first.sub(&b_last).ok();
-    }
-    Some(Frac::zero())
+    gap_between(
+        &smaller(a0, a1),
+        &greater(a0, a1),
+        &smaller(b0, b1),
+        &greater(b0, b1),
+    )
 }
 
 // The squared distance of the rectangles of the two sides' slices. It is `None` if a step to it
@@ -290,6 +326,62 @@ fn smaller_exact(alloc: Global, here: Exact, found: Exact) -> Result<Exact, Allo
     Ok(here)
 }
 
+// The smaller of the result so far and that of one more piece that does not fit `Frac`s: in
+// `Broad`s, unless its rectangles are no nearer.
+#[tactic(auto, using(crate::proofs::Widely::beyond_piece))]
+fn nearer_broadly(
+    alloc: Global,
+    piece: &Piece<'_, PlaneLine, PlaneLine>,
+    found: Exact,
+) -> Result<Exact, AllocError>
+    requires holds { HoldsPiece (λ c. c.from) (λ c. c.to) (λ c. c.from) (λ c. c.to) (piece_of piece.now) }
+    requires some { has_instant piece.now.span ≡ true }
+    ensures value { IfOk result (λ m. m ≡ smaller (piece_approach (piece_of piece.now)) found) }
+{
+    let beyond = is_beyond_found(alloc, piece, &found)?;
+    if beyond {
+        return Ok(found);
+    }
+    let here = approach_broadly(alloc, piece)?;
+    smaller_exact(alloc, here, found)
+}
+
+// The smaller of the result so far and that of one more piece, which is computed in `Frac`s without
+// a look at its rectangles.
+fn nearer_than_directly(
+    alloc: Global,
+    piece: &Piece<'_, PlaneLine, PlaneLine>,
+    found: Exact,
+    last: &mut LastFound,
+) -> Result<Exact, AllocError>
+    requires holds { HoldsPiece (λ c. c.from) (λ c. c.to) (λ c. c.from) (λ c. c.to) (piece_of piece.now) }
+    requires some { has_instant piece.now.span ≡ true }
+    ensures value { IfOk result (λ m. m ≡ smaller (piece_approach (piece_of piece.now)) found) }
+{
+    match piece_approach(alloc, piece, last) {
+        Ok(here) => smaller_exact(alloc, Exact::of(&here), found),
+        Err(_) => nearer_broadly(alloc, piece, found),
+    }
+}
+
+/// The smaller of the result so far and that of one more piece, which is computed in `Frac`s
+/// without a look at its rectangles: that serves pieces that are likely near.
+pub(crate) fn nearer_directly(
+    alloc: Global,
+    piece: &Piece<'_, PlaneLine, PlaneLine>,
+    found: Option<Exact>,
+    last: &mut LastFound,
+) -> Result<Exact, AllocError>
+    requires holds { HoldsPiece (λ c. c.from) (λ c. c.to) (λ c. c.from) (λ c. c.to) (piece_of piece.now) }
+    requires some { has_instant piece.now.span ≡ true }
+    ensures value { IfOk result (λ m. m ≡ nearest_of found (piece_approach (piece_of piece.now))) }
+{
+    match found {
+        Some(found) => nearer_than_directly(alloc, piece, found, last),
+        None => approach_wide_on(alloc, piece, last),
+    }
+}
+
 // The smaller of the result so far and that of one more piece.
 #[tactic(auto, using(crate::proofs::Widely::beyond_piece))]
 fn nearer_than(
@@ -306,12 +398,12 @@ fn nearer_than(
     if beyond {
         return Ok(found);
     }
-    let here = approach_wide_on(alloc, piece, last)?;
-    smaller_exact(alloc, here, found)
+    nearer_than_directly(alloc, piece, found, last)
 }
 
-// The smaller of the result so far and that of one more piece.
-fn nearer(
+/// The smaller of the result so far and that of one more piece. A piece whose rectangles are no
+/// nearer is not computed.
+pub(crate) fn nearer(
     alloc: Global,
     piece: &Piece<'_, PlaneLine, PlaneLine>,
     found: Option<Exact>,
@@ -351,8 +443,8 @@ pub fn least_exact(
     Ok(nearest)
 }
 
-// The number, if it fits.
-fn given(alloc: Global, number: &Exact) -> Result<Option<Frac>, Fault<Formula>>
+/// The number, if it fits.
+pub(crate) fn given(alloc: Global, number: &Exact) -> Result<Option<Frac>, Fault<Formula>>
     ensures given { IsGivenOf number.now result }
 {
     let fitting = number.fitting(alloc)?;

@@ -1,44 +1,56 @@
 //! Two points, one of which moves: whether they are ever within a distance, and the square of their
-//! nearest approach.
+//! nearest approach, in 62 bits and in numbers of any size.
 
-use crate::printed::{is_answer, is_decision};
+use crate::printed::{is_answer, is_decided, is_decision, is_given};
 use mob_ast::SqlType;
 use mob_frac::Frac;
 use mob_literal::read_value;
-use mob_near::{approach_squared, ever_within};
+use mob_near::{approach_squared, approach_wide, ever_within, ever_within_wide, least_exact};
 use mob_scalar::Epoch;
 use mob_slice::{Moving, Operand, PlaneLine};
 use mob_value::Value;
-use std::alloc::Global;
+use mob_wide::Exact;
+use std::alloc::{AllocError, Global};
 
-// A moving point; the other point with its type; a distance; whether they are ever within it; the
-// square of their nearest approach.
+// How the nearest piece is computed: in fractions of 62 bits, or in numbers of any size.
+#[derive(Clone, Copy)]
+enum Path {
+    Small,
+    Large,
+}
+
+// In numbers of any size: whether two points are ever within a distance, how their nearest piece is
+// computed, and the square of their nearest approach, `given` if it does not fit.
+type Wide = (&'static str, Path, &'static str);
+
+// A moving point; the other point with its type; a distance; whether they are ever within it and
+// the square of their nearest approach, in 62 bits; the same in numbers of any size.
 type Pair = (
     &'static str,
     SqlType,
     &'static str,
     &'static str,
-    &'static str,
-    &'static str,
+    (&'static str, &'static str),
+    Wide,
 );
 
-static PAIRS: [Pair; 16] = [
+static PAIRS: [Pair; 20] = [
     // it is 3 away only at the end that is not included
     (
         "[POINT(0 0)@2000-01-01 00:00:00, POINT(10 0)@2000-01-01 00:00:10)",
         SqlType::Point,
         "POINT(13 0)",
         "3",
-        "f",
-        "9",
+        ("f", "9"),
+        ("f", Path::Small, "9"),
     ),
     (
         "[POINT(0 0)@2000-01-01 00:00:00, POINT(10 0)@2000-01-01 00:00:10]",
         SqlType::Point,
         "POINT(13 0)",
         "3",
-        "t",
-        "9",
+        ("t", "9"),
+        ("t", Path::Small, "9"),
     ),
     // side by side, 3 apart, without both ends
     (
@@ -46,8 +58,8 @@ static PAIRS: [Pair; 16] = [
         SqlType::TPoint,
         "(POINT(0 3)@2000-01-01 00:00:00, POINT(5 3)@2000-01-01 00:00:05)",
         "3",
-        "t",
-        "9",
+        ("t", "9"),
+        ("t", Path::Small, "9"),
     ),
     // nearest at 5, between the ends
     (
@@ -55,16 +67,16 @@ static PAIRS: [Pair; 16] = [
         SqlType::Point,
         "POINT(5 2)",
         "2",
-        "t",
-        "4",
+        ("t", "4"),
+        ("t", Path::Small, "4"),
     ),
     (
         "(POINT(0 0)@2000-01-01 00:00:00, POINT(10 0)@2000-01-01 00:00:10)",
         SqlType::Point,
         "POINT(5 2)",
         "1.9",
-        "f",
-        "4",
+        ("f", "4"),
+        ("f", Path::Small, "4"),
     ),
     // they cross at 4/3
     (
@@ -72,8 +84,8 @@ static PAIRS: [Pair; 16] = [
         SqlType::TPoint,
         "[POINT(4 0)@2000-01-01 00:00:00, POINT(-2 0)@2000-01-01 00:00:03]",
         "0",
-        "t",
-        "0",
+        ("t", "0"),
+        ("t", Path::Small, "0"),
     ),
     // nearest at 1/2
     (
@@ -81,8 +93,8 @@ static PAIRS: [Pair; 16] = [
         SqlType::Point,
         "POINT(1 0)",
         "0.7",
-        "f",
-        "1/2",
+        ("f", "1/2"),
+        ("f", Path::Small, "1/2"),
     ),
     // a negative distance, and no common instant
     (
@@ -90,16 +102,16 @@ static PAIRS: [Pair; 16] = [
         SqlType::Point,
         "POINT(0 0)",
         "-1",
-        "f",
-        "0",
+        ("f", "0"),
+        ("f", Path::Small, "0"),
     ),
     (
         "POINT(0 0)@2000-01-01 00:00:00",
         SqlType::TPoint,
         "POINT(0 0)@2000-01-01 00:00:01",
         "-1",
-        "NULL",
-        "NULL",
+        ("NULL", "NULL"),
+        ("NULL", Path::Small, "NULL"),
     ),
     // the nearest is in the second of three pieces
     (
@@ -107,8 +119,8 @@ static PAIRS: [Pair; 16] = [
         SqlType::Point,
         "POINT(0 0)",
         "2",
-        "f",
-        "4",
+        ("f", "4"),
+        ("f", Path::Small, "4"),
     ),
     // the square of the distance does not fit, which is computed only if there is a common instant
     (
@@ -116,16 +128,16 @@ static PAIRS: [Pair; 16] = [
         SqlType::Point,
         "POINT(1 0)",
         "2147483648",
-        "F6",
-        "1",
+        ("F6", "1"),
+        ("t", Path::Small, "1"),
     ),
     (
         "POINT(0 0)@2000-01-01 00:00:00",
         SqlType::TPoint,
         "POINT(0 0)@2000-01-01 00:00:01",
         "2147483648",
-        "NULL",
-        "NULL",
+        ("NULL", "NULL"),
+        ("NULL", Path::Small, "NULL"),
     ),
     // nor does the square of the length of the course
     (
@@ -133,8 +145,8 @@ static PAIRS: [Pair; 16] = [
         SqlType::Point,
         "POINT(0 0)",
         "1",
-        "F5",
-        "F5",
+        ("F5", "F5"),
+        ("t", Path::Large, "0"),
     ),
     // the squares at an end, and the difference
     (
@@ -142,16 +154,16 @@ static PAIRS: [Pair; 16] = [
         SqlType::Point,
         "POINT(0 0)",
         "1",
-        "F6",
-        "F6",
+        ("F6", "F6"),
+        ("t", Path::Large, "0"),
     ),
     (
         "[POINT(0 0)@2000-01-01 00:00:00, POINT(0 0)@2000-01-01 00:00:01, POINT(4611686018427387903 0)@2000-01-01 00:00:02]",
         SqlType::Point,
         "POINT(-1 0)",
         "1",
-        "F2",
-        "F2",
+        ("F2", "F2"),
+        ("t", Path::Small, "1"),
     ),
     // a negative distance has no formula
     (
@@ -159,8 +171,44 @@ static PAIRS: [Pair; 16] = [
         SqlType::Point,
         "POINT(-1 0)",
         "-1",
-        "f",
-        "F2",
+        ("f", "F2"),
+        ("f", Path::Large, "1"),
+    ),
+    // in numbers of any size: the nearest is at the excluded end of a piece that does not fit
+    (
+        "{[POINT(-2200000000 4)@2000-01-01 00:00:00, POINT(0 4)@2000-01-01 00:00:10), [POINT(5 0)@2000-01-01 00:00:20]}",
+        SqlType::Point,
+        "POINT(0 0)",
+        "4",
+        ("F6", "F6"),
+        ("f", Path::Large, "16"),
+    ),
+    // the nearest is in a piece that fits, after one that does not
+    (
+        "{[POINT(-2200000000 4)@2000-01-01 00:00:00, POINT(0 4)@2000-01-01 00:00:10), [POINT(3 0)@2000-01-01 00:00:20]}",
+        SqlType::Point,
+        "POINT(0 0)",
+        "3",
+        ("F6", "F6"),
+        ("t", Path::Small, "9"),
+    ),
+    // it is before one that does not
+    (
+        "{[POINT(0 3)@2000-01-01 00:00:00], [POINT(0 4)@2000-01-01 00:00:10, POINT(3000000000 4)@2000-01-01 00:00:20]}",
+        SqlType::Point,
+        "POINT(0 0)",
+        "2.9",
+        ("F6", "F6"),
+        ("f", Path::Small, "9"),
+    ),
+    // two ships 21 km apart: the square of their nearest approach itself does not fit
+    (
+        "[POINT(7576.4 -13366.9)@2000-01-01 00:00:21, POINT(7645 -13394.8)@2000-01-01 00:00:33]",
+        SqlType::TPoint,
+        "[POINT(4982.8 7458)@2000-01-01 00:00:16, POINT(4948.5 7423.1)@2000-01-01 00:00:26]",
+        "50",
+        ("f", "F5"),
+        ("f", Path::Large, "given"),
     ),
 ];
 
@@ -200,10 +248,98 @@ fn is_approach(alloc: Global, a: &Moving<PlaneLine>, b: &Value, wanted: &str) ->
     }
 }
 
+fn is_within_wide(
+    alloc: Global,
+    a: &Moving<PlaneLine>,
+    b: &Value,
+    distance: &Frac,
+    wanted: &str,
+) -> bool {
+    match b {
+        Value::MovingPoint(b) => is_decided(
+            ever_within_wide(alloc, Operand::Moving(a), Operand::Moving(b), distance),
+            wanted,
+        ),
+        Value::Point(b) => is_decided(
+            ever_within_wide(alloc, Operand::Fixed(b), Operand::Moving(a), distance),
+            wanted,
+        ),
+        _ => false,
+    }
+}
+
+fn is_approach_wide(alloc: Global, a: &Moving<PlaneLine>, b: &Value, wanted: &str) -> bool {
+    match b {
+        Value::MovingPoint(b) => is_given(
+            alloc,
+            approach_wide(alloc, Operand::Moving(a), Operand::Moving(b)),
+            wanted,
+        ),
+        Value::Point(b) => is_given(
+            alloc,
+            approach_wide(alloc, Operand::Moving(a), Operand::Fixed(b)),
+            wanted,
+        ),
+        _ => false,
+    }
+}
+
+// Whether the number is a `Frac` already, or a larger one, even if it fits.
+fn is_on(path: Path, number: &Exact) -> bool {
+    match path {
+        Path::Small => number.as_frac().is_some(),
+        Path::Large => number.as_frac().is_none(),
+    }
+}
+
+fn is_least(answer: Result<Option<Exact>, AllocError>, wanted: &Wide) -> bool {
+    match &answer {
+        Ok(Some(square)) => is_on(wanted.1, square),
+        Ok(None) => wanted.2 == "NULL",
+        Err(_) => false,
+    }
+}
+
+fn takes_path(alloc: Global, a: &Moving<PlaneLine>, b: &Value, wanted: &Wide) -> bool {
+    match b {
+        Value::MovingPoint(b) => is_least(
+            least_exact(alloc, Operand::Moving(a), Operand::Moving(b)),
+            wanted,
+        ),
+        Value::Point(b) => is_least(
+            least_exact(alloc, Operand::Moving(a), Operand::Fixed(b)),
+            wanted,
+        ),
+        _ => false,
+    }
+}
+
+fn is_narrow(
+    alloc: Global,
+    a: &Moving<PlaneLine>,
+    b: &Value,
+    distance: &Frac,
+    wanted: &(&'static str, &'static str),
+) -> bool {
+    is_within(alloc, a, b, distance, wanted.0) && is_approach(alloc, a, b, wanted.1)
+}
+
+fn is_wide(
+    alloc: Global,
+    a: &Moving<PlaneLine>,
+    b: &Value,
+    distance: &Frac,
+    wanted: &Wide,
+) -> bool {
+    is_within_wide(alloc, a, b, distance, wanted.0)
+        && is_approach_wide(alloc, a, b, wanted.2)
+        && takes_path(alloc, a, b, wanted)
+}
+
 fn is_by_distance(alloc: Global, a: &Moving<PlaneLine>, b: &Value, row: &Pair) -> bool {
     match &read_value(alloc, SqlType::Numeric, row.3, &Epoch::standard()) {
         Ok(Value::Number(distance)) => {
-            is_within(alloc, a, b, distance, row.4) && is_approach(alloc, a, b, row.5)
+            is_narrow(alloc, a, b, distance, &row.4) && is_wide(alloc, a, b, distance, &row.5)
         }
         _ => false,
     }

@@ -7,7 +7,7 @@ use mob_literal::write_field;
 use mob_scalar::Epoch;
 use mob_slice::{Formula, Moving, PlaneLine};
 use mob_value::Value;
-use std::alloc::Global;
+use std::alloc::{AllocError, Global};
 
 fn name(formula: Formula) -> &'static str {
     match formula {
@@ -69,5 +69,22 @@ pub fn is_answer(alloc: Global, answer: Result<Option<Frac>, Formula>, wanted: &
         Ok(Some(number)) => is_printed(alloc, &Value::Number(number), wanted),
         Ok(None) => wanted == "NULL",
         Err(passed) => wanted == name(passed),
+    }
+}
+
+pub fn is_decided(answer: Result<Option<bool>, AllocError>, wanted: &str) -> bool {
+    match answer {
+        Ok(Some(true)) => wanted == "t",
+        Ok(Some(false)) => wanted == "f",
+        Ok(None) => wanted == "NULL",
+        Err(_) => false,
+    }
+}
+
+pub fn is_given(alloc: Global, answer: Result<Option<Frac>, Fault<Formula>>, wanted: &str) -> bool {
+    match answer {
+        Ok(Some(number)) => is_printed(alloc, &Value::Number(number), wanted),
+        Ok(None) => wanted == "NULL",
+        Err(fault) => is_fault(&fault, wanted),
     }
 }

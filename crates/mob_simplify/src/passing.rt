@@ -10,7 +10,7 @@ ghost use Rattle.mob_slice.specs.Computed.{IsComputed};
 ghost use Rattle.mob_slice.specs.Entries.{IsDecided};
 ghost use Rattle.mob_slice.specs.Lines.{plane_parts_of};
 ghost use Rattle.mob_slice.specs.declared.formula.Formula.TheVariants.{F1, F2, F6};
-ghost use Rattle.mob_near.specs.Distances.{length_squared};
+ghost use Rattle.mob_legs.specs.Legs.{length_squared};
 ghost use Rattle.mob_simplify.specs.Breaks.{straight, straight_at, off_course, passes_within};
 ghost use Rattle.mob_simplify.specs.Reaches.{IsBreakReach, IsSquared, moved_at, moved_parts, part_gone, parts_gone};
 ghost use Rattle.mob_simplify.specs.Tests.{entries_of_test, tests_within};

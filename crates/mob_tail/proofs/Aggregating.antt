@@ -1,6 +1,6 @@
 -- Aggregates of values with one more.
 use Rattle.std.specs.Prelude.{◌≡◌, Bool, true, false, cond, not, ℕ, ◌+◌, pos, refl, List, [], ◌∷◌, ◌++◌, length, Option, Some, None, option_map, Result, Ok, Err, IfOk, IfErr, MatchOption}
-use Rattle.std.proofs.Common.{ap, sym, ◌∙◌, subst, inl, arith, append-nil}
+use Rattle.std.proofs.Common.{ap, sym, ◌∙◌, subst, inl, arith, append-nil, length-append}
 use Rattle.mob_ratio.{specs.Ratio.{Ratio, whole, ◌+ℚ◌}, specs.Order.{same}, proofs.Clear.{clear1, cleared}, proofs.IntRing.{linear}, proofs.Rings.{whole-add}}
 use Rattle.mob_arith.{specs.Operations.{sum_of, both_hold, one_holds}, specs.declared.sql.calculation.Calculation.TheVariants.{Sum as Added}, specs.Sql.Entries.{arithmetic_entries, parts_on}}
 use Rattle.mob_arith.specs.Sql.Calculations.{parts_by}
@@ -46,10 +46,6 @@ module _ {C B Z : Type 0} (course : CourseOf C Z) (make : List (Slice C) → Val
 
 counted_more : (n : ℕ) → whole (pos n) +ℚ whole (pos 1) ≡ whole (pos (n + 1))
 counted_more n = sym (whole-add (pos n) (pos 1))
-
-length_more : {X : Type 0} (xs : List X) (x : X) → length (xs ++ x ∷ []) ≡ length xs + 1
-length_more [] x = omega arith
-length_more (y ∷ xs) x = let e = length_more xs x in omega (arith, e)
 
 known_more : (vs : List Value) (v : Value) → is_null v ≡ false → known_of (vs ++ v ∷ []) ≡ known_of vs ++ v ∷ []
 known_more [] v e = ap (λ b. cond (not b) (v ∷ []) []) e
@@ -119,7 +115,7 @@ pub count_with : (ty : SqlType) (before v : Value) (m : Ratio) (r : Result Value
     → IsAggregateWith false CountAll ty before v r
 count_with ty before v m (Ok x) n h k l = λ vs e.
     let is = number_is before m (length vs) n e in
-    (h ∙ count_same (length vs) m is ∙ ap counted_values (sym (length_more vs v)), (before, e, (counted_values 1, refl, entries_same (length vs) m before None is e k)))
+    (h ∙ count_same (length vs) m is ∙ ap counted_values (sym (length-append vs (v ∷ []))), (before, e, (counted_values 1, refl, entries_same (length vs) m before None is e k)))
 count_with ty before v m (Err (Because f)) n h k l = λ vs e.
     let is = number_is before m (length vs) n e in
     (before, e, (counted_values 1, refl, entries_same (length vs) m before (Some f) is e l))
@@ -129,7 +125,7 @@ pub count_known_with : (ty : SqlType) (before v : Value) (m : Ratio) (r : Result
     → IsAggregateWith false Count ty before v r
 count_known_with ty before v m (Ok x) u n h k l = λ vs e.
     let is = number_is before m (length (known_of vs)) n e in
-    (h ∙ count_same (length (known_of vs)) m is ∙ ap counted_values (sym (length_more (known_of vs) v)) ∙ ap (λ z. counted_values (length z)) (sym (known_more vs v u)), (before, e, (counted_values 1, ap (λ z. counted_values (length z)) (sym (known_more [] v u)), entries_same (length (known_of vs)) m before None is e k)))
+    (h ∙ count_same (length (known_of vs)) m is ∙ ap counted_values (sym (length-append (known_of vs) (v ∷ []))) ∙ ap (λ z. counted_values (length z)) (sym (known_more vs v u)), (before, e, (counted_values 1, ap (λ z. counted_values (length z)) (sym (known_more [] v u)), entries_same (length (known_of vs)) m before None is e k)))
 count_known_with ty before v m (Err (Because f)) u n h k l = λ vs e.
     let is = number_is before m (length (known_of vs)) n e in
     (before, e, (counted_values 1, ap (λ z. counted_values (length z)) (sym (known_more [] v u)), entries_same (length (known_of vs)) m before (Some f) is e l))

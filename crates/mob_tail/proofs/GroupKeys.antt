@@ -1,7 +1,7 @@
 -- The groups of tuples by their fields, tuple by tuple.
 use Rattle.std.specs.Prelude.{◌≡◌, Bool, true, false, cond, not, ◌||◌, ℕ, zero, suc, ◌+◌, ◌<◌, refl, List, [], ◌∷◌, ◌++◌, map, filter, length, get_or, set}
 use Rattle.std.{specs.List.{AllZip, list_any, position_or_len}, specs.Cmp.{IsEquivalence}, specs.Cmp.Lexicographic.{lists_equiv, nat_list_eq_equiv}}
-use Rattle.std.proofs.Common.{ap, ap₂, sym, ◌∙◌, subst, arith, true≢false}
+use Rattle.std.{proofs.Common.{ap, ap₂, sym, ◌∙◌, subst, arith, append-nil, true≢false}, proofs.Math.Bool.{or-true}}
 use Rattle.mob_typed.{specs.Selects.{TypedSelectParts}, specs.Trees.{TypedTree}}
 use Rattle.mob_literal.specs.Fields.{field_text}
 use Rattle.mob_meaning.specs.Scene.{scene}
@@ -69,11 +69,7 @@ module _ {K : Type 0} (same : K → K → Bool) (equal : IsEquivalence same) whe
   pub any_at : {X : Type 0} (f : X → K) (xs : List X) (i : ℕ) (x : X) → i < length xs → x ≡ get_or xs i x → list_any (same (f x)) (map f xs) ≡ true
   any_at f [] i x lt is = absurd (omega (arith, lt))
   any_at f (y ∷ xs) zero x lt is = ap (λ b. b || list_any (same (f x)) (map f xs)) (ap (λ z. same (f x) (f z)) (sym is) ∙ equal.refl (f x))
-  any_at f (y ∷ xs) (suc i) x lt is = ap (λ b. same (f x) (f y) || b) (any_at f xs i x (omega (arith, lt)) is) ∙ or_true (same (f x) (f y))
-    where
-      or_true : (a : Bool) → (a || true) ≡ true
-      or_true true = refl
-      or_true false = refl
+  any_at f (y ∷ xs) (suc i) x lt is = ap (λ b. same (f x) (f y) || b) (any_at f xs i x (omega (arith, lt)) is) ∙ or-true (same (f x) (f y))
 
 pub texts_equal : IsEquivalence same_texts
 texts_equal = lists_equiv nat_list_eq_equiv
@@ -105,12 +101,8 @@ module _ (select : TypedSelectParts) (store : Store) (terms : Terms) where
   with_yes : (k : List (List ℕ)) (ts : List (List ℕ)) (t : List ℕ) → same_texts (Fields t) k ≡ true → With k (ts ++ t ∷ []) ≡ With k ts ++ t ∷ []
   with_yes k ts t h = with_more k ts t ∙ ap (λ b. With k ts ++ cond b (t ∷ []) []) (texts_equal.symm k (Fields t) ∙ h)
 
-  nothing_behind : {X : Type 0} (xs : List X) → xs ++ [] ≡ xs
-  nothing_behind [] = refl
-  nothing_behind (x ∷ xs) = ap (λ z. x ∷ z) (nothing_behind xs)
-
   with_no : (k : List (List ℕ)) (ts : List (List ℕ)) (t : List ℕ) → same_texts (Fields t) k ≡ false → With k (ts ++ t ∷ []) ≡ With k ts
-  with_no k ts t h = with_more k ts t ∙ ap (λ b. With k ts ++ cond b (t ∷ []) []) (texts_equal.symm k (Fields t) ∙ h) ∙ nothing_behind (With k ts)
+  with_no k ts t h = with_more k ts t ∙ ap (λ b. With k ts ++ cond b (t ∷ []) []) (texts_equal.symm k (Fields t) ∙ h) ∙ append-nil (With k ts)
 
   -- the tuples with the fields of t are those of its group
   pub with_earlier : (k : List (List ℕ)) (ts : List (List ℕ)) (t : List ℕ) → same_texts (Fields t) k ≡ true → With k ts ≡ earlier (same_group select store terms) ts t

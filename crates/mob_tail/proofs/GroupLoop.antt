@@ -92,14 +92,14 @@ module _ (select : TypedSelectParts) (store : Store) (terms : Terms) where
   -- ---- the loop
 
   pub record IsGroupedSoFar (kept : List (List ℕ)) (i : ℕ) (all : List Group) : Type 0 where
-    pub held : AreGroupsOf select store terms (keys_on select store terms kept) (take i kept) all
+    pub are : AreGroupsOf select store terms (keys_on select store terms kept) (take i kept) all
     pub fits : IsGroupedFault select store terms (take i kept) None
 
   -- the group of a tuple is one of the groups
   pub number_within : (kept : List (List ℕ)) (i : ℕ) (t : List ℕ) → i < length kept → t ≡ get_or kept i t → (all : List Group) → IsGroupedSoFar kept i all → number_on select store terms kept t < length all
   number_within kept i t lt is all so_far =
       let there = found_within (same_texts (group_fields select store terms t)) (keys_on select store terms kept) (key_there kept i t lt is) in
-      let long = AllZip-long _ (keys_on select store terms kept) all so_far.held in
+      let long = AllZip-long _ (keys_on select store terms kept) all so_far.are in
       omega (arith, there, long)
 
   module _ (kept : List (List ℕ)) (i : ℕ) (t : List ℕ) (lt : i < length kept) (few : length kept < 2 ^ 62) (is : t ≡ get_or kept i t) (all : List Group) (so_far : IsGroupedSoFar kept i all) (old : Group) (at : old ≡ get_or all (number_on select store terms kept t) old) where
@@ -108,18 +108,18 @@ module _ (select : TypedSelectParts) (store : Store) (terms : Terms) where
 
     pub next_grouped : (new : Group) → ((ts : List (List ℕ)) → old.first ≡ first_of ts → new.first ≡ first_of (ts ++ t ∷ [])) → AllZip (IsMemoWith (There t) (is_none old.first)) old.memos.items new.memos.items → IsGroupedSoFar kept (i + 1) (set all (number_on select store terms kept t) new)
     next_grouped new first with_ =
-        let mine = (group_there select store terms (IsGroupOf select store terms) (keys_on select store terms kept) all (take i kept) t old (key_there kept i t lt is) so_far.held at).1 in
+        let mine = (group_there select store terms (IsGroupOf select store terms) (keys_on select store terms kept) all (take i kept) t old (key_there kept i t lt is) so_far.are at).1 in
         let tuple = (group_ok (With select store terms mine.0 (take i kept)) t old new (few_before kept i mine.0 lt few) mine.2 first with_).1 in
         record {
-          held = subst (λ z. AreGroupsOf select store terms (keys_on select store terms kept) z (set all (number_on select store terms kept t) new)) (sym more)
-              (group_step select store terms (IsGroupOf select store terms) (keys_on select store terms kept) all (take i kept) t old new (keys_apart kept) (key_there kept i t lt is) so_far.held at (λ k h e. (group_ok (With select store terms k (take i kept)) t old new (few_before kept i k lt few) h first with_).0));
+          are = subst (λ z. AreGroupsOf select store terms (keys_on select store terms kept) z (set all (number_on select store terms kept t) new)) (sym more)
+              (group_step select store terms (IsGroupOf select store terms) (keys_on select store terms kept) all (take i kept) t old new (keys_apart kept) (key_there kept i t lt is) so_far.are at (λ k h e. (group_ok (With select store terms k (take i kept)) t old new (few_before kept i k lt few) h first with_).0));
           fits = subst (λ z. IsGroupedFault select store terms z None) (sym more)
               (none_more (IsArgumentOn select store terms) (IsAddingTo terms.mode) (same_group select store terms) (columns_of select) [] (take i kept) t so_far.fits (subst (λ z. IsTuple (IsArgumentOn select store terms) (IsAddingTo terms.mode) z t (columns_of select) None) (with_earlier select store terms mine.0 (take i kept) t mine.1) tuple));
         }
 
     pub fault_grouped : (f : PlacedFormula) → FailsInMemos (There t) (is_none old.first) old.memos.items f → IsGroupedFault select store terms kept (Some (t, f))
     fault_grouped f fails =
-        let mine = (group_there select store terms (IsGroupOf select store terms) (keys_on select store terms kept) all (take i kept) t old (key_there kept i t lt is) so_far.held at).1 in
+        let mine = (group_there select store terms (IsGroupOf select store terms) (keys_on select store terms kept) all (take i kept) t old (key_there kept i t lt is) so_far.are at).1 in
         let tuple = group_err (With select store terms mine.0 (take i kept)) t old f (few_before kept i mine.0 lt few) mine.2 fails in
         let whole : kept ≡ take i kept ++ t ∷ drop (i + 1) kept = sym (take-append-drop i kept) ∙ ap (λ z. take i kept ++ z) (drop_read kept i t lt is) in
         subst (λ z. IsGroupedFault select store terms z (Some (t, f))) (sym whole)

@@ -21,8 +21,8 @@ use Rattle.mob_tail.{proofs.Aggregating.{over_more, seen_steps, seen_truths, all
 -- ---- parts that together are a value
 
 module _ {B : Type 0} (is_same : B → B → Bool) (exact : (a b : B) → IsTrue (is_same a b) ↔ (a ≡ b)) (make : SteadySlices B → Value) (see : Value → Option (SteadySlices B)) (seen : (r : Option (SteadySlices B)) → see (or_nothing make r) ≡ r) (op : B → B → B) where
-  held_as : (parts : List (Part (Steady B) B)) (o : Option (SteadySlices B)) → MatchOption o (Unit {0}) (AreNormalBy (steady_course is_same)) → ((t : Ratio) → united_all op (gathered_parts steady_value parts t) ≡ slices_there steady_value o t) → AreTogether is_same make see op parts (or_nothing make o)
-  held_as parts o n e = record {
+  kept_as : (parts : List (Part (Steady B) B)) (o : Option (SteadySlices B)) → MatchOption o (Unit {0}) (AreNormalBy (steady_course is_same)) → ((t : Ratio) → united_all op (gathered_parts steady_value parts t) ≡ slices_there steady_value o t) → AreTogether is_same make see op parts (or_nothing make o)
+  kept_as parts o n e = record {
     seen = ap (or_nothing make) (sym (seen o));
     normal = subst (λ z. MatchOption z (Unit {0}) (AreNormalBy (steady_course is_same))) (sym (seen o)) n;
     at_each = λ t. e t ∙ ap (λ z. slices_there steady_value z t) (sym (seen o));
@@ -30,17 +30,17 @@ module _ {B : Type 0} (is_same : B → B → Bool) (exact : (a b : B) → IsTrue
 
   -- no parts
   pub none_together : (parts : List (Part (Steady B) B)) → parts ≡ [] → AreTogether is_same make see op parts Null
-  none_together parts e = held_as parts None tt (λ t. ap (λ z. united_all op (gathered_parts steady_value z t)) e)
+  none_together parts e = kept_as parts None tt (λ t. ap (λ z. united_all op (gathered_parts steady_value z t)) e)
 
   -- one more value among the parts
-  held_more : (parts new : List (Part (Steady B) B)) (r : Value) (w : SteadySlices B) → AreTogether is_same make see op parts r → AreNormalBy (steady_course is_same) w
+  kept_more : (parts new : List (Part (Steady B) B)) (r : Value) (w : SteadySlices B) → AreTogether is_same make see op parts r → AreNormalBy (steady_course is_same) w
       → ((t : Ratio) → united_all op (gathered_parts steady_value new t) ≡ united_by op (united_all op (gathered_parts steady_value parts t)) (value_at steady_value w t)) → (u : Value) × AreTogether is_same make see op new u × IsUnion (steady_course is_same) make op (see r) (Some w) r u
-  held_more parts new r w h n e = by (see r) h.normal (λ t. e t ∙ ap (λ z. united_by op z (value_at steady_value w t)) (h.at_each t))
+  kept_more parts new r w h n e = by (see r) h.normal (λ t. e t ∙ ap (λ z. united_by op z (value_at steady_value w t)) (h.at_each t))
     where
       by : (o : Option (SteadySlices B)) → MatchOption o (Unit {0}) (AreNormalBy (steady_course is_same)) → ((t : Ratio) → united_all op (gathered_parts steady_value new t) ≡ united_by op (slices_there steady_value o t) (value_at steady_value w t))
           → (u : Value) × AreTogether is_same make see op new u × IsUnion (steady_course is_same) make op o (Some w) r u
-      by None m f = (make w, held_as new (Some w) n f, refl)
-      by (Some v) m f = let x = normal_union is_same exact op v w m n in (make x.0, held_as new (Some x.0) x.1 (λ t. f t ∙ sym (x.2 t)), (x.0, refl, x.1, x.2))
+      by None m f = (make w, kept_as new (Some w) n f, refl)
+      by (Some v) m f = let x = normal_union is_same exact op v w m n in (make x.0, kept_as new (Some x.0) x.1 (λ t. f t ∙ sym (x.2 t)), (x.0, refl, x.1, x.2))
 
   union_none : (o : Option (SteadySlices B)) (r : Value) → IsUnion (steady_course is_same) make op o None r r
   union_none None r = refl
@@ -49,8 +49,8 @@ module _ {B : Type 0} (is_same : B → B → Bool) (exact : (a b : B) → IsTrue
   module _ {A : Type 0} (f : List A → B) (joins : JoinsBy op f) (there : Value → Ratio → Option A) where
     pub more_together : (parts new : List (Part (Steady B) B)) (vs : List Value) (r v : Value) (w : SteadySlices B) → AreTogether is_same make see op parts r → IsOverTime (steady_course is_same) make f there vs r → IsAggregate there steady_value steady_limit steady_limit (steady_course is_same).continues f (v ∷ []) (Some w)
         → ((t : Ratio) → united_all op (gathered_parts steady_value new t) ≡ united_by op (united_all op (gathered_parts steady_value parts t)) (value_at steady_value w t)) → (u : Value) × AreTogether is_same make see op new u × IsOverTime (steady_course is_same) make f there (vs ++ v ∷ []) u
-    more_together parts new vs r v w held h one e =
-        let more = held_more parts new r w held one.0 e in
+    more_together parts new vs r v w kept h one e =
+        let more = kept_more parts new r w kept one.0 e in
         (more.0, more.1, over_more (steady_course is_same) make see seen op f joins there vs r v more.0 (Some w) h one more.2)
 
     pub same_together : (vs : List Value) (r v : Value) → IsOverTime (steady_course is_same) make f there vs r → IsAggregate there steady_value steady_limit steady_limit (steady_course is_same).continues f (v ∷ []) None → IsOverTime (steady_course is_same) make f there (vs ++ v ∷ []) r
@@ -77,59 +77,59 @@ module _ {B : Type 0} (is_same : B → B → Bool) (exact : (a b : B) → IsTrue
       → ((t : Ratio) → whole_at steady_value o t ≡ united_by op (united_all op (gathered_parts steady_value parts t)) None) → or_nothing make o ≡ r
   together_is parts r o h n e = ap (or_nothing make) (one_option o (see r) n h.normal (λ t. e t ∙ left_alone (united_all op (gathered_parts steady_value parts t)) ∙ h.at_each t)) ∙ sym h.seen
 
--- ---- an aggregate held as one value
+-- ---- an aggregate kept as one value
 
-held_whole : (kind : AggKind) (v r : Value) → IsKeptIn kind (Whole v) r → (is_in_parts kind ≡ false) × (v ≡ r)
-held_whole CountAll v r h = (refl, h)
-held_whole Count v r h = (refl, h)
-held_whole Sum v r h = (refl, h)
-held_whole TSum v r h = (refl, h)
-held_whole TCount v r h = absurd h
-held_whole TAnd v r h = absurd h
-held_whole TOr v r h = absurd h
+kept_whole : (kind : AggKind) (v r : Value) → IsKeptIn kind (Whole v) r → (is_in_parts kind ≡ false) × (v ≡ r)
+kept_whole CountAll v r h = (refl, h)
+kept_whole Count v r h = (refl, h)
+kept_whole Sum v r h = (refl, h)
+kept_whole TSum v r h = (refl, h)
+kept_whole TCount v r h = absurd h
+kept_whole TAnd v r h = absurd h
+kept_whole TOr v r h = absurd h
 
-whole_held : (kind : AggKind) (v : Value) → is_in_parts kind ≡ false → IsKeptIn kind (Whole v) v
-whole_held CountAll v h = refl
-whole_held Count v h = refl
-whole_held Sum v h = refl
-whole_held TSum v h = refl
-whole_held TCount v h = absurd cc
-whole_held TAnd v h = absurd cc
-whole_held TOr v h = absurd cc
+whole_kept : (kind : AggKind) (v : Value) → is_in_parts kind ≡ false → IsKeptIn kind (Whole v) v
+whole_kept CountAll v h = refl
+whole_kept Count v h = refl
+whole_kept Sum v h = refl
+whole_kept TSum v h = refl
+whole_kept TCount v h = absurd cc
+whole_kept TAnd v h = absurd cc
+whole_kept TOr v h = absurd cc
 
 pub whole_is : (kind : AggKind) (v r : Value) → IsKeptIn kind (Whole v) r → v ≡ r
-whole_is kind v r h = (held_whole kind v r h).1
+whole_is kind v r h = (kept_whole kind v r h).1
 
 pub start_whole : (kind : AggKind) (v : Value) → is_in_parts kind ≡ false → ((ty : SqlType) → IsAggregated kind ty [] v) → IsStartState kind (Whole v)
-start_whole kind v p h = λ ty. (v, whole_held kind v p, h ty)
+start_whole kind v p h = λ ty. (v, whole_kept kind v p, h ty)
 
 whole_ok : (left_out : Bool) (kind : AggKind) (ty : SqlType) (before v w : Value) → (is_in_parts kind ≡ false → IsAggregateWith left_out kind ty before v (Ok w)) → IsStateWith left_out kind ty (Whole before) v (Ok (Whole w))
-whole_ok left_out kind ty before v w f = λ r held vs h few.
-    let is = held_whole kind before r held in
+whole_ok left_out kind ty before v w f = λ r kept vs h few.
+    let is = kept_whole kind before r kept in
     let both = f is.0 vs (subst (λ z. IsAggregated kind ty vs z) (sym is.1) h) in
-    (w, whole_held kind w is.0, both.0, both.1)
+    (w, whole_kept kind w is.0, both.0, both.1)
 
 whole_err : (left_out : Bool) (kind : AggKind) (ty : SqlType) (before v : Value) (e : Fault Formula) → (is_in_parts kind ≡ false → IsAggregateWith left_out kind ty before v (Err e)) → IsStateWith left_out kind ty (Whole before) v (Err e)
-whole_err left_out kind ty before v (Because g) f = λ r held vs h.
-    let is = held_whole kind before r held in
+whole_err left_out kind ty before v (Because g) f = λ r kept vs h.
+    let is = kept_whole kind before r kept in
     f is.0 vs (subst (λ z. IsAggregated kind ty vs z) (sym is.1) h)
 whole_err left_out kind ty before v NoMemory f = tt
 
--- one more value in an aggregate that is held as one value
+-- one more value in an aggregate that is kept as one value
 pub whole_in : (left_out : Bool) (kind : AggKind) (ty : SqlType) (before new v : Value) (r : Result (Unit {0}) (Fault Formula)) → (is_in_parts kind ≡ false → IsAggregateWith left_out kind ty before v (made_in r new)) → IsStateWith left_out kind ty (Whole before) v (made_in r (Whole new))
 whole_in left_out kind ty before new v (Ok u) f = whole_ok left_out kind ty before v new f
 whole_in left_out kind ty before new v (Err e) f = whole_err left_out kind ty before v e f
 
 -- a value that is ignored
 pub left_out_state : (kind : AggKind) (ty : SqlType) (s : State) (v : Value) → true ≡ leaves_out kind v → IsStateWith (leaves_out kind v) kind ty s v (Ok s)
-left_out_state kind ty s v e = λ r held vs h few. let both = left_out_with kind ty r v e vs h in (r, held, both.0, both.1)
+left_out_state kind ty s v e = λ r kept vs h few. let both = left_out_with kind ty r v e vs h in (r, kept, both.0, both.1)
 
--- ---- an aggregate held in parts
+-- ---- an aggregate kept in parts
 
-not_held : (left_out : Bool) (kind : AggKind) (ty : SqlType) (s : State) (v : Value) (r : Result State (Fault Formula)) → ((x : Value) → IsKeptIn kind s x → ⊥) → IsStateWith left_out kind ty s v r
-not_held left_out kind ty s v (Ok x) never = λ r held. absurd (never r held)
-not_held left_out kind ty s v (Err (Because f)) never = λ r held. absurd (never r held)
-not_held left_out kind ty s v (Err NoMemory) never = tt
+not_kept : (left_out : Bool) (kind : AggKind) (ty : SqlType) (s : State) (v : Value) (r : Result State (Fault Formula)) → ((x : Value) → IsKeptIn kind s x → ⊥) → IsStateWith left_out kind ty s v r
+not_kept left_out kind ty s v (Ok x) never = λ r kept. absurd (never r kept)
+not_kept left_out kind ty s v (Err (Because f)) never = λ r kept. absurd (never r kept)
+not_kept left_out kind ty s v (Err NoMemory) never = tt
 
 abbrev CountParts : Type 0
 CountParts = List (Part (Steady Ratio) Ratio)
@@ -137,60 +137,60 @@ CountParts = List (Part (Steady Ratio) Ratio)
 abbrev TruthParts : Type 0
 TruthParts = List (Part (Steady Bool) Bool)
 
-counts_held : (kind : AggKind) (parts : CountParts) (r : Value) → IsKeptIn kind (Counts parts) r → AreTogether same MovingInt steps_of sum_of parts r
-counts_held TCount parts r h = h
-counts_held CountAll parts r h = absurd h
-counts_held Count parts r h = absurd h
-counts_held Sum parts r h = absurd h
-counts_held TSum parts r h = absurd h
-counts_held TAnd parts r h = absurd h
-counts_held TOr parts r h = absurd h
+counts_kept : (kind : AggKind) (parts : CountParts) (r : Value) → IsKeptIn kind (Counts parts) r → AreTogether same MovingInt steps_of sum_of parts r
+counts_kept TCount parts r h = h
+counts_kept CountAll parts r h = absurd h
+counts_kept Count parts r h = absurd h
+counts_kept Sum parts r h = absurd h
+counts_kept TSum parts r h = absurd h
+counts_kept TAnd parts r h = absurd h
+counts_kept TOr parts r h = absurd h
 
-all_held : (kind : AggKind) (parts : TruthParts) (r : Value) → IsKeptIn kind (All parts) r → AreTogether same_bool MovingBool truths_of both_hold parts r
-all_held TAnd parts r h = h
-all_held CountAll parts r h = absurd h
-all_held Count parts r h = absurd h
-all_held Sum parts r h = absurd h
-all_held TSum parts r h = absurd h
-all_held TCount parts r h = absurd h
-all_held TOr parts r h = absurd h
+all_kept : (kind : AggKind) (parts : TruthParts) (r : Value) → IsKeptIn kind (All parts) r → AreTogether same_bool MovingBool truths_of both_hold parts r
+all_kept TAnd parts r h = h
+all_kept CountAll parts r h = absurd h
+all_kept Count parts r h = absurd h
+all_kept Sum parts r h = absurd h
+all_kept TSum parts r h = absurd h
+all_kept TCount parts r h = absurd h
+all_kept TOr parts r h = absurd h
 
-any_held : (kind : AggKind) (parts : TruthParts) (r : Value) → IsKeptIn kind (Any parts) r → AreTogether same_bool MovingBool truths_of one_holds parts r
-any_held TOr parts r h = h
-any_held CountAll parts r h = absurd h
-any_held Count parts r h = absurd h
-any_held Sum parts r h = absurd h
-any_held TSum parts r h = absurd h
-any_held TCount parts r h = absurd h
-any_held TAnd parts r h = absurd h
+any_kept : (kind : AggKind) (parts : TruthParts) (r : Value) → IsKeptIn kind (Any parts) r → AreTogether same_bool MovingBool truths_of one_holds parts r
+any_kept TOr parts r h = h
+any_kept CountAll parts r h = absurd h
+any_kept Count parts r h = absurd h
+any_kept Sum parts r h = absurd h
+any_kept TSum parts r h = absurd h
+any_kept TCount parts r h = absurd h
+any_kept TAnd parts r h = absurd h
 
--- what holds of the one kind that is held like this holds of every kind
+-- what holds of the one kind that is kept like this holds of every kind
 pub counts_at : (kind : AggKind) (ty : SqlType) (parts : CountParts) (v : Value) (r : Result State (Fault Formula)) → false ≡ leaves_out kind v → IsStateWith false TCount ty (Counts parts) v r → IsStateWith (leaves_out kind v) kind ty (Counts parts) v r
 counts_at TCount ty parts v r e h = subst (λ b. IsStateWith b TCount ty (Counts parts) v r) e h
-counts_at CountAll ty parts v r e h = not_held (leaves_out CountAll v) CountAll ty (Counts parts) v r (λ x k. k)
-counts_at Count ty parts v r e h = not_held (leaves_out Count v) Count ty (Counts parts) v r (λ x k. k)
-counts_at Sum ty parts v r e h = not_held (leaves_out Sum v) Sum ty (Counts parts) v r (λ x k. k)
-counts_at TSum ty parts v r e h = not_held (leaves_out TSum v) TSum ty (Counts parts) v r (λ x k. k)
-counts_at TAnd ty parts v r e h = not_held (leaves_out TAnd v) TAnd ty (Counts parts) v r (λ x k. k)
-counts_at TOr ty parts v r e h = not_held (leaves_out TOr v) TOr ty (Counts parts) v r (λ x k. k)
+counts_at CountAll ty parts v r e h = not_kept (leaves_out CountAll v) CountAll ty (Counts parts) v r (λ x k. k)
+counts_at Count ty parts v r e h = not_kept (leaves_out Count v) Count ty (Counts parts) v r (λ x k. k)
+counts_at Sum ty parts v r e h = not_kept (leaves_out Sum v) Sum ty (Counts parts) v r (λ x k. k)
+counts_at TSum ty parts v r e h = not_kept (leaves_out TSum v) TSum ty (Counts parts) v r (λ x k. k)
+counts_at TAnd ty parts v r e h = not_kept (leaves_out TAnd v) TAnd ty (Counts parts) v r (λ x k. k)
+counts_at TOr ty parts v r e h = not_kept (leaves_out TOr v) TOr ty (Counts parts) v r (λ x k. k)
 
 all_at : (kind : AggKind) (ty : SqlType) (parts : TruthParts) (v : Value) (r : Result State (Fault Formula)) → false ≡ leaves_out kind v → IsStateWith false TAnd ty (All parts) v r → IsStateWith (leaves_out kind v) kind ty (All parts) v r
 all_at TAnd ty parts v r e h = subst (λ b. IsStateWith b TAnd ty (All parts) v r) e h
-all_at CountAll ty parts v r e h = not_held (leaves_out CountAll v) CountAll ty (All parts) v r (λ x k. k)
-all_at Count ty parts v r e h = not_held (leaves_out Count v) Count ty (All parts) v r (λ x k. k)
-all_at Sum ty parts v r e h = not_held (leaves_out Sum v) Sum ty (All parts) v r (λ x k. k)
-all_at TSum ty parts v r e h = not_held (leaves_out TSum v) TSum ty (All parts) v r (λ x k. k)
-all_at TCount ty parts v r e h = not_held (leaves_out TCount v) TCount ty (All parts) v r (λ x k. k)
-all_at TOr ty parts v r e h = not_held (leaves_out TOr v) TOr ty (All parts) v r (λ x k. k)
+all_at CountAll ty parts v r e h = not_kept (leaves_out CountAll v) CountAll ty (All parts) v r (λ x k. k)
+all_at Count ty parts v r e h = not_kept (leaves_out Count v) Count ty (All parts) v r (λ x k. k)
+all_at Sum ty parts v r e h = not_kept (leaves_out Sum v) Sum ty (All parts) v r (λ x k. k)
+all_at TSum ty parts v r e h = not_kept (leaves_out TSum v) TSum ty (All parts) v r (λ x k. k)
+all_at TCount ty parts v r e h = not_kept (leaves_out TCount v) TCount ty (All parts) v r (λ x k. k)
+all_at TOr ty parts v r e h = not_kept (leaves_out TOr v) TOr ty (All parts) v r (λ x k. k)
 
 any_at : (kind : AggKind) (ty : SqlType) (parts : TruthParts) (v : Value) (r : Result State (Fault Formula)) → false ≡ leaves_out kind v → IsStateWith false TOr ty (Any parts) v r → IsStateWith (leaves_out kind v) kind ty (Any parts) v r
 any_at TOr ty parts v r e h = subst (λ b. IsStateWith b TOr ty (Any parts) v r) e h
-any_at CountAll ty parts v r e h = not_held (leaves_out CountAll v) CountAll ty (Any parts) v r (λ x k. k)
-any_at Count ty parts v r e h = not_held (leaves_out Count v) Count ty (Any parts) v r (λ x k. k)
-any_at Sum ty parts v r e h = not_held (leaves_out Sum v) Sum ty (Any parts) v r (λ x k. k)
-any_at TSum ty parts v r e h = not_held (leaves_out TSum v) TSum ty (Any parts) v r (λ x k. k)
-any_at TCount ty parts v r e h = not_held (leaves_out TCount v) TCount ty (Any parts) v r (λ x k. k)
-any_at TAnd ty parts v r e h = not_held (leaves_out TAnd v) TAnd ty (Any parts) v r (λ x k. k)
+any_at CountAll ty parts v r e h = not_kept (leaves_out CountAll v) CountAll ty (Any parts) v r (λ x k. k)
+any_at Count ty parts v r e h = not_kept (leaves_out Count v) Count ty (Any parts) v r (λ x k. k)
+any_at Sum ty parts v r e h = not_kept (leaves_out Sum v) Sum ty (Any parts) v r (λ x k. k)
+any_at TSum ty parts v r e h = not_kept (leaves_out TSum v) TSum ty (Any parts) v r (λ x k. k)
+any_at TCount ty parts v r e h = not_kept (leaves_out TCount v) TCount ty (Any parts) v r (λ x k. k)
+any_at TAnd ty parts v r e h = not_kept (leaves_out TAnd v) TAnd ty (Any parts) v r (λ x k. k)
 
 -- ---- one more value
 
@@ -199,35 +199,35 @@ counted_as : (ty : SqlType) (v : Value) (o : Option (SteadySlices Ratio)) → Is
 counted_as ty v o a = subst (λ z. IsAggregate one_there steady_value steady_limit steady_limit (steady_course same).continues count (v ∷ []) z) (sym (sym (seen_steps o) ∙ ap steps_of a.2 ∙ seen_steps a.0)) a.1
 
 counts_more : (ty : SqlType) (parts new : CountParts) (v : Value) (w : SteadySlices Ratio) → IsAggregated TCount ty (v ∷ []) (MovingInt w) → IsOneMore sum_of parts new w → IsStateWith false TCount ty (Counts parts) v (Ok (Counts new))
-counts_more ty parts new v w a e = λ r held vs h few.
-    let more = more_together same same_exact MovingInt steps_of seen_steps sum_of count count_joins one_there parts new vs r v w held h (counted_as ty v (Some w) a) e in
+counts_more ty parts new v w a e = λ r kept vs h few.
+    let more = more_together same same_exact MovingInt steps_of seen_steps sum_of count count_joins one_there parts new vs r v w kept h (counted_as ty v (Some w) a) e in
     (more.0, more.1, more.2, (r, h, (MovingInt w, a, count_fits TCount ty vs v r (MovingInt w) refl few h a)))
 
 pub counts_same : (ty : SqlType) (parts : CountParts) (v : Value) → IsAggregated TCount ty (v ∷ []) Null → IsStateWith false TCount ty (Counts parts) v (Ok (Counts parts))
-counts_same ty parts v a = λ r held vs h few.
-    (r, held, same_together same same_exact MovingInt steps_of seen_steps sum_of count count_joins one_there vs r v h (counted_as ty v None a), (r, h, (Null, a, count_fits TCount ty vs v r Null refl few h a)))
+counts_same ty parts v a = λ r kept vs h few.
+    (r, kept, same_together same same_exact MovingInt steps_of seen_steps sum_of count count_joins one_there vs r v h (counted_as ty v None a), (r, h, (Null, a, count_fits TCount ty vs v r Null refl few h a)))
 
 all_more : (ty : SqlType) (parts new : TruthParts) (v : Value) (w : SteadySlices Bool) → truths_of v ≡ Some w → AreNormalBy (steady_course same_bool) w → IsOneMore both_hold parts new w → IsStateWith false TAnd ty (All parts) v (Ok (All new))
-all_more ty parts new v w is n e = λ r held vs h few.
+all_more ty parts new v w is n e = λ r kept vs h few.
     let one = all_alone v (subst (λ z. MatchOption z (Unit {0}) (AreNormalBy (steady_course same_bool))) (sym is) n) in
-    let more = more_together same_bool same_bool_exact MovingBool truths_of seen_truths both_hold all_hold all_joins truth_there parts new vs r v w held h (subst (λ z. IsAggregate truth_there steady_value steady_limit steady_limit (steady_course same_bool).continues all_hold (v ∷ []) z) is one) e in
+    let more = more_together same_bool same_bool_exact MovingBool truths_of seen_truths both_hold all_hold all_joins truth_there parts new vs r v w kept h (subst (λ z. IsAggregate truth_there steady_value steady_limit steady_limit (steady_course same_bool).continues all_hold (v ∷ []) z) is one) e in
     (more.0, more.1, more.2, (r, h, (or_nothing MovingBool (truths_of v), (truths_of v, one, refl), refl)))
 
 all_same : (ty : SqlType) (parts : TruthParts) (v : Value) → truths_of v ≡ None → IsStateWith false TAnd ty (All parts) v (Ok (All parts))
-all_same ty parts v is = λ r held vs h few.
+all_same ty parts v is = λ r kept vs h few.
     let one = all_alone v (subst (λ z. MatchOption z (Unit {0}) (AreNormalBy (steady_course same_bool))) (sym is) tt) in
-    (r, held, same_together same_bool same_bool_exact MovingBool truths_of seen_truths both_hold all_hold all_joins truth_there vs r v h (subst (λ z. IsAggregate truth_there steady_value steady_limit steady_limit (steady_course same_bool).continues all_hold (v ∷ []) z) is one), (r, h, (or_nothing MovingBool (truths_of v), (truths_of v, one, refl), refl)))
+    (r, kept, same_together same_bool same_bool_exact MovingBool truths_of seen_truths both_hold all_hold all_joins truth_there vs r v h (subst (λ z. IsAggregate truth_there steady_value steady_limit steady_limit (steady_course same_bool).continues all_hold (v ∷ []) z) is one), (r, h, (or_nothing MovingBool (truths_of v), (truths_of v, one, refl), refl)))
 
 any_more : (ty : SqlType) (parts new : TruthParts) (v : Value) (w : SteadySlices Bool) → truths_of v ≡ Some w → AreNormalBy (steady_course same_bool) w → IsOneMore one_holds parts new w → IsStateWith false TOr ty (Any parts) v (Ok (Any new))
-any_more ty parts new v w is n e = λ r held vs h few.
+any_more ty parts new v w is n e = λ r kept vs h few.
     let one = some_alone v (subst (λ z. MatchOption z (Unit {0}) (AreNormalBy (steady_course same_bool))) (sym is) n) in
-    let more = more_together same_bool same_bool_exact MovingBool truths_of seen_truths one_holds some_holds some_joins truth_there parts new vs r v w held h (subst (λ z. IsAggregate truth_there steady_value steady_limit steady_limit (steady_course same_bool).continues some_holds (v ∷ []) z) is one) e in
+    let more = more_together same_bool same_bool_exact MovingBool truths_of seen_truths one_holds some_holds some_joins truth_there parts new vs r v w kept h (subst (λ z. IsAggregate truth_there steady_value steady_limit steady_limit (steady_course same_bool).continues some_holds (v ∷ []) z) is one) e in
     (more.0, more.1, more.2, (r, h, (or_nothing MovingBool (truths_of v), (truths_of v, one, refl), refl)))
 
 any_same : (ty : SqlType) (parts : TruthParts) (v : Value) → truths_of v ≡ None → IsStateWith false TOr ty (Any parts) v (Ok (Any parts))
-any_same ty parts v is = λ r held vs h few.
+any_same ty parts v is = λ r kept vs h few.
     let one = some_alone v (subst (λ z. MatchOption z (Unit {0}) (AreNormalBy (steady_course same_bool))) (sym is) tt) in
-    (r, held, same_together same_bool same_bool_exact MovingBool truths_of seen_truths one_holds some_holds some_joins truth_there vs r v h (subst (λ z. IsAggregate truth_there steady_value steady_limit steady_limit (steady_course same_bool).continues some_holds (v ∷ []) z) is one), (r, h, (or_nothing MovingBool (truths_of v), (truths_of v, one, refl), refl)))
+    (r, kept, same_together same_bool same_bool_exact MovingBool truths_of seen_truths one_holds some_holds some_joins truth_there vs r v h (subst (λ z. IsAggregate truth_there steady_value steady_limit steady_limit (steady_course same_bool).continues some_holds (v ∷ []) z) is one), (r, h, (or_nothing MovingBool (truths_of v), (truths_of v, one, refl), refl)))
 
 -- what a step of each of these makes of the parts
 pub counts_step : (ty : SqlType) (parts new : CountParts) (v : Value) (w : SteadySlices Ratio) (r : Result (Unit {0}) (Fault Formula)) → IsAggregated TCount ty (v ∷ []) (MovingInt w) → OnOk r (IsOneMore sum_of parts new w) → IfErr r (λ e. e ≡ NoMemory) → IsStateWith false TCount ty (Counts parts) v (made_in r (Counts new))
@@ -264,10 +264,10 @@ start_any parts e = λ ty. (Null, none_together same_bool same_bool_exact Moving
 -- ---- the value of a state
 
 pub counts_is : (kind : AggKind) (parts : CountParts) (r : Value) (o : Option (SteadySlices Ratio)) → IsKeptIn kind (Counts parts) r → MatchOption o (Unit {0}) (AreNormalBy (steady_course same)) → ((t : Ratio) → whole_at steady_value o t ≡ united_by sum_of (united_all sum_of (gathered_parts steady_value parts t)) None) → or_nothing MovingInt o ≡ r
-counts_is kind parts r o h n e = together_is same same_exact MovingInt steps_of seen_steps sum_of parts r o (counts_held kind parts r h) n e
+counts_is kind parts r o h n e = together_is same same_exact MovingInt steps_of seen_steps sum_of parts r o (counts_kept kind parts r h) n e
 
 pub all_is : (kind : AggKind) (parts : TruthParts) (r : Value) (o : Option (SteadySlices Bool)) → IsKeptIn kind (All parts) r → MatchOption o (Unit {0}) (AreNormalBy (steady_course same_bool)) → ((t : Ratio) → whole_at steady_value o t ≡ united_by both_hold (united_all both_hold (gathered_parts steady_value parts t)) None) → or_nothing MovingBool o ≡ r
-all_is kind parts r o h n e = together_is same_bool same_bool_exact MovingBool truths_of seen_truths both_hold parts r o (all_held kind parts r h) n e
+all_is kind parts r o h n e = together_is same_bool same_bool_exact MovingBool truths_of seen_truths both_hold parts r o (all_kept kind parts r h) n e
 
 pub any_is : (kind : AggKind) (parts : TruthParts) (r : Value) (o : Option (SteadySlices Bool)) → IsKeptIn kind (Any parts) r → MatchOption o (Unit {0}) (AreNormalBy (steady_course same_bool)) → ((t : Ratio) → whole_at steady_value o t ≡ united_by one_holds (united_all one_holds (gathered_parts steady_value parts t)) None) → or_nothing MovingBool o ≡ r
-any_is kind parts r o h n e = together_is same_bool same_bool_exact MovingBool truths_of seen_truths one_holds parts r o (any_held kind parts r h) n e
+any_is kind parts r o h n e = together_is same_bool same_bool_exact MovingBool truths_of seen_truths one_holds parts r o (any_kept kind parts r h) n e

@@ -11,10 +11,6 @@ use Rattle.mob_tail.{specs.GroupSteps.{column_seen, IsColumnWith, IsMemoWith, Fa
 use Rattle.mob_operators.{specs.declared.aggregate.AggKind.{AggKind}, specs.declared.aggregate.AggKind.TheVariants.{CountAll}}
 use Rattle.mob_meaning.specs.declared.terms.Terms.{Terms}
 
-pub length_more : {A : Type 0} (xs : List A) (x : A) → length (xs ++ x ∷ []) ≡ length xs + 1
-length_more [] x = omega arith
-length_more (y ∷ xs) x = let e = length_more xs x in omega (arith, e)
-
 -- the results for the entries up to one, and for that one
 pub map_more : {A B : Type 0} (f : A → B) (xs : List A) (i : ℕ) (x : A) → i < length xs → x ≡ get_or xs i x → map f (take i xs) ++ f x ∷ [] ≡ map f (take (i + 1) xs)
 map_more f xs i x lt is = sym (ap (map f) (take_more xs i x lt ∙ ap (λ z. take i xs ++ z ∷ []) (sym is)) ∙ map-append f (take i xs) (x ∷ []))
@@ -86,6 +82,6 @@ fails_at s first zero (a ∷ old) (b ∷ now) c f lt is h k = inl (subst (λ z. 
 fails_at s first (suc n) (a ∷ old) (b ∷ now) c f lt is h k = inr (b.state, h.0.state, fails_at s first n old now c f (omega (arith, lt)) is h.1 k)
 
 -- a value of the state, if it is so for each kind
-pub held_value : (c : AnswerColumn) (x : State) (r : Value) → IsKeptOf c x r → (v : Value) → ((kind : AggKind) (r : Value) → IsKeptIn kind x r → v ≡ r) → v ≡ r
-held_value (e, None) x r h v f = f CountAll r (subst (λ z. IsKeptIn CountAll z r) (sym h) refl)
-held_value (e, Some agg) x r h v f = f agg.kind r h
+pub kept_value : (c : AnswerColumn) (x : State) (r : Value) → IsKeptOf c x r → (v : Value) → ((kind : AggKind) (r : Value) → IsKeptIn kind x r → v ≡ r) → v ≡ r
+kept_value (e, None) x r h v f = f CountAll r (subst (λ z. IsKeptIn CountAll z r) (sym h) refl)
+kept_value (e, Some agg) x r h v f = f agg.kind r h

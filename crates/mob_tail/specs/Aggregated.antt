@@ -125,18 +125,18 @@ IsAdding agg before v f = AddingPasses (leaves_out agg.kind v) agg.kind agg.ty b
 
 -- ---- faults of adding in the wide mode
 
--- the instants and the values that a sum over time holds
-abbrev pub held_numbers : Value → List Ratio
-held_numbers (MovingInt m) = flat_map (λ s. s.span.lower ∷ s.span.upper ∷ s.course.value ∷ []) m
-held_numbers (MovingFrac m) = flat_map (λ s. s.span.lower ∷ s.span.upper ∷ s.course.from ∷ s.course.to ∷ []) m
-held_numbers _ = []
+-- the instants and the values that a sum over time has
+abbrev pub sum_numbers : Value → List Ratio
+sum_numbers (MovingInt m) = flat_map (λ s. s.span.lower ∷ s.span.upper ∷ s.course.value ∷ []) m
+sum_numbers (MovingFrac m) = flat_map (λ s. s.span.lower ∷ s.span.upper ∷ s.course.from ∷ s.course.to ∷ []) m
+sum_numbers _ = []
 
--- the entries of adding a to r, where u is the sum: those of `+`, and over time what the sum holds
+-- the entries of adding a to r, where u is the sum: those of `+`, and over time the numbers of u
 abbrev pub wide_adding_entries : AggKind → SqlType → Value → Value → Value → List Entry
 wide_adding_entries TAnd ty r a u = []
 wide_adding_entries TOr ty r a u = []
-wide_adding_entries TCount ty r a u = wide_arithmetic_entries Added sql.TInt r a ++ entry_given (held_numbers u)
-wide_adding_entries TSum ty r a u = wide_arithmetic_entries Added ty r a ++ entry_given (held_numbers u)
+wide_adding_entries TCount ty r a u = wide_arithmetic_entries Added sql.TInt r a ++ entry_given (sum_numbers u)
+wide_adding_entries TSum ty r a u = wide_arithmetic_entries Added ty r a ++ entry_given (sum_numbers u)
 wide_adding_entries kind ty r a u = wide_arithmetic_entries Added sql.Numeric r a
 
 abbrev pub AddsWidely : Bool → AggKind → SqlType → List Value → Value → Option Formula → Type 0

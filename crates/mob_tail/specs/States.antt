@@ -28,7 +28,7 @@ abbrev pub AreTruthsWith : (Bool → Bool → Bool) → List (Part (Steady Bool)
 AreTruthsWith op parts None new = new ≡ parts
 AreTruthsWith op parts (Some w) new = AreNormalBy (steady_course same_bool) w × IsOneMore op parts new w
 
--- the aggregates that are held in parts: those over time for which the order of adding is free
+-- the aggregates that are kept in parts: those over time for which the order of adding is free
 abbrev pub is_in_parts : AggKind → Bool
 is_in_parts TCount = true
 is_in_parts TAnd = true

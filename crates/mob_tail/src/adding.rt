@@ -1,4 +1,4 @@
-//! Adds one more value to an aggregate that is held as one value.
+//! Adds one more value to an aggregate that is kept as one value.
 ghost use Rattle.std.specs.Prelude.{◌≡◌, [], ◌∷◌, IfOk, IfErr, MatchResult, MatchOption, None, Some, true, false, option_map};
 ghost use Rattle.mob_ratio.specs.Order.{same};
 ghost use Rattle.mob_arith.specs.Operations.{sum_of};
@@ -242,8 +242,8 @@ fn sum_more(
     }
 }
 
-/// Adds one more value to an aggregate that is held as one value; `before` is the aggregate of the
-/// values without it. An aggregate that is held in parts stays unchanged.
+/// Adds one more value to an aggregate that is kept as one value; `before` is the aggregate of the
+/// values without it. An aggregate that is kept in parts stays unchanged.
 pub fn aggregate_in(
     alloc: Global,
     agg: Agg,

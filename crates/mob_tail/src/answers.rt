@@ -118,7 +118,7 @@ fn answer_with<K: Remembering>(
         return Err(Fault::NoMemory);
     };
     let roots = all.as_slice();
-    let memory = memory_of::<K>(alloc, store, select.from.as_slice(), roots);
+    let memory = memory_of::<K>(alloc, terms.mode, store, select.from.as_slice(), roots);
     answer_on(alloc, select, roots, store, kept, terms, &memory)
 }
 

@@ -25,7 +25,7 @@ use std::mem::drop;
 
 /// The state of an aggregate of the values so far.
 ///
-/// A count, a conjunction or a disjunction over time is held in parts, each made of some of the
+/// A count, a conjunction or a disjunction over time is kept in parts, each made of some of the
 /// values. So a new value is not combined with the long aggregate of all values before it.
 #[derive(Drop)]
 pub enum State {

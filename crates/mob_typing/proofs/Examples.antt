@@ -5,30 +5,30 @@ use Rattle.mob_ast.{specs.declared.types.SqlType.{SqlType}, specs.Trees.{tree, n
 use Rattle.mob_operators.{specs.declared.operator.Spelling.{Spelling}, specs.declared.operator.Op.{Op}, specs.Lookup.{Line, types_fit, meets, given, operator_in, answer_of, found_in}}
 use Rattle.mob_operators.specs.Table.{table}
 use Rattle.mob_typed.{specs.declared.typed.ConstText.{ConstText}, specs.Trees.{TypedTree, typed, none, more}, specs.Statements.{new_table}}
-use Rattle.mob_grammar.specs.Held.{statement_held}
+use Rattle.mob_grammar.specs.Sites.{statement_sites}
 use Rattle.mob_clauses.specs.Keys.{limit_value}
-use Rattle.mob_typing.{specs.Stands.{IsPlaceIn}, specs.WellTyped.{IsNumberLiteral, the_number, behind_minus, HasDivisor, HasOperatorRow, IsOperated, HasDistinctNames}}
+use Rattle.mob_typing.{specs.Stands.{IsSiteIn}, specs.WellTyped.{IsNumberLiteral, the_number, behind_minus, HasDivisor, HasOperatorRow, IsOperated, HasDistinctNames}}
 use Rattle.mob_typing.proofs.OperatorRows.{line_passes, first_passes}
 use Rattle.mob_ast.specs.declared.types.SqlType.TheVariants as sql
 use Rattle.mob_ast.specs.declared.expression.Node.TheVariants as node
 use Rattle.mob_operators.specs.declared.operator.Spelling.TheVariants as form
 use Rattle.mob_operators.specs.declared.operator.Op.TheVariants as op
 
--- SELECT b: a place that the one tree does not hold, such as that of the blank, is not that of a
+-- SELECT b: a place that is no site of the one tree, such as that of the blank, is not that of a
 -- refusal
 the_select : StatementParts
 the_select = select (record { distinct = false; items = one (tree (node.Column None (record { text = codes "b"; place = 7 })) 7 no_trees) None ∷ []; from = []; cond = None; groups = []; keys = []; limit = None })
 
-held_by_one : (s : StatementParts) (p : ℕ) → IsPlaceIn (s ∷ []) 1 p → Contains (statement_held s) p
-held_by_one s p h = by h.front h.parts h.number
+site_of_one : (s : StatementParts) (p : ℕ) → IsSiteIn (s ∷ []) 1 p → Contains (statement_sites s) p
+site_of_one s p h = by h.front h.parts h.number
   where
-    by : (front : List StatementParts) → s ∷ [] ≡ front ++ h.own ∷ h.behind → length front + 1 ≡ 1 → Contains (statement_held s) p
-    by [] parts number = let same : h.own ≡ s = cc in subst (λ x. Contains (statement_held x) p) same h.held
+    by : (front : List StatementParts) → s ∷ [] ≡ front ++ h.own ∷ h.behind → length front + 1 ≡ 1 → Contains (statement_sites s) p
+    by [] parts number = let same : h.own ≡ s = cc in subst (λ x. Contains (statement_sites x) p) same h.site
     by (x ∷ front) parts number = absurd (omega (arith, number))
 
-blank_holds_nothing : IsPlaceIn (the_select ∷ []) 1 6 → ⊥
+blank_is_no_site : IsSiteIn (the_select ∷ []) 1 6 → ⊥
 unfolding the_select
-blank_holds_nothing h = by (held_by_one the_select 6 h)
+blank_is_no_site h = by (site_of_one the_select 6 h)
   where
     by : Contains {X = ℕ} (7 ∷ 7 ∷ []) 6 → ⊥
     by (zero, below, is) = absurd (omega (arith, is))

@@ -1,6 +1,6 @@
 -- The walk over the answers of typing: what holds of a value that is given, and of the place of a
 -- mistake.
-use Rattle.std.{specs.Prelude.{not}, specs.List.{AllByRecursion}}
+use Rattle.std.specs.List.{AllByRecursion}
 use Rattle.std.proofs.Common.{◌≡◌, ◌∙◌, refl, sym, ap, subst, ℕ, List, [], ◌∷◌, ◌++◌, map, append_assoc, append-nil, Bool, true, false, Option, Some, None, Result, Ok, Err}
 use Rattle.std.proofs.lemmas.List.{map-append}
 use Rattle.mob_ast.specs.declared.refusal.Kind.{Kind}
@@ -33,11 +33,6 @@ module _ {At : ℕ → Type 0} where
   pub finds : {A : Type 0} (kind : Kind) (p : ℕ) (o : Option A) → At p → GivesOrStops At (λ x. o ≡ Some x) (found kind p o)
   finds kind p None at = stops at
   finds kind p (Some x) at = gives refl
-
--- a test whose negation is false holds
-pub not_false : (b : Bool) → not b ≡ false → b ≡ true
-not_false true h = refl
-not_false false h = absurd (cc)
 
 abbrev pub Belongs : ℕ → ConstText → Type 0
 Belongs n c = c.statement ≡ n

@@ -3,7 +3,7 @@
 -- tree.
 use Rattle.std.{specs.Prelude.{IfSome, nat_le, nat_lt, not, codes, is_some, slice_get, option_map, option_and_then}, specs.List.{AllByRecursion}}
 use Rattle.std.proofs.Common.{◌≡◌, ◌<◌, ◌∙◌, ◌+◌, arith, refl, sym, ap, subst, ℕ, List, [], ◌∷◌, ◌++◌, append_assoc, length, length-append, map, Bool, true, false, cond, Option, Some, None, Ok}
-use Rattle.std.{proofs.lemmas.Bool.Decides.{nat_tests}, proofs.lemmas.List.{length-map, map-append}, proofs.lemmas.Option.{slice_get_within}}
+use Rattle.std.{proofs.lemmas.Bool.{not-false}, proofs.lemmas.Bool.Decides.{nat_tests}, proofs.lemmas.List.{length-map, map-append}, proofs.lemmas.Option.{slice_get_within}}
 use Rattle.mob_ast.{specs.declared.types.Word.{Word}, specs.declared.types.TypeWord.{TypeWord}, specs.declared.types.SqlType.{SqlType}, specs.declared.expression.Node.{Node}}
 use Rattle.mob_ast.specs.Trees.{Tree, tree, Trees, none as no_trees, more as more_trees}
 use Rattle.mob_operators.{specs.declared.operator.Op.{Op}, specs.declared.operator.Spelling.{Spelling}, specs.Lookup.{found_in}, specs.Table.{table, is_irrational}}
@@ -16,11 +16,11 @@ use Rattle.mob_scope.specs.Columns.{with_first, matches, the_one, column_among, 
 use Rattle.mob_expression.{specs.Steps.{TypingTurn}, specs.Words.{type_named, literal_type, number_type, is_zero}}
 use Rattle.mob_expression.specs.Expressions.{constant, lone_string, cast_of_string, typed_before_operands, is_signed, signed_digits, digits_of, digits_in, divisor_of, divides_by_zero, applied}
 use Rattle.mob_expression.specs.Expressions.{operated, can_cast_all, finished, or_later, typed_expression, typed_operands}
-use Rattle.mob_grammar.{specs.Places.{IsWithin, nothing, same, literal_place, tree_places, trees_places}, specs.Held.{word_held, node_held, tree_held, trees_held}}
+use Rattle.mob_grammar.{specs.Places.{IsWithin, nothing, same, literal_place, tree_places, trees_places}, specs.Sites.{word_sites, node_sites, tree_sites, trees_sites}}
 use Rattle.mob_grammar.proofs.Within.{within_all, within_back}
 use Rattle.mob_typing.specs.Stands.{operators_in}
 use Rattle.mob_typing.specs.WellTyped.{column_type, from_type, HasNamedType, HasNamedTypes, IsNumberLiteral, the_number, HasDivisor, is_division, FitsArguments, IsOperated}
-use Rattle.mob_typing.proofs.Walk.{GivesOrStops, gives, stops, then, also, passes, finds, not_false, adds_none, adds_one, adds_within, adds_both, Steps, Stays, still}
+use Rattle.mob_typing.proofs.Walk.{GivesOrStops, gives, stops, then, also, passes, finds, adds_none, adds_one, adds_within, adds_both, Steps, Stays, still}
 use Rattle.mob_typing.proofs.OperatorRows.{is_of_table, found_of_table, names_nothing, reads_nothing, row_fits, division_alone, has_row, own_cast, keeps_number, sign_keeps, behind_sign}
 use Rattle.mob_typing.proofs.Sound.{slice_more, slice_behind, slice_map, both_true, all_above, all_below, entry_stands, part_here, constant_here, literal_stays, operands_hold}
 use Rattle.mob_typing.proofs.Sound.{all_operated, all_placed, types_are, IsSound, sound_stays}
@@ -38,7 +38,7 @@ abbrev pub numbers_of : List (List ℕ × ScopeTableParts) → List ℕ
 numbers_of from = map (λ t. t.1.table) from
 
 -- the place of a lone string is among those of its trees
-lone_stands : (At : ℕ → Type 0) (args : Trees) → AllByRecursion At (trees_held args) → IfSome (lone_string args) (λ x. IsWithin (x.1 ∷ []) (trees_places args) × At x.1)
+lone_stands : (At : ℕ → Type 0) (args : Trees) → AllByRecursion At (trees_sites args) → IfSome (lone_string args) (λ x. IsWithin (x.1 ∷ []) (trees_places args) × At x.1)
 lone_stands At no_trees h = tt
 lone_stands At (more_trees (tree (node.Str s) p us) no_trees) h = (same nothing, h.0)
 lone_stands At (more_trees (tree nd p us) no_trees) h = tt
@@ -74,7 +74,7 @@ module _ (At : ℕ → Type 0) (tables : List ColumnList) (seen : List (List ℕ
   one_found p (f ∷ []) at h = gives h.0
   one_found p (f ∷ g ∷ fs) at h = stops at
 
-  among_walked : (t : Option Word) (c : Word) → AllByRecursion At (c.place ∷ word_held t) → GivesOrStops At IsAmong (column_among seen t c)
+  among_walked : (t : Option Word) (c : Word) → AllByRecursion At (c.place ∷ word_sites t) → GivesOrStops At IsAmong (column_among seen t c)
   among_walked None c h = one_found c.place (matches 0 seen c.text) h.0 (matches_there [] seen c.text refl)
   among_walked (Some t) c h =
       then (finds kind.UnknownName t.place (entry_from 0 seen t.text) h.1.0) (λ f at.
@@ -139,7 +139,7 @@ module _ (At : ℕ → Type 0) (tables : List ColumnList) (all : List (List ℕ 
           let within : f.from < length s.from = subst (λ k. f.from < k) (length-map s.from (λ (x : List ℕ × ScopeTableParts). x.1.table)) (slice_get_within (numbers_of s.from) f.from t at) in
           (ap (option_and_then (λ t. column_type tables t f.column)) (number_seen f.from t at) ∙ sym (ap (option_and_then (λ t. column_type tables t f.column)) at) ∙ is, (grind (arith, nat_tests), grind (arith, nat_tests, within)))
 
-  pub column_walked : (t : Option Word) (c : Word) → AllByRecursion At (c.place ∷ word_held t) → GivesOrStops At IsFound (column_named s t c)
+  pub column_walked : (t : Option Word) (c : Word) → AllByRecursion At (c.place ∷ word_sites t) → GivesOrStops At IsFound (column_named s t c)
   column_walked t c h = then (among_walked At tables s.from seen_there t c h) (λ f is. gives (found_in_from f is))
 
   -- what is typed before its operands appends its literals; if nothing is typed early, nothing is
@@ -177,24 +177,24 @@ module _ (At : ℕ → Type 0) (tables : List ColumnList) (all : List (List ℕ 
       let own = inner.sound.0 in
       gives (record { adds = adds_within h.0 inner.adds; sound = (record { named = (tt, (own.named, tt)); operated = (own_cast ty, (own.operated, tt)); placed = (at, (h.1, tt)); above = refl; below = refl }, tt) }))
 
-  early_settles : (n : Node) (p : ℕ) (args : Trees) (digits : Option (List ℕ)) (cs : List ConstText) → At p → AllByRecursion At (node_held n) → AllByRecursion At (trees_held args)
+  early_settles : (n : Node) (p : ℕ) (args : Trees) (digits : Option (List ℕ)) (cs : List ConstText) → At p → AllByRecursion At (node_sites n) → AllByRecursion At (trees_sites args)
       → GivesOrStops At (Settles (signed_digits n digits) (literal_place n p ++ trees_places args) cs) (typed_before_operands s n p args cs)
   unfolding typed_before_operands
-  early_settles node.Null p args digits cs at h held = gives (record { adds = adds_none; sound = (record { named = (tt, tt); operated = ((refl, refl), tt); placed = (at, tt); above = refl; below = refl }, tt) })
-  early_settles node.True p args digits cs at h held = gives (constant_steps sql.Bool (codes "true") p (trees_places args) cs at)
-  early_settles node.False p args digits cs at h held = gives (constant_steps sql.Bool (codes "false") p (trees_places args) cs at)
-  early_settles (node.Number n) p args digits cs at h held = gives (number_steps n p (trees_places args) cs at)
-  early_settles (node.Str t) p args digits cs at h held = gives (constant_steps sql.Text t p (trees_places args) cs at)
-  early_settles (node.Literal w t) p args digits cs at h held = literal_settles w t p (trees_places args) cs (literal_type w.name.text w.inner t) at h.0
-  early_settles (node.Column t c) p args digits cs at h held = then (column_walked t c h) (λ f is. gives (record { adds = adds_none; sound = (record { named = (is.0, tt); operated = (refl, tt); placed = (at, tt); above = both_true _ true is.1.0 refl; below = both_true _ true is.1.1 refl }, tt) }))
-  early_settles (node.Call f) p args digits cs at h held = then (passes (is_irrational form.Call f) kind.Irrational p at) (λ _ rational. gives refl)
-  early_settles (node.Sign g) p args digits cs at h held = gives refl
-  early_settles (node.Cast w) p args digits cs at h held = cast_settles w p (trees_places args) cs (lone_string args) at h.0 (lone_stands At args held)
-  early_settles node.Not p args digits cs at h held = gives refl
-  early_settles node.And p args digits cs at h held = gives refl
-  early_settles node.Or p args digits cs at h held = gives refl
-  early_settles node.IsNull p args digits cs at h held = gives refl
-  early_settles node.IsNotNull p args digits cs at h held = gives refl
+  early_settles node.Null p args digits cs at h sites = gives (record { adds = adds_none; sound = (record { named = (tt, tt); operated = ((refl, refl), tt); placed = (at, tt); above = refl; below = refl }, tt) })
+  early_settles node.True p args digits cs at h sites = gives (constant_steps sql.Bool (codes "true") p (trees_places args) cs at)
+  early_settles node.False p args digits cs at h sites = gives (constant_steps sql.Bool (codes "false") p (trees_places args) cs at)
+  early_settles (node.Number n) p args digits cs at h sites = gives (number_steps n p (trees_places args) cs at)
+  early_settles (node.Str t) p args digits cs at h sites = gives (constant_steps sql.Text t p (trees_places args) cs at)
+  early_settles (node.Literal w t) p args digits cs at h sites = literal_settles w t p (trees_places args) cs (literal_type w.name.text w.inner t) at h.0
+  early_settles (node.Column t c) p args digits cs at h sites = then (column_walked t c h) (λ f is. gives (record { adds = adds_none; sound = (record { named = (is.0, tt); operated = (refl, tt); placed = (at, tt); above = both_true _ true is.1.0 refl; below = both_true _ true is.1.1 refl }, tt) }))
+  early_settles (node.Call f) p args digits cs at h sites = then (passes (is_irrational form.Call f) kind.Irrational p at) (λ _ rational. gives refl)
+  early_settles (node.Sign g) p args digits cs at h sites = gives refl
+  early_settles (node.Cast w) p args digits cs at h sites = cast_settles w p (trees_places args) cs (lone_string args) at h.0 (lone_stands At args sites)
+  early_settles node.Not p args digits cs at h sites = gives refl
+  early_settles node.And p args digits cs at h sites = gives refl
+  early_settles node.Or p args digits cs at h sites = gives refl
+  early_settles node.IsNull p args digits cs at h sites = gives refl
+  early_settles node.IsNotNull p args digits cs at h sites = gives refl
 
   -- operands that are read are sound
   operands_read : (args : Trees) (cs : List ConstText) (ts : List TypedTree) → ReadAs args cs ts → AllByRecursion (Holds cs) ts
@@ -292,20 +292,20 @@ module _ (At : ℕ → Type 0) (tables : List ColumnList) (all : List (List ℕ 
       none_left true = tt
       none_left false = tt
 
-  finished_walked : (n : Node) (p : ℕ) (args : Trees) (ts : List TypedTree) (cs : List ConstText) → At p → AllByRecursion At (node_held n) → ReadAs args cs ts → GivesOrStops At (Reads (signed_digits n (digits_in args)) cs) (finished n p args ts)
+  finished_walked : (n : Node) (p : ℕ) (args : Trees) (ts : List TypedTree) (cs : List ConstText) → At p → AllByRecursion At (node_sites n) → ReadAs args cs ts → GivesOrStops At (Reads (signed_digits n (digits_in args)) cs) (finished n p args ts)
   unfolding finished
-  finished_walked (node.Call f) p args ts cs at held h = plainly_applied form.Call f p args ts cs at h
-  finished_walked (node.Sign g) p args ts cs at held h = also (applied_walked form.Sign g p (option_map is_zero (divisor_of args)) args ts cs at h (divisor_read args cs ts h)) (λ t applied. (applied.holds, sign_read g p args ts cs t h applied))
-  finished_walked (node.Cast w) p args ts cs at held h =
-      then (finds kind.UnknownName w.name.place (type_named w.name.text w.inner) held.0) (λ ty is.
+  finished_walked (node.Call f) p args ts cs at sites h = plainly_applied form.Call f p args ts cs at h
+  finished_walked (node.Sign g) p args ts cs at sites h = also (applied_walked form.Sign g p (option_map is_zero (divisor_of args)) args ts cs at h (divisor_read args cs ts h)) (λ t applied. (applied.holds, sign_read g p args ts cs t h applied))
+  finished_walked (node.Cast w) p args ts cs at sites h =
+      then (finds kind.UnknownName w.name.place (type_named w.name.text w.inner) sites.0) (λ ty is.
       then (passes (not (can_cast_all (types_of ts) ty)) kind.NoSuchOperator p at) (λ _ can.
-      gives (node_sound op.Cast ty p args cs ts h tt (refl, refl) (ap (λ tys. can_cast_all tys ty) (types_are ts) ∙ not_false (can_cast_all (types_of ts) ty) can) at, tt)))
-  finished_walked node.Not p args ts cs at held h = plainly_applied form.Word (codes "not") p args ts cs at h
-  finished_walked node.And p args ts cs at held h = plainly_applied form.Word (codes "and") p args ts cs at h
-  finished_walked node.Or p args ts cs at held h = plainly_applied form.Word (codes "or") p args ts cs at h
-  finished_walked node.IsNull p args ts cs at held h = plainly_applied form.Word (codes "is null") p args ts cs at h
-  finished_walked node.IsNotNull p args ts cs at held h = plainly_applied form.Word (codes "is not null") p args ts cs at h
-  finished_walked n p args ts cs at held h = stops at
+      gives (node_sound op.Cast ty p args cs ts h tt (refl, refl) (ap (λ tys. can_cast_all tys ty) (types_are ts) ∙ not-false (can_cast_all (types_of ts) ty) can) at, tt)))
+  finished_walked node.Not p args ts cs at sites h = plainly_applied form.Word (codes "not") p args ts cs at h
+  finished_walked node.And p args ts cs at sites h = plainly_applied form.Word (codes "and") p args ts cs at h
+  finished_walked node.Or p args ts cs at sites h = plainly_applied form.Word (codes "or") p args ts cs at h
+  finished_walked node.IsNull p args ts cs at sites h = plainly_applied form.Word (codes "is null") p args ts cs at h
+  finished_walked node.IsNotNull p args ts cs at sites h = plainly_applied form.Word (codes "is not null") p args ts cs at h
+  finished_walked n p args ts cs at sites h = stops at
 
   -- what is typed early is complete; else the operands follow
   later_walked : (digits : Option (List ℕ)) (own ps : List ℕ) (cs : List ConstText) (later : TypingTurn TypedTree) (o : Option TypedTree) (ds : List ConstText) → Settled digits (own ++ ps) cs o ds
@@ -321,23 +321,23 @@ module _ (At : ℕ → Type 0) (tables : List ColumnList) (all : List (List ℕ 
   mutual
     unfolding typed_expression typed_operands digits_of
 
-    tree_walked : (t : Tree) (cs : List ConstText) → AllByRecursion At (tree_held t) → GivesOrStops At (Steps s.statement (tree_places t) (Reads (digits_of t)) cs) (typed_expression s t cs)
+    tree_walked : (t : Tree) (cs : List ConstText) → AllByRecursion At (tree_sites t) → GivesOrStops At (Steps s.statement (tree_places t) (Reads (digits_of t)) cs) (typed_expression s t cs)
     tree_walked (tree n p args) cs h =
-        let parts = each_parts At (node_held n) (trees_held args) h.1 in
+        let parts = each_parts At (node_sites n) (trees_sites args) h.1 in
         let digits = signed_digits n (digits_in args) in
         then (early_settles n p args (digits_in args) cs h.0 parts.0 parts.1) (λ e settled.
         later_walked digits (literal_place n p) (trees_places args) cs (λ ds. typed_operands s args ds >>= λ r. finished n p args r.0 >>= λ t. Ok (t, r.1)) e.0 e.1 settled
         (λ ds. then (operands_walked args ds parts.1) (λ r q. then (finished_walked n p args r.0 r.1 h.0 parts.0 q.sound) (λ t sound. gives (record { adds = q.adds; sound = sound })))))
 
-    operands_walked : (us : Trees) (cs : List ConstText) → AllByRecursion At (trees_held us) → GivesOrStops At (Steps s.statement (trees_places us) (ReadAs us) cs) (typed_operands s us cs)
+    operands_walked : (us : Trees) (cs : List ConstText) → AllByRecursion At (trees_sites us) → GivesOrStops At (Steps s.statement (trees_places us) (ReadAs us) cs) (typed_operands s us cs)
     operands_walked no_trees cs h = gives (record { adds = adds_none; sound = tt })
     operands_walked (more_trees t us) cs h =
-        let parts = each_parts At (tree_held t) (trees_held us) h in
+        let parts = each_parts At (tree_sites t) (trees_sites us) h in
         then (tree_walked t cs parts.0) (λ x a.
         then (operands_walked us x.1 parts.1) (λ xs b. gives (record { adds = adds_both a.adds b.adds; sound = (still (Reads (digits_of t)) (reads_stay (digits_of t)) x.0 b.adds a.sound, b.sound) })))
 
-  pub expression_walked : (t : Tree) (cs : List ConstText) → AllByRecursion At (tree_held t) → GivesOrStops At (Steps s.statement (tree_places t) Holds cs) (typed_expression s t cs)
+  pub expression_walked : (t : Tree) (cs : List ConstText) → AllByRecursion At (tree_sites t) → GivesOrStops At (Steps s.statement (tree_places t) Holds cs) (typed_expression s t cs)
   expression_walked t cs h = also (tree_walked t cs h) (λ x q. record { adds = q.adds; sound = q.sound.0 })
 
-  pub arguments_walked : (us : Trees) (cs : List ConstText) → AllByRecursion At (trees_held us) → GivesOrStops At (Steps s.statement (trees_places us) (λ ds ts. AllByRecursion (Holds ds) ts) cs) (typed_operands s us cs)
+  pub arguments_walked : (us : Trees) (cs : List ConstText) → AllByRecursion At (trees_sites us) → GivesOrStops At (Steps s.statement (trees_places us) (λ ds ts. AllByRecursion (Holds ds) ts) cs) (typed_operands s us cs)
   arguments_walked us cs h = also (operands_walked us cs h) (λ x q. record { adds = q.adds; sound = operands_read us x.1 x.0 q.sound })

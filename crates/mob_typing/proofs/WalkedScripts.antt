@@ -7,11 +7,11 @@ use Rattle.mob_typed.{specs.declared.typed.ConstText.{ConstText}, specs.Statemen
 use Rattle.mob_list.proofs.Each.{each_on}
 use Rattle.mob_scope.specs.declared.fault.Mistake.{Mistake}
 use Rattle.mob_typing.{specs.Names.{NameLists}, specs.Statements.{Made, in_statement, or_refused, put_statement, typed_from, typed_script, no_names}}
-use Rattle.mob_typing.specs.Stands.{IsPlaceIn, OperatorsStand, TypingHoldsOperators, TypingRefusesAtPlaces}
+use Rattle.mob_typing.specs.Stands.{IsSiteIn, OperatorsStand, OperatorsAreAtSites, TypingRefusesAtSites}
 use Rattle.mob_typing.specs.WellTyped.{AreTypedStatements, IsTypedStatement, TypingGivesWellTyped, table_made, index_made, TypingKeepsNamesApart}
 use Rattle.mob_typing.{proofs.Walk.{GivesOrStops, gives, stops, Adds, Steps}, proofs.Sound.{statement_stays}, proofs.WalkedSelects.{named}}
 use Rattle.mob_typing.proofs.WalkedStatements.{names_of, KeepsApart, IsMade, statement_walked}
-use Rattle.mob_grammar.{specs.Places.{statement_places}, specs.Held.{statement_held}}
+use Rattle.mob_grammar.{specs.Places.{statement_places}, specs.Sites.{statement_sites}}
 
 -- how a typed script is made: for each tree in order its statement, with the constants that it
 -- appends; operators are at such places of their statements
@@ -25,10 +25,10 @@ pub data ScriptGivesOrStops (At : ℕ → ℕ → Type 0) (Gives : ScriptOut →
   script_gives : {out : ScriptOut} → Gives out → ScriptGivesOrStops At Gives (Ok out)
   script_stops : {e : Refusal} → At e.statement e.place → ScriptGivesOrStops At Gives (Err e)
 
--- the places that the trees hold are such places of their statements, numbered from n
-abbrev pub HoldPlaces : (ℕ → ℕ → Type 0) → ℕ → List StatementParts → Type 0
-HoldPlaces At n [] = Unit {0}
-HoldPlaces At n (s ∷ ss) = AllByRecursion (At n) (statement_held s) × HoldPlaces At (n + 1) ss
+-- the sites of the trees are such places of their statements, numbered from n
+abbrev pub AllSites : (ℕ → ℕ → Type 0) → ℕ → List StatementParts → Type 0
+AllSites At n [] = Unit {0}
+AllSites At n (s ∷ ss) = AllByRecursion (At n) (statement_sites s) × AllSites At (n + 1) ss
 
 module _ (At : ℕ → ℕ → Type 0) where
   others_follow : {Q P : ScriptOut → Type 0} {r : Result ScriptOut Refusal} (s : StatementOut) → ScriptGivesOrStops At Q r → ((out : ScriptOut) → Q out → P (put_statement s out)) → ScriptGivesOrStops At P (or_refused r (λ out. Ok (put_statement s out)))
@@ -40,7 +40,7 @@ module _ (At : ℕ → ℕ → Type 0) where
   statement_first n (gives q) k = k _ q
   statement_first n (stops at) k = script_stops at
 
-  pub statements_walked : (n : ℕ) (names : NameLists) (ss : List StatementParts) (cs : List ConstText) → HoldPlaces At n ss → ScriptGivesOrStops At (AreMade At n names cs ss) (typed_from n names ss cs)
+  pub statements_walked : (n : ℕ) (names : NameLists) (ss : List StatementParts) (cs : List ConstText) → AllSites At n ss → ScriptGivesOrStops At (AreMade At n names cs ss) (typed_from n names ss cs)
   statements_walked n names [] cs h = script_gives none_made
   statements_walked n names (s ∷ ss) cs h =
       statement_first n (statement_walked (At n) names n s cs h.0) (λ x q. others_follow x.0.statement (statements_walked (n + 1) x.0.names ss x.1 h.1) (λ out made. script_gives_more x q out made))
@@ -58,21 +58,21 @@ stopped (script_stops h) = h
 abbrev pub Anywhere : ℕ → ℕ → Type 0
 Anywhere n p = Unit {0}
 
-anywhere : (n : ℕ) (ss : List StatementParts) → HoldPlaces Anywhere n ss
+anywhere : (n : ℕ) (ss : List StatementParts) → AllSites Anywhere n ss
 anywhere n [] = tt
-anywhere n (s ∷ ss) = (all_anywhere (statement_held s), anywhere (n + 1) ss)
+anywhere n (s ∷ ss) = (all_anywhere (statement_sites s), anywhere (n + 1) ss)
   where
     all_anywhere : (ps : List ℕ) → AllByRecursion (λ p. Unit {0}) ps
     all_anywhere [] = tt
     all_anywhere (p ∷ ps) = (tt, all_anywhere ps)
 
--- if the trees hold such places, a script is made in this way or stops at one of them
-module _ (At : ℕ → ℕ → Type 0) (ss : List StatementParts) (held : HoldPlaces At 1 ss) where
+-- if the sites of the trees are such places, a script is made in this way or stops at one of them
+module _ (At : ℕ → ℕ → Type 0) (ss : List StatementParts) (sites : AllSites At 1 ss) where
   pub script_made_at : (out : ScriptOut) → typed_script ss ≡ Ok out → AreMade At 1 no_names [] ss out
-  script_made_at out typed = given (subst (ScriptGivesOrStops At (AreMade At 1 no_names [] ss)) typed (statements_walked At 1 no_names ss [] held))
+  script_made_at out typed = given (subst (ScriptGivesOrStops At (AreMade At 1 no_names [] ss)) typed (statements_walked At 1 no_names ss [] sites))
 
   pub script_stops_inside : (e : Refusal) → typed_script ss ≡ Err e → At e.statement e.place
-  script_stops_inside e wrong = stopped (subst (ScriptGivesOrStops At (AreMade At 1 no_names [] ss)) wrong (statements_walked At 1 no_names ss [] held))
+  script_stops_inside e wrong = stopped (subst (ScriptGivesOrStops At (AreMade At 1 no_names [] ss)) wrong (statements_walked At 1 no_names ss [] sites))
 
 pub script_made : (ss : List StatementParts) (out : ScriptOut) → typed_script ss ≡ Ok out → AreMade Anywhere 1 no_names [] ss out
 script_made ss out typed = script_made_at Anywhere ss (anywhere 1 ss) out typed
@@ -113,25 +113,25 @@ no_name = tt
 pub typing_keeps_names_apart : TypingKeepsNamesApart
 typing_keeps_names_apart ss out typed = let made = script_made ss out typed in record { tables = tables_apart made no_name; indexes = indexes_apart made no_name }
 
--- a tree contains each place that it holds
+-- a list contains each of its elements
 all_contained : (before ps : List ℕ) → AllByRecursion (Contains (before ++ ps)) ps
 all_contained before [] = tt
 all_contained before (p ∷ ps) = (Contains-append_right before (p ∷ ps) p (0, omega arith, refl), subst (λ all. AllByRecursion (Contains all) ps) (append_assoc before (p ∷ []) ps) (all_contained (before ++ p ∷ []) ps))
 
 -- the same for the tree with this number in a script
-hold_own : (trees front ss : List StatementParts) (n : ℕ) → trees ≡ front ++ ss → length front + 1 ≡ n → HoldPlaces (IsPlaceIn trees) n ss
-hold_own trees front [] n parts number = tt
-hold_own trees front (s ∷ ss) n parts number = (
-  each_on (Contains (statement_held s)) (IsPlaceIn trees n) (λ p held. record { front = front; own = s; behind = ss; parts = parts; number = number; held = held }) (statement_held s) (all_contained [] (statement_held s)),
-  hold_own trees (front ++ s ∷ []) ss (n + 1) (parts ∙ sym (append_assoc front (s ∷ []) ss)) (ap (λ k. k + 1) (length-append front (s ∷ []) ∙ number)),
+own_sites : (trees front ss : List StatementParts) (n : ℕ) → trees ≡ front ++ ss → length front + 1 ≡ n → AllSites (IsSiteIn trees) n ss
+own_sites trees front [] n parts number = tt
+own_sites trees front (s ∷ ss) n parts number = (
+  each_on (Contains (statement_sites s)) (IsSiteIn trees n) (λ p site. record { front = front; own = s; behind = ss; parts = parts; number = number; site = site }) (statement_sites s) (all_contained [] (statement_sites s)),
+  own_sites trees (front ++ s ∷ []) ss (n + 1) (parts ∙ sym (append_assoc front (s ∷ []) ss)) (ap (λ k. k + 1) (length-append front (s ∷ []) ∙ number)),
 )
 
 pub operators_stand : {At : ℕ → ℕ → Type 0} {n : ℕ} {names : NameLists} {cs : List ConstText} {ss : List StatementParts} {out : ScriptOut} → AreMade At n names cs ss out → OperatorsStand At n out.statements
 operators_stand none_made = tt
 operators_stand (one_made adds made others) = (made.operators, operators_stand others)
 
-pub typing_holds_operators : TypingHoldsOperators
-typing_holds_operators trees out typed = operators_stand (script_made_at (IsPlaceIn trees) trees (hold_own trees [] trees 1 refl refl) out typed)
+pub operators_are_at_sites : OperatorsAreAtSites
+operators_are_at_sites trees out typed = operators_stand (script_made_at (IsSiteIn trees) trees (own_sites trees [] trees 1 refl refl) out typed)
 
-pub typing_refuses_what_is_held : TypingRefusesAtPlaces
-typing_refuses_what_is_held trees e wrong = script_stops_inside (IsPlaceIn trees) trees (hold_own trees [] trees 1 refl refl) e wrong
+pub typing_refuses_at_sites : TypingRefusesAtSites
+typing_refuses_at_sites trees e wrong = script_stops_inside (IsSiteIn trees) trees (own_sites trees [] trees 1 refl refl) e wrong

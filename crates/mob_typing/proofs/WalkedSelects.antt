@@ -2,7 +2,7 @@
 use Rattle.std.{specs.Prelude.{IfSome, not, nat_le, nat_lt, slice_get, slice_range, option_map, option_and_then}, specs.List.{AllByRecursion, AllZip, IsDistinct, flat_map, list_any}}
 use Rattle.std.specs.Str.{bytes_eq}
 use Rattle.std.proofs.Common.{◌≡◌, ◌==◌, ◌≤◌, ◌<◌, ◌+◌, ◌-◌, ◌^◌, ◌∙◌, ◌⊎◌, inl, inr, ◌||◌, refl, sym, ap, subst, arith, Bool, true, false, cond, ℕ, zero, suc, List, [], ◌∷◌, ◌++◌, append_assoc}
-use Rattle.std.{proofs.Common.{append-nil, length, length-append, map, take, drop, Option, Some, None, Result, Ok, Err}, proofs.lemmas.Bool.{leb-false, or_parts}}
+use Rattle.std.{proofs.Common.{append-nil, length, length-append, map, take, drop, Option, Some, None, Result, Ok, Err}, proofs.lemmas.Bool.{leb-false, not-false, or_parts}}
 use Rattle.std.{proofs.lemmas.Bool.Decides.{nat_tests}, proofs.lemmas.List.{length-map, length-drop, length-take-le, take-append-drop, nil_from_length}, proofs.lemmas.List.Folds.{drop_split}}
 use Rattle.std.proofs.lemmas.Option.{slice_get_within}
 use Rattle.mob_ast.{specs.declared.types.Word.{Word}, specs.declared.types.SqlType.{SqlType}, specs.Trees.{Tree, tree, Trees, ItemParts, every, one, count_all, FromParts, KeyParts, SelectParts}}
@@ -17,7 +17,7 @@ use Rattle.mob_expression.specs.Steps.{one_more}
 use Rattle.mob_typing.{specs.Names.{table_of}, specs.Selects.{from_name, from_table, from_tables, typed_select}, specs.Stands.{operators_in, aggregate_place, query_operators}}
 use Rattle.mob_typing.specs.WellTyped.{column_type, from_type, HasNamedTypes, IsOperated, condition_alone, AreOfSources, column_in, columns_in, IsGroup, IsAggregateOf, IsTypedItem, IsTypedKey}
 use Rattle.mob_typing.specs.WellTyped.{IsTypedQuery, IsTypedDeletion}
-use Rattle.mob_typing.proofs.Walk.{GivesOrStops, gives, stops, then, also, passes, finds, not_false, Adds, adds_none, adds_within, adds_both, Steps, Stays, still, all_stay}
+use Rattle.mob_typing.proofs.Walk.{GivesOrStops, gives, stops, then, also, passes, finds, Adds, adds_none, adds_within, adds_both, Steps, Stays, still, all_stay}
 use Rattle.mob_typing.{proofs.Apart.{entry_last}, proofs.Sound.{slice_map, entry_stands, IsSound, both_true, sound_stays}}
 use Rattle.mob_typing.proofs.WalkedExpressions.{AreThere, numbers_of, IsPart, IsFound, column_walked, arguments_walked, expression_walked}
 use Rattle.mob_clauses.specs.Conditions.{condition, is_bool, tree_place, source_start, seen_by_on, joins_from, typed_joins}
@@ -27,7 +27,7 @@ use Rattle.mob_clauses.specs.Outputs.{no_outputs}
 use Rattle.mob_clauses.specs.Keys.{is_key, group_of, typed_group, with_groups, alias_number, value_type, output_at, aliased, key_item, key_value, typed_key, typed_keys, limit_value, limit_of}
 use Rattle.mob_clauses.{specs.Clauses.{ConditionParts, typed_conditions, ArrangementParts, typed_arrangement, scope_tables, select_made, typed_clauses, rows_to_go}, proofs.Limits.{limit_small}}
 use Rattle.mob_grammar.specs.Places.{tree_places, trees_places, item_places, from_places, condition_places, key_places, select_places}
-use Rattle.mob_grammar.{specs.Held.{word_held, tree_held, trees_held, item_held, from_held, condition_held, key_held, select_held}, proofs.Within.{within_all, within_back}}
+use Rattle.mob_grammar.{specs.Sites.{word_sites, tree_sites, trees_sites, item_sites, from_sites, condition_sites, key_sites, select_sites}, proofs.Within.{within_all, within_back}}
 use Rattle.mob_ast.specs.declared.refusal.Kind.TheVariants as kind
 use Rattle.mob_ast.specs.declared.expression.Node.TheVariants as node
 
@@ -55,7 +55,7 @@ zip_both R [] (y ∷ ys) us vs h k = absurd h
 zip_both R (x ∷ xs) [] us vs h k = absurd h
 zip_both R (x ∷ xs) (y ∷ ys) us vs h k = (h.0, zip_both R xs ys us vs h.1 k)
 
-zip_on : {A B : Type 0} (R S : A → B → Type 0) → ((x : A) (y : B) → R x y → S x y) → (xs : List A) (ys : List B) → AllZip R xs ys → AllZip S xs ys
+pub zip_on : {A B : Type 0} (R S : A → B → Type 0) → ((x : A) (y : B) → R x y → S x y) → (xs : List A) (ys : List B) → AllZip R xs ys → AllZip S xs ys
 zip_on R S f [] [] h = tt
 zip_on R S f [] (y ∷ ys) h = absurd h
 zip_on R S f (x ∷ xs) [] h = absurd h
@@ -82,18 +82,18 @@ one_longer xs ys x y h = omega (arith, h)
 any_grouped : (x : SelectParts) → list_any is_aggregate_item x.items ≡ true → is_grouped x ≡ true
 any_grouped x own = either_true (not (length x.groups == 0)) (list_any is_aggregate_item x.items) (inr own)
 
-ons_of : (At : ℕ → Type 0) (fs : List FromParts) → AllByRecursion At (flat_map from_held fs) → AllByRecursion At (flat_map (λ f. condition_held f.on) fs)
+ons_of : (At : ℕ → Type 0) (fs : List FromParts) → AllByRecursion At (flat_map from_sites fs) → AllByRecursion At (flat_map (λ f. condition_sites f.on) fs)
 ons_of At [] h = tt
 ons_of At (f ∷ fs) h =
-    let parts = each_parts At (from_held f) (flat_map from_held fs) h in
-    each_both At (condition_held f.on) (flat_map (λ e. condition_held e.on) fs) (each_parts At (word_held f.alias) (condition_held f.on) parts.0.1).1 (ons_of At fs parts.1)
+    let parts = each_parts At (from_sites f) (flat_map from_sites fs) h in
+    each_both At (condition_sites f.on) (flat_map (λ e. condition_sites e.on) fs) (each_parts At (word_sites f.alias) (condition_sites f.on) parts.0.1).1 (ons_of At fs parts.1)
 
 -- a query is typed, and its operators and aggregates are at such places
 abbrev pub IsStandingQuery : (ℕ → Type 0) → List ColumnList → List ConstText → TypedSelectParts → Type 0
 IsStandingQuery At tables cs q = IsTypedQuery tables cs q × AllByRecursion At (query_operators q)
 
 module _ (At : ℕ → Type 0) (tables : List (List ℕ × ColumnList)) where
-  pub name_walked : (from : List (List ℕ × ScopeTableParts)) (table : Word) (alias : Option Word) → AllByRecursion At (table.place ∷ word_held alias) → GivesOrStops At (λ name. (length from < 4) × (has_entry from name ≡ false)) (from_name from table alias)
+  pub name_walked : (from : List (List ℕ × ScopeTableParts)) (table : Word) (alias : Option Word) → AllByRecursion At (table.place ∷ word_sites alias) → GivesOrStops At (λ name. (length from < 4) × (has_entry from name ≡ false)) (from_name from table alias)
   name_walked from table None h =
       then (passes (has_entry from table.text) kind.Duplicate table.place h.0) (λ _ new. then (passes (nat_le 4 (length from)) kind.Limit table.place h.0) (λ _ room. gives (leb-false 4 (length from) room, new)))
   name_walked from table (Some a) h =
@@ -103,7 +103,7 @@ module _ (At : ℕ → Type 0) (tables : List (List ℕ × ColumnList)) where
   abbrev IsOneMore : List (List ℕ × ScopeTableParts) → List (List ℕ × ScopeTableParts) → Type 0
   IsOneMore from more = IsScope (named tables) more × (length more ≡ length from + 1)
 
-  table_walked : (from : List (List ℕ × ScopeTableParts)) (table : Word) (alias : Option Word) → IsScope (named tables) from → AllByRecursion At (table.place ∷ word_held alias) → GivesOrStops At (IsOneMore from) (from_table tables from table alias)
+  table_walked : (from : List (List ℕ × ScopeTableParts)) (table : Word) (alias : Option Word) → IsScope (named tables) from → AllByRecursion At (table.place ∷ word_sites alias) → GivesOrStops At (IsOneMore from) (from_table tables from table alias)
   table_walked from table alias scope h =
       then (finds kind.UnknownName table.place (table_of tables table.text) h.0) (λ t is.
       then (name_walked from table alias h) (λ name own.
@@ -123,15 +123,15 @@ module _ (At : ℕ → Type 0) (tables : List (List ℕ × ColumnList)) where
   abbrev pub AreTables : List (List ℕ × ScopeTableParts) → List FromParts → List (List ℕ × ScopeTableParts) → Type 0
   AreTables from fs more = IsScope (named tables) more × (length more ≡ length from + length fs)
 
-  pub tables_walked : (from : List (List ℕ × ScopeTableParts)) (fs : List FromParts) → IsScope (named tables) from → AllByRecursion At (flat_map from_held fs) → GivesOrStops At (AreTables from fs) (from_tables tables from fs)
+  pub tables_walked : (from : List (List ℕ × ScopeTableParts)) (fs : List FromParts) → IsScope (named tables) from → AllByRecursion At (flat_map from_sites fs) → GivesOrStops At (AreTables from fs) (from_tables tables from fs)
   tables_walked from [] scope h = gives (scope, omega arith)
   tables_walked from (f ∷ fs) scope h =
-      let parts = each_parts At (from_held f) (flat_map from_held fs) h in
-      let own = each_parts At (word_held f.alias) (condition_held f.on) parts.0.1 in
+      let parts = each_parts At (from_sites f) (flat_map from_sites fs) h in
+      let own = each_parts At (word_sites f.alias) (condition_sites f.on) parts.0.1 in
       then (table_walked from f.table f.alias scope (parts.0.0, own.0)) (λ more larger. also (tables_walked more fs larger.0 parts.1) (λ all is. let a = is.1 in let b = larger.1 in (is.0, omega (arith, a, b))))
 
--- the tree of an expression holds its place
-own_place : (At : ℕ → Type 0) (t : Tree) → AllByRecursion At (tree_held t) → At (tree_place t)
+-- the place of an expression is a site of its tree
+own_place : (At : ℕ → Type 0) (t : Tree) → AllByRecursion At (tree_sites t) → At (tree_place t)
 own_place At (tree nd p args) h = h.0
 
 -- conditions over a part of FROM
@@ -143,10 +143,10 @@ module _ (At : ℕ → Type 0) (tables : List ColumnList) (all : List (List ℕ 
   abbrev IsCondition : List ConstText → Option TypedTree → Type 0
   IsCondition cs c = (t : TypedTree) × (c ≡ Some t) × (Sees cs t) × (is_bool (type_of t) ≡ true)
 
-  pub some_condition_walked : (t : Tree) (cs : List ConstText) → AllByRecursion At (tree_held t) → GivesOrStops At (Steps s.statement (tree_places t) IsCondition cs) (condition s (Some t) cs)
+  pub some_condition_walked : (t : Tree) (cs : List ConstText) → AllByRecursion At (tree_sites t) → GivesOrStops At (Steps s.statement (tree_places t) IsCondition cs) (condition s (Some t) cs)
   some_condition_walked t cs h =
       then (expression_walked At tables all there s part t cs h) (λ r q.
-      then (passes (not (is_bool (type_of r.0))) kind.NoSuchOperator (tree_place t) (own_place At t h)) (λ _ is. gives (record { adds = q.adds; sound = (r.0, refl, q.sound, not_false (is_bool (type_of r.0)) is) })))
+      then (passes (not (is_bool (type_of r.0))) kind.NoSuchOperator (tree_place t) (own_place At t h)) (λ _ is. gives (record { adds = q.adds; sound = (r.0, refl, q.sound, not-false (is_bool (type_of r.0)) is) })))
 
 -- the part of FROM that the ON of table n sees
 module _ (s : ScopeParts) (k n : ℕ) (start : k ≤ n) (within : n < length s.from) where
@@ -201,22 +201,22 @@ module _ (At : ℕ → Type 0) (tables : List ColumnList) (s : ScopeParts) (begi
   abbrev AreJoins : ℕ → ℕ → List FromParts → List ConstText → List (Option TypedTree) → Type 0
   AreJoins k m fs cs js = JoinsHold k m cs js × (length js ≡ length fs)
 
-  abbrev ons_held : List FromParts → List ℕ
-  ons_held fs = flat_map (λ f. condition_held f.on) fs
+  abbrev ons_sites : List FromParts → List ℕ
+  ons_sites fs = flat_map (λ f. condition_sites f.on) fs
 
-  joins_walked : (k m : ℕ) (fs : List FromParts) (cs : List ConstText) → k ≤ m → m + length fs ≡ length s.from → AllByRecursion At (ons_held fs) → GivesOrStops At (Steps n (flat_map from_places fs) (AreJoins k m fs) cs) (joins_from s k m fs cs)
+  joins_walked : (k m : ℕ) (fs : List FromParts) (cs : List ConstText) → k ≤ m → m + length fs ≡ length s.from → AllByRecursion At (ons_sites fs) → GivesOrStops At (Steps n (flat_map from_places fs) (AreJoins k m fs) cs) (joins_from s k m fs cs)
   joins_walked k m [] cs start all h = gives (record { adds = adds_none; sound = (tt, refl) })
   joins_walked k m (f ∷ fs) cs start all h =
-      let held = each_parts At (condition_held f.on) (ons_held fs) h in
-      by f.on held.0 (λ j ds first. joins_walked j (m + 1) fs ds first (omega (arith, all)) held.1)
+      let sites = each_parts At (condition_sites f.on) (ons_sites fs) h in
+      by f.on sites.0 (λ j ds first. joins_walked j (m + 1) fs ds first (omega (arith, all)) sites.1)
     where
-      by : (on : Option Tree) → AllByRecursion At (condition_held on)
+      by : (on : Option Tree) → AllByRecursion At (condition_sites on)
           → ((j : ℕ) (ds : List ConstText) → j ≤ m + 1 → GivesOrStops At (Steps n (flat_map from_places fs) (AreJoins j (m + 1) fs) ds) (joins_from s j (m + 1) fs ds))
           → GivesOrStops At (Steps n (condition_places on ++ flat_map from_places fs) (AreJoins k m (f ∷ fs)) cs) (one_more (condition (seen_by_on s (source_start k m on) m) on) (joins_from s (source_start k m on) (m + 1) fs) cs)
-      by None held rest = then (rest m cs (omega arith)) (λ r b. gives (record { adds = b.adds; sound = (b.sound.0, one_longer r.0 fs None f b.sound.1) }))
-      by (Some t) held rest =
+      by None sites rest = then (rest m cs (omega arith)) (λ r b. gives (record { adds = b.adds; sound = (b.sound.0, one_longer r.0 fs None f b.sound.1) }))
+      by (Some t) sites rest =
           let within : m < length s.from = omega (arith, all) in
-          then (some_condition_walked At tables s.from there (seen_by_on s k m) (part_of_on s k m start within) t cs held) (λ c a.
+          then (some_condition_walked At tables s.from there (seen_by_on s k m) (part_of_on s k m start within) t cs sites) (λ c a.
           then (rest k c.1 (omega (arith, start))) (λ r b.
           let x = a.sound.0 in
           let own : SeesOwn k m c.1 x = (subst (λ past. IsSound At tables (numbers_of s.from) k past c.1 x) (range_long s k m start within) a.sound.2, a.sound.3) in
@@ -305,19 +305,19 @@ module _ (At : ℕ → Type 0) (tables : List ColumnList) (s : ScopeParts) (begi
     lone_holds cs (x ∷ []) t h is = let same : x ≡ t = cc in subst (Holds cs) same h.0
     lone_holds cs (x ∷ y ∷ ts) t h is = absurd (cc)
 
-    aggregate_walked : (f : List ℕ) (p : ℕ) (args : Trees) (cs : List ConstText) → grouped ≡ true → At p → AllByRecursion At (trees_held args) → GivesOrStops At (Steps n (trees_places args) ValueHolds cs) (aggregate_value s f p args cs)
+    aggregate_walked : (f : List ℕ) (p : ℕ) (args : Trees) (cs : List ConstText) → grouped ≡ true → At p → AllByRecursion At (trees_sites args) → GivesOrStops At (Steps n (trees_places args) ValueHolds cs) (aggregate_value s f p args cs)
     aggregate_walked f p args cs so at h =
         then (arguments_walked At tables s.from there s whole args cs h) (λ r q.
         then {Q = ValueHolds r.1} (then (finds kind.NoSuchOperator p (lone_operand r.0) at) (λ t is.
         then (finds kind.NoSuchOperator p (aggregate_row f (type_of t)) at) (λ a row. gives (lone_holds r.1 r.0 t q.sound is, (so, (inr (f, row), at))))))
-        (λ v held. gives (record { adds = q.adds; sound = held })))
+        (λ v sound. gives (record { adds = q.adds; sound = sound })))
 
-    plain_walked : (t : Tree) (cs : List ConstText) → AllByRecursion At (tree_held t) → GivesOrStops At (Steps n (tree_places t) ValueHolds cs) (plain_value s g t cs)
+    plain_walked : (t : Tree) (cs : List ConstText) → AllByRecursion At (tree_sites t) → GivesOrStops At (Steps n (tree_places t) ValueHolds cs) (plain_value s g t cs)
     plain_walked t cs h =
         then (expression_walked At tables s.from there s whole t cs h) (λ r q.
         then (passes (is_ungrouped g r.0) kind.NoSuchOperator (tree_place t) (own_place At t h)) (λ _ own. gives (record { adds = q.adds; sound = (q.sound, own) })))
 
-    value_walked : (t : Tree) (cs : List ConstText) → (is_aggregate_call t ≡ true → grouped ≡ true) → AllByRecursion At (tree_held t) → GivesOrStops At (Steps n (tree_places t) ValueHolds cs) (item_value s g t cs)
+    value_walked : (t : Tree) (cs : List ConstText) → (is_aggregate_call t ≡ true → grouped ≡ true) → AllByRecursion At (tree_sites t) → GivesOrStops At (Steps n (tree_places t) ValueHolds cs) (item_value s g t cs)
     value_walked (tree (node.Call f) p args) cs agg h = by (is_aggregate f) refl
       where
         by : (b : Bool) → is_aggregate f ≡ b → GivesOrStops At (Steps n (trees_places args) ValueHolds cs) (cond b (aggregate_value s f p args cs) (plain_value s g (tree (node.Call f) p args) cs))
@@ -328,18 +328,18 @@ module _ (At : ℕ → Type 0) (tables : List ColumnList) (s : ScopeParts) (begi
     output_more : (cs : List ConstText) (o : OutputLists) (v : Value) (name : List ℕ) (a : Option Word) → OutputsHold cs o → ValueHolds cs v → OutputsHold cs (with_output o v name a)
     output_more cs o v name a so_far own = (each_both (OutputHolds cs) o.columns ((v.0, name) ∷ []) so_far.0 (own.0, tt), zip_both IsItem o.columns o.aggs ((v.0, name) ∷ []) (v.1 ∷ []) so_far.1 (own.1, tt))
 
-    item_walked : (o : OutputLists) (i : ItemParts) (cs : List ConstText) → OutputsHold cs o → (is_aggregate_item i ≡ true → grouped ≡ true) → AllByRecursion At (item_held i) → GivesOrStops At (Steps n (item_places i) OutputsHold cs) (with_item s g o i cs)
+    item_walked : (o : OutputLists) (i : ItemParts) (cs : List ConstText) → OutputsHold cs o → (is_aggregate_item i ≡ true → grouped ≡ true) → AllByRecursion At (item_sites i) → GivesOrStops At (Steps n (item_places i) OutputsHold cs) (with_item s g o i cs)
     item_walked o (every p) cs so_far agg h = then (every_walked o p h.0) (λ r more. gives (record { adds = adds_none; sound = more cs so_far }))
     item_walked o (one t a) cs so_far agg h =
-        then (value_walked t cs agg (each_parts At (tree_held t) (word_held a) h).0) (λ r q.
+        then (value_walked t cs agg (each_parts At (tree_sites t) (word_sites a) h).0) (λ r q.
         gives (record { adds = q.adds; sound = output_more r.1 o r.0 _ a (still OutputsHold outputs_stay o q.adds so_far) q.sound }))
     item_walked o (count_all p a) cs so_far agg h =
         gives (record { adds = adds_none; sound = output_more cs o (counting p) _ a so_far (record { named = (tt, tt); operated = ((refl, refl), tt); placed = (h.0, tt); above = refl; below = refl }, (agg refl, (inl (refl, refl), h.0))) })
 
-    items_walked : (o : OutputLists) (is : List ItemParts) (cs : List ConstText) → OutputsHold cs o → (list_any is_aggregate_item is ≡ true → grouped ≡ true) → AllByRecursion At (flat_map item_held is) → GivesOrStops At (Steps n (flat_map item_places is) OutputsHold cs) (with_items s g o is cs)
+    items_walked : (o : OutputLists) (is : List ItemParts) (cs : List ConstText) → OutputsHold cs o → (list_any is_aggregate_item is ≡ true → grouped ≡ true) → AllByRecursion At (flat_map item_sites is) → GivesOrStops At (Steps n (flat_map item_places is) OutputsHold cs) (with_items s g o is cs)
     items_walked o [] cs so_far agg h = gives (record { adds = adds_none; sound = so_far })
     items_walked o (i ∷ is) cs so_far agg h =
-        let parts = each_parts At (item_held i) (flat_map item_held is) h in
+        let parts = each_parts At (item_sites i) (flat_map item_sites is) h in
         then (item_walked o i cs so_far (λ own. agg (either_true (is_aggregate_item i) (list_any is_aggregate_item is) (inl own))) parts.0) (λ r a.
         also (items_walked r.0 is r.1 a.sound (λ own. agg (either_true (is_aggregate_item i) (list_any is_aggregate_item is) (inr own))) parts.1) (λ q b. record { adds = adds_both a.adds b.adds; sound = b.sound }))
 
@@ -354,22 +354,22 @@ module _ (At : ℕ → Type 0) (tables : List ColumnList) (s : ScopeParts) (begi
     columns_more done x t ts is =
         ap (λ ys. ys ++ flat_map (group_column s) ts) (flat_both column_in done (x ∷ []) ∙ ap (λ ys. columns_in done ++ ys) is) ∙ append_assoc (columns_in done) (group_column s t) (flat_map (group_column s) ts)
 
-    group_walked : (t : Tree) → AllByRecursion At (tree_held t) → GivesOrStops At (λ r. GroupHolds r × (columns_in (r ∷ []) ≡ group_column s t)) (typed_group s t)
-    group_walked (tree (node.Column t c) p args) h = by (column_named s t c) refl (column_walked At tables s.from there s whole t c (each_parts At (c.place ∷ word_held t) (trees_held args) h.1).0)
+    group_walked : (t : Tree) → AllByRecursion At (tree_sites t) → GivesOrStops At (λ r. GroupHolds r × (columns_in (r ∷ []) ≡ group_column s t)) (typed_group s t)
+    group_walked (tree (node.Column t c) p args) h = by (column_named s t c) refl (column_walked At tables s.from there s whole t c (each_parts At (c.place ∷ word_sites t) (trees_sites args) h.1).0)
       where
         by : (r : Result Found Mistake) → column_named s t c ≡ r → GivesOrStops At (IsFound At tables s.from there s whole) r → GivesOrStops At (λ x. GroupHolds x × (columns_in (x ∷ []) ≡ column_numbers (column_named s t c))) (r >>= group_of p)
         by (Err w) is (stops at) = stops at
         by (Ok f) is (gives found) =
             then (passes (not (is_key f.ty)) kind.NoSuchOperator p h.0) (λ _ key. gives (
-              (λ cs. record { named = (found.0, tt); operated = (refl, tt); placed = (h.0, tt); above = both_true (nat_le s.first f.from) true found.1.0 refl; below = both_true (nat_lt f.from past) true found.1.1 refl }, (refl, not_false (is_key f.ty) key)),
+              (λ cs. record { named = (found.0, tt); operated = (refl, tt); placed = (h.0, tt); above = both_true (nat_le s.first f.from) true found.1.0 refl; below = both_true (nat_lt f.from past) true found.1.1 refl }, (refl, not-false (is_key f.ty) key)),
               sym (ap column_numbers is),
             ))
     group_walked (tree nd p args) h = stops h.0
 
-    groups_walked : (done : List TypedTree) (ts : List Tree) → AllByRecursion GroupHolds done → AllByRecursion At (flat_map tree_held ts) → GivesOrStops At (GroupsHold done ts) (with_groups s done ts)
+    groups_walked : (done : List TypedTree) (ts : List Tree) → AllByRecursion GroupHolds done → AllByRecursion At (flat_map tree_sites ts) → GivesOrStops At (GroupsHold done ts) (with_groups s done ts)
     groups_walked done [] so_far h = gives (so_far, (sym (append-nil (columns_in done)), omega arith))
     groups_walked done (t ∷ ts) so_far h =
-        let parts = each_parts At (tree_held t) (flat_map tree_held ts) h in
+        let parts = each_parts At (tree_sites t) (flat_map tree_sites ts) h in
         then (group_walked t parts.0) (λ x own.
         also (groups_walked (done ++ x ∷ []) ts (each_both GroupHolds done (x ∷ []) so_far (own.0, tt)) parts.1) (λ all is. (is.0, (is.1.0 ∙ columns_more done x t ts own.1, let a = is.1.1 in let b = length-append done (x ∷ []) in omega (arith, a, b)))))
 
@@ -409,7 +409,7 @@ module _ (At : ℕ → Type 0) (tables : List ColumnList) (s : ScopeParts) (begi
     own_type y None item key plain = key
     own_type y (Some a) item key plain = let so = item.0 in absurd (cc)
 
-    key_walked : (o : OutputLists) (k : KeyParts) (cs : List ConstText) → OutputsHold cs o → AllByRecursion At (key_held k)
+    key_walked : (o : OutputLists) (k : KeyParts) (cs : List ConstText) → OutputsHold cs o → AllByRecursion At (key_sites k)
         → GivesOrStops At (Steps n (key_places k) (λ ds r. KeyHolds ds r × IsJudged o r (key_item o k)) cs) (typed_key s g o k cs)
     key_walked o k cs so_far h = by (aliased o k.value) refl
       where
@@ -422,10 +422,10 @@ module _ (At : ℕ → Type 0) (tables : List ColumnList) (s : ScopeParts) (begi
             then {Q = Steps n (key_places k) (λ ds t. Holds ds t × ((is_key (type_of t) ≡ true) × (is_ungrouped g t ≡ false))) cs}
             (then (expression_walked At tables s.from there s whole k.value cs h) (λ r q.
             then (passes (not (is_key (type_of r.0))) kind.NoSuchOperator (tree_place k.value) place) (λ _ key.
-            then (passes (is_ungrouped g r.0) kind.NoSuchOperator (tree_place k.value) place) (λ _ own. gives (record { adds = q.adds; sound = (q.sound, (not_false (is_key (type_of r.0)) key, own)) })))))
+            then (passes (is_ungrouped g r.0) kind.NoSuchOperator (tree_place k.value) place) (λ _ own. gives (record { adds = q.adds; sound = (q.sound, (not-false (is_key (type_of r.0)) key, own)) })))))
             (λ r q. gives (record { adds = q.adds; sound = ((q.sound.0, λ _. q.sound.1.0), q.sound.1) }))
         by (Some x) is =
-            then {Q = λ r. (r ≡ (x.1.0, cs)) × (is_key x.1.1 ≡ true)} (then (passes (not (is_key x.1.1)) kind.NoSuchOperator (tree_place k.value) place) (λ _ key. gives (refl, not_false (is_key x.1.1) key)))
+            then {Q = λ r. (r ≡ (x.1.0, cs)) × (is_key x.1.1 ≡ true)} (then (passes (not (is_key x.1.1)) kind.NoSuchOperator (tree_place k.value) place) (λ _ key. gives (refl, not-false (is_key x.1.1) key)))
             (λ r q.
             let alias = alias_stands o k.value x is in
             let y = alias.0 in
@@ -439,10 +439,10 @@ module _ (At : ℕ → Type 0) (tables : List ColumnList) (s : ScopeParts) (begi
     abbrev KeysHold : OutputLists → List KeyParts → List ConstText → List (TypedTree × Bool) → Type 0
     KeysHold o ks cs rs = AllByRecursion (KeyHolds cs) rs × AllZip (IsJudged o) rs (map (key_item o) ks)
 
-    keys_walked : (o : OutputLists) (ks : List KeyParts) (cs : List ConstText) → OutputsHold cs o → AllByRecursion At (flat_map key_held ks) → GivesOrStops At (Steps n (flat_map key_places ks) (KeysHold o ks) cs) (typed_keys s g o ks cs)
+    keys_walked : (o : OutputLists) (ks : List KeyParts) (cs : List ConstText) → OutputsHold cs o → AllByRecursion At (flat_map key_sites ks) → GivesOrStops At (Steps n (flat_map key_places ks) (KeysHold o ks) cs) (typed_keys s g o ks cs)
     keys_walked o [] cs so_far h = gives (record { adds = adds_none; sound = (tt, tt) })
     keys_walked o (k ∷ ks) cs so_far h =
-        let parts = each_parts At (key_held k) (flat_map key_held ks) h in
+        let parts = each_parts At (key_sites k) (flat_map key_sites ks) h in
         then (key_walked o k cs so_far parts.0) (λ x a.
         then (keys_walked o ks x.1 (still OutputsHold outputs_stay o a.adds so_far) parts.1) (λ xs b.
         gives (record { adds = adds_both a.adds b.adds; sound = ((still KeyHolds key_stays x.0 b.adds a.sound.0, b.sound.0), (a.sound.1, b.sound.1)) })))
@@ -477,10 +477,10 @@ module _ (At : ℕ → Type 0) (tables : List ColumnList) (s : ScopeParts) (begi
   abbrev AreAllJoins : List FromParts → List ConstText → List (Option TypedTree) → Type 0
   AreAllJoins fs cs js = JoinsHold 0 0 cs js × ((length js ≡ length fs) × (on_of js 0 ≡ None))
 
-  all_joins_walked : (fs : List FromParts) (cs : List ConstText) → length fs ≡ length s.from → AllByRecursion At (ons_held fs) → GivesOrStops At (Steps n (flat_map from_places fs) (AreAllJoins fs) cs) (typed_joins s fs cs)
+  all_joins_walked : (fs : List FromParts) (cs : List ConstText) → length fs ≡ length s.from → AllByRecursion At (ons_sites fs) → GivesOrStops At (Steps n (flat_map from_places fs) (AreAllJoins fs) cs) (typed_joins s fs cs)
   all_joins_walked [] cs all h = gives (record { adds = adds_none; sound = (tt, (refl, refl)) })
   all_joins_walked (f ∷ fs) cs all h =
-      then (joins_walked 0 1 fs cs (omega arith) (omega (arith, all)) (each_parts At (condition_held f.on) (ons_held fs) h).1) (λ r b.
+      then (joins_walked 0 1 fs cs (omega arith) (omega (arith, all)) (each_parts At (condition_sites f.on) (ons_sites fs) h).1) (λ r b.
       gives (record { adds = adds_within (within_back (from_places f) (within_all (flat_map from_places fs))) b.adds; sound = (b.sound.0, (one_longer r.0 fs None f b.sound.1, refl)) }))
 
   all_joins_stay : (fs : List FromParts) → Stays (AreAllJoins fs)
@@ -494,7 +494,7 @@ module _ (At : ℕ → Type 0) (tables : List ColumnList) (s : ScopeParts) (begi
   condition_stays None cs more h = tt
   condition_stays (Some t) cs more h = (stay t cs more h.0, h.1)
 
-  condition_walked : (c : Option Tree) (cs : List ConstText) → AllByRecursion At (condition_held c) → GivesOrStops At (Steps n (condition_places c) ConditionHolds cs) (condition s c cs)
+  condition_walked : (c : Option Tree) (cs : List ConstText) → AllByRecursion At (condition_sites c) → GivesOrStops At (Steps n (condition_places c) ConditionHolds cs) (condition s c cs)
   condition_walked None cs h = gives (record { adds = adds_none; sound = tt })
   condition_walked (Some t) cs h = also (some_condition_walked At tables s.from there s whole t cs h) (λ c a. record { adds = a.adds; sound = subst (ConditionHolds c.1) (sym a.sound.1) (a.sound.2, a.sound.3) })
 
@@ -506,7 +506,7 @@ module _ (At : ℕ → Type 0) (tables : List ColumnList) (s : ScopeParts) (begi
   condition_stands cs None h = tt
   condition_stands cs (Some t) h = ((h.0.operated, h.0.placed), tt)
 
-  limit_walked : (w : Option Word) → AllByRecursion At (word_held w) → GivesOrStops At (λ l. IfSome l (λ n. n < 10 ^ 18)) (limit_of w)
+  limit_walked : (w : Option Word) → AllByRecursion At (word_sites w) → GivesOrStops At (λ l. IfSome l (λ n. n < 10 ^ 18)) (limit_of w)
   limit_walked None h = gives tt
   limit_walked (Some w) h = then (finds kind.BadCount w.place (limit_value w.text) h.0) (λ l is. gives (limit_small w.text l is))
 
@@ -527,7 +527,7 @@ module _ (At : ℕ → Type 0) (tables : List ColumnList) (s : ScopeParts) (begi
 
     -- an expression that is not outside the groups is one of them
     of_groups : (b : Bool) (columns : List ColumnNumbers) (t : TypedTree) → is_ungrouped (cond b (Some columns) None) t ≡ false → b ≡ true → is_column columns t ≡ true
-    of_groups true columns t h so = not_false (is_column columns t) h
+    of_groups true columns t h so = not-false (is_column columns t) h
     of_groups false columns t h so = absurd (cc)
 
     query_typed : (cs : List ConstText) (o : OutputLists) (js : List (Option TypedTree)) (c : Option TypedTree) (gr : List TypedTree) (ks : List (TypedTree × Bool)) (l : Option ℕ) → length s.from ≤ 4 → IsDistinct bytes_eq (names_of s.from) → length x.from ≡ length s.from
@@ -587,7 +587,7 @@ module _ (At : ℕ → Type 0) (tables : List ColumnList) (s : ScopeParts) (begi
     abbrev AreConditions : List ConstText → ConditionParts → Type 0
     AreConditions cs w = AreAllJoins x.from cs w.joins × ConditionHolds cs w.cond
 
-    conditions_walked : (cs : List ConstText) → length x.from ≡ length s.from → AllByRecursion At (ons_held x.from) → AllByRecursion At (condition_held x.cond) → GivesOrStops At (Steps n (flat_map from_places x.from ++ condition_places x.cond) AreConditions cs) (typed_conditions s x cs)
+    conditions_walked : (cs : List ConstText) → length x.from ≡ length s.from → AllByRecursion At (ons_sites x.from) → AllByRecursion At (condition_sites x.cond) → GivesOrStops At (Steps n (flat_map from_places x.from ++ condition_places x.cond) AreConditions cs) (typed_conditions s x cs)
     conditions_walked cs as_many ons cond =
         then (all_joins_walked x.from cs as_many ons) (λ j b.
         then (condition_walked x.cond j.1 cond) (λ c d. gives (record { adds = adds_both b.adds d.adds; sound = (still (AreAllJoins x.from) (all_joins_stay x.from) j.0 d.adds b.sound, d.sound) })))
@@ -595,7 +595,7 @@ module _ (At : ℕ → Type 0) (tables : List ColumnList) (s : ScopeParts) (begi
     abbrev IsArrangement : OutputLists → List ConstText → ArrangementParts → Type 0
     IsArrangement o cs r = GroupsHold grouped x.groups [] x.groups r.groups × (KeysHold grouped x.groups o x.keys cs r.keys × ((r.key_items ≡ map (key_item o) x.keys) × IfSome r.limit (λ n. n < 10 ^ 18)))
 
-    arrangement_walked : (o : OutputLists) (cs : List ConstText) → OutputsHold grouped x.groups cs o → AllByRecursion At (flat_map tree_held x.groups) → AllByRecursion At (flat_map key_held x.keys) → AllByRecursion At (word_held x.limit)
+    arrangement_walked : (o : OutputLists) (cs : List ConstText) → OutputsHold grouped x.groups cs o → AllByRecursion At (flat_map tree_sites x.groups) → AllByRecursion At (flat_map key_sites x.keys) → AllByRecursion At (word_sites x.limit)
         → GivesOrStops At (Steps n (flat_map key_places x.keys) (IsArrangement o) cs) (typed_arrangement s (grouping grouped s x.groups) o x cs)
     arrangement_walked o cs so_far groups keys limit =
         then (groups_walked grouped x.groups [] x.groups tt groups) (λ gr own.
@@ -605,13 +605,13 @@ module _ (At : ℕ → Type 0) (tables : List ColumnList) (s : ScopeParts) (begi
     conditions_stay : Stays AreConditions
     conditions_stay w cs more h = (all_joins_stay x.from w.joins cs more h.0, condition_stays w.cond cs more h.1)
 
-    clauses_walked : (cs : List ConstText) → length s.from ≤ 4 → IsDistinct bytes_eq (names_of s.from) → length x.from ≡ length s.from → AllByRecursion At (select_held x) → GivesOrStops At (Steps n (select_places x) (IsStandingQuery At tables) cs) (typed_clauses s x cs)
+    clauses_walked : (cs : List ConstText) → length s.from ≤ 4 → IsDistinct bytes_eq (names_of s.from) → length x.from ≡ length s.from → AllByRecursion At (select_sites x) → GivesOrStops At (Steps n (select_places x) (IsStandingQuery At tables) cs) (typed_clauses s x cs)
     clauses_walked cs few apart as_many h =
-        let items = each_parts At (flat_map item_held x.items) (flat_map from_held x.from ++ (condition_held x.cond ++ (flat_map tree_held x.groups ++ (flat_map key_held x.keys ++ word_held x.limit)))) h in
-        let from = each_parts At (flat_map from_held x.from) (condition_held x.cond ++ (flat_map tree_held x.groups ++ (flat_map key_held x.keys ++ word_held x.limit))) items.1 in
-        let cond = each_parts At (condition_held x.cond) (flat_map tree_held x.groups ++ (flat_map key_held x.keys ++ word_held x.limit)) from.1 in
-        let groups = each_parts At (flat_map tree_held x.groups) (flat_map key_held x.keys ++ word_held x.limit) cond.1 in
-        let keys = each_parts At (flat_map key_held x.keys) (word_held x.limit) groups.1 in
+        let items = each_parts At (flat_map item_sites x.items) (flat_map from_sites x.from ++ (condition_sites x.cond ++ (flat_map tree_sites x.groups ++ (flat_map key_sites x.keys ++ word_sites x.limit)))) h in
+        let from = each_parts At (flat_map from_sites x.from) (condition_sites x.cond ++ (flat_map tree_sites x.groups ++ (flat_map key_sites x.keys ++ word_sites x.limit))) items.1 in
+        let cond = each_parts At (condition_sites x.cond) (flat_map tree_sites x.groups ++ (flat_map key_sites x.keys ++ word_sites x.limit)) from.1 in
+        let groups = each_parts At (flat_map tree_sites x.groups) (flat_map key_sites x.keys ++ word_sites x.limit) cond.1 in
+        let keys = each_parts At (flat_map key_sites x.keys) (word_sites x.limit) groups.1 in
         then (items_walked grouped x.groups no_outputs x.items cs (tt, tt) (λ own. any_grouped x own) items.0) (λ o a.
         then (conditions_walked o.1 as_many (ons_of At x.from from.0) cond.0) (λ w e.
         then (arrangement_walked o.0 w.1 (still (OutputsHold grouped x.groups) (outputs_stay grouped x.groups) o.0 e.adds a.sound) groups.0 keys.0 keys.1) (λ r f.
@@ -628,11 +628,11 @@ no_tables : (tables : List ColumnList) → IsScope tables []
 unfolding IsDistinct
 no_tables tables = record { there = tt; few = omega arith; apart = tt }
 
-pub select_walked : (At : ℕ → Type 0) (tables : List (List ℕ × ColumnList)) (n : ℕ) (x : SelectParts) (cs : List ConstText) → AllByRecursion At (select_held x)
+pub select_walked : (At : ℕ → Type 0) (tables : List (List ℕ × ColumnList)) (n : ℕ) (x : SelectParts) (cs : List ConstText) → AllByRecursion At (select_sites x)
     → GivesOrStops At (Steps n (select_places x) (IsStandingQuery At (named tables)) cs) (typed_select tables n x cs)
 select_walked At tables n x cs h =
-    let items = each_parts At (flat_map item_held x.items) (flat_map from_held x.from ++ (condition_held x.cond ++ (flat_map tree_held x.groups ++ (flat_map key_held x.keys ++ word_held x.limit)))) h in
-    let from = each_parts At (flat_map from_held x.from) (condition_held x.cond ++ (flat_map tree_held x.groups ++ (flat_map key_held x.keys ++ word_held x.limit))) items.1 in
+    let items = each_parts At (flat_map item_sites x.items) (flat_map from_sites x.from ++ (condition_sites x.cond ++ (flat_map tree_sites x.groups ++ (flat_map key_sites x.keys ++ word_sites x.limit)))) h in
+    let from = each_parts At (flat_map from_sites x.from) (condition_sites x.cond ++ (flat_map tree_sites x.groups ++ (flat_map key_sites x.keys ++ word_sites x.limit))) items.1 in
     then {P = Steps n (select_places x) (IsStandingQuery At (named tables)) cs} (tables_walked At tables [] x.from (no_tables (named tables)) from.0)
     (λ f are. let long = are.1 in clauses_walked At (named tables) (record { from = f; first = 0; statement = n }) refl are.0.there x cs are.0.few are.0.apart (omega (arith, long)) h)
 
@@ -663,10 +663,10 @@ clauses_bare scope table c cs q is = by (condition scope c cs) refl is
         let same = same_made (select_made (scope_tables scope) row false no_outputs (record { joins = None ∷ []; cond = d.0 }) nothing_else, d.1) q so in
         (ap (λ z. z.0.items) (sym same), ap (λ z. z.0.from) (sym same))
 
-pub delete_walked : (At : ℕ → Type 0) (tables : List (List ℕ × ColumnList)) (n : ℕ) (table : Word) (c : Option Tree) (cs : List ConstText) → AllByRecursion At (table.place ∷ condition_held c)
+pub delete_walked : (At : ℕ → Type 0) (tables : List (List ℕ × ColumnList)) (n : ℕ) (table : Word) (c : Option Tree) (cs : List ConstText) → AllByRecursion At (table.place ∷ condition_sites c)
     → GivesOrStops At (Steps n (condition_places c) (λ ds q. IsTypedDeletion (named tables) ds q × AllByRecursion At (query_operators q)) cs) (typed_select tables n (rows_to_go table c) cs)
 delete_walked At tables n table c cs h =
-    let own : AllByRecursion At (condition_held c ++ []) = each_both At (condition_held c) [] h.1 tt in
+    let own : AllByRecursion At (condition_sites c ++ []) = each_both At (condition_sites c) [] h.1 tt in
     then {P = Steps n (condition_places c) (λ ds q. IsTypedDeletion (named tables) ds q × AllByRecursion At (query_operators q)) cs}
     (tables_walked At tables [] (record { table = table; alias = None; on = None } ∷ []) (no_tables (named tables)) (h.0, tt))
     (λ f are.

@@ -2,7 +2,7 @@
 -- of a mistake.
 use Rattle.std.{specs.Prelude.{not, codes, nat_le, slice_get, option_map, option_and_then}, specs.List.{AllByRecursion, IsDistinct, flat_map}, specs.Str.{bytes_eq}}
 use Rattle.std.proofs.Common.{◌≡◌, ◌≤◌, ◌<◌, ◌+◌, ◌∙◌, refl, sym, ap, subst, arith, ℕ, List, [], ◌∷◌, ◌++◌, append-nil, length, length-append, map, true, Option, Some, None, Result}
-use Rattle.std.{proofs.lemmas.Bool.{leb-false}, proofs.lemmas.List.{length-map, map-append}, proofs.lemmas.Option.{slice_get_within}}
+use Rattle.std.{proofs.lemmas.Bool.{leb-false, not-false}, proofs.lemmas.List.{length-map, map-append}, proofs.lemmas.Option.{slice_get_within}}
 use Rattle.mob_list.proofs.Each.{each_parts}
 use Rattle.mob_ast.{specs.declared.types.Word.{Word}, specs.declared.types.Quoted.{Quoted}, specs.declared.types.TypeWord.{TypeWord}, specs.declared.types.SqlType.{SqlType}}
 use Rattle.mob_ast.specs.Trees.{RowParts, StatementParts, empty, create_table, create_index, insert, copy, delete, select, explain}
@@ -12,9 +12,9 @@ use Rattle.mob_scope.{specs.declared.fault.Mistake.{Mistake}, specs.Names.{colum
 use Rattle.mob_expression.specs.Words.{type_named}
 use Rattle.mob_typing.{specs.Names.{NameLists, table_of}, specs.Statements.{Made, with_column, with_columns, made_table, made_index, inserted, good_delimiter, copied, keeping, typed_statement}}
 use Rattle.mob_typing.{specs.Stands.{operators_of}, specs.WellTyped.{IsTypedStatement, tables_behind, table_made, index_made}}
-use Rattle.mob_typing.{proofs.Walk.{GivesOrStops, gives, then, also, passes, finds, not_false, adds_none, Steps}, proofs.Apart.{name_last, none_named, entry_last}, proofs.Sound.{entry_stands}}
+use Rattle.mob_typing.{proofs.Walk.{GivesOrStops, gives, then, also, passes, finds, adds_none, Steps}, proofs.Apart.{name_last, none_named, entry_last}, proofs.Sound.{entry_stands}}
 use Rattle.mob_typing.{proofs.WalkedRows.{rows_walked}, proofs.WalkedSelects.{named, table_there, delete_walked, select_walked}}
-use Rattle.mob_grammar.{specs.Places.{IsWithin, nothing as none_within, same, tree_places, row_places, statement_places}, specs.Held.{string_held, column_held, row_held, statement_held}}
+use Rattle.mob_grammar.{specs.Places.{IsWithin, nothing as none_within, same, tree_places, row_places, statement_places}, specs.Sites.{string_sites, column_sites, row_sites, statement_sites}}
 use Rattle.mob_grammar.proofs.Within.{within_back}
 use Rattle.mob_ast.specs.declared.types.SqlType.TheVariants as sql
 use Rattle.mob_ast.specs.declared.refusal.Kind.TheVariants as kind
@@ -56,7 +56,7 @@ brackets_within [] = none_within
 brackets_within (r ∷ rs) = same (within_back (flat_map tree_places r.values) (brackets_within rs))
 
 module _ (At : ℕ → Type 0) where
-  column_walked : (columns : ColumnList) (c : Word × TypeWord) → IsRoom columns → AllByRecursion At (column_held c) → GivesOrStops At IsRoom (with_column columns c)
+  column_walked : (columns : ColumnList) (c : Word × TypeWord) → IsRoom columns → AllByRecursion At (column_sites c) → GivesOrStops At IsRoom (with_column columns c)
   column_walked columns c so_far h =
       then (passes (has_entry columns c.0.text) kind.Duplicate c.0.place h.0) (λ _ new.
       then (passes (nat_le 64 (length columns)) kind.Limit c.0.place h.0) (λ _ room.
@@ -65,10 +65,10 @@ module _ (At : ℕ → Type 0) where
       let long : length (columns ++ (c.0.text, ty) ∷ []) ≡ length columns + 1 = length-append columns ((c.0.text, ty) ∷ []) in
       gives (record { few = omega arith; apart = entry_last columns c.0.text ty so_far.apart new }))))
 
-  columns_walked : (columns : ColumnList) (cs : List (Word × TypeWord)) → IsRoom columns → AllByRecursion At (flat_map column_held cs) → GivesOrStops At IsRoom (with_columns columns cs)
+  columns_walked : (columns : ColumnList) (cs : List (Word × TypeWord)) → IsRoom columns → AllByRecursion At (flat_map column_sites cs) → GivesOrStops At IsRoom (with_columns columns cs)
   columns_walked columns [] so_far h = gives so_far
   columns_walked columns (c ∷ cs) so_far h =
-      let parts = each_parts At (column_held c) (flat_map column_held cs) h in then (column_walked columns c so_far parts.0) (λ more room. columns_walked more cs room parts.1)
+      let parts = each_parts At (column_sites c) (flat_map column_sites cs) h in then (column_walked columns c so_far parts.0) (λ more room. columns_walked more cs room parts.1)
 
   module _ (names : NameLists) where
     abbrev tables : List ColumnList
@@ -94,7 +94,7 @@ module _ (At : ℕ → Type 0) where
       rows = rows;
     }
 
-    table_walked : (name : Word) (columns : List (Word × TypeWord)) → At name.place → AllByRecursion At (flat_map column_held columns) → GivesOrStops At IsMadeAlone (made_table names name columns)
+    table_walked : (name : Word) (columns : List (Word × TypeWord)) → At name.place → AllByRecursion At (flat_map column_sites columns) → GivesOrStops At IsMadeAlone (made_table names name columns)
     table_walked name columns at h =
         then (passes (has_entry names.tables name.text) kind.Duplicate name.place at) (λ _ new.
         then (passes (nat_le 64 (length names.tables)) kind.Limit name.place at) (λ _ room.
@@ -118,7 +118,7 @@ module _ (At : ℕ → Type 0) where
         gives (λ consts. record {
           typed =
               ap (option_and_then (λ (columns : ColumnList). option_map (λ k. k.1) (slice_get columns c.0))) (table_there names.tables table.text t there) ∙ ap (option_map (λ (k : List ℕ × SqlType). k.1)) entry.1
-              ∙ ap (λ ty. Some ty) (entry.2 ∙ point_alone c.1 (not_false (same_type c.1 sql.TPoint) point));
+              ∙ ap (λ ty. Some ty) (entry.2 ∙ point_alone c.1 (not-false (same_type c.1 sql.TPoint) point));
           behind = refl;
           tables = sym (append-nil (names_of names.tables));
           indexes = refl;
@@ -127,16 +127,16 @@ module _ (At : ℕ → Type 0) where
           rows = none_within;
         })))))
 
-    delimiter_walked : (d : Option Quoted) → AllByRecursion At (string_held d) → GivesOrStops At (λ _. Unit {0}) (good_delimiter d)
+    delimiter_walked : (d : Option Quoted) → AllByRecursion At (string_sites d) → GivesOrStops At (λ _. Unit {0}) (good_delimiter d)
     delimiter_walked None h = gives tt
     delimiter_walked (Some q) h = also (passes (not (bytes_eq q.text (codes ","))) kind.NoSuchOperator q.place h.0) (λ _ comma. tt)
 
-    copy_walked : (table : Word) (file : Quoted) (d : Option Quoted) → At table.place → AllByRecursion At (string_held d) → GivesOrStops At IsMadeAlone (copied names table file d)
+    copy_walked : (table : Word) (file : Quoted) (d : Option Quoted) → At table.place → AllByRecursion At (string_sites d) → GivesOrStops At IsMadeAlone (copied names table file d)
     copy_walked table file d at h =
         then (finds kind.UnknownName table.place (table_of names.tables table.text) at) (λ t there.
         then (delimiter_walked d h) (λ _ good. gives (λ consts. plain (rows_from t.0 file.text) (slice_get_within tables t.0 t.1 (table_there names.tables table.text t there)) refl refl refl tt none_within)))
 
-    insert_walked : (n : ℕ) (table : Word) (rs : List RowParts) (cs : List ConstText) → At table.place → AllByRecursion At (flat_map row_held rs) → GivesOrStops At (Steps n (flat_map row_places rs) (IsMade At names (flat_map row_places rs)) cs) (inserted n names table rs cs)
+    insert_walked : (n : ℕ) (table : Word) (rs : List RowParts) (cs : List ConstText) → At table.place → AllByRecursion At (flat_map row_sites rs) → GivesOrStops At (Steps n (flat_map row_places rs) (IsMade At names (flat_map row_places rs)) cs) (inserted n names table rs cs)
     insert_walked n table rs cs at h =
         then (finds kind.UnknownName table.place (table_of names.tables table.text) at) (λ t there.
         then (rows_walked At n t.1 rs cs h) (λ r q. gives (record {
@@ -149,7 +149,7 @@ module _ (At : ℕ → Type 0) where
     made_alone : (n : ℕ) (cs : List ConstText) {r : Result Made Mistake} → GivesOrStops At IsMadeAlone r → GivesOrStops At (Steps n [] (IsMade At names []) cs) (keeping cs r)
     made_alone n cs h = then h (λ m made. gives (record { adds = adds_none; sound = made cs }))
 
-    pub statement_walked : (n : ℕ) (s : StatementParts) (cs : List ConstText) → AllByRecursion At (statement_held s) → GivesOrStops At (Steps n (statement_places s) (IsMade At names (statement_places s)) cs) (typed_statement n names s cs)
+    pub statement_walked : (n : ℕ) (s : StatementParts) (cs : List ConstText) → AllByRecursion At (statement_sites s) → GivesOrStops At (Steps n (statement_places s) (IsMade At names (statement_places s)) cs) (typed_statement n names s cs)
     unfolding typed_statement
     statement_walked n empty cs h = gives (record { adds = adds_none; sound = plain nothing tt refl refl refl tt none_within })
     statement_walked n (create_table name columns) cs h = made_alone n cs (table_walked name columns h.0 h.1)

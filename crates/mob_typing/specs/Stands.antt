@@ -1,28 +1,28 @@
--- The places of typing: a refusal, and each operator and aggregate of a typed script, is at a place
--- that the tree of its statement holds.
+-- The sites of typing: a refusal, and each operator and aggregate of a typed script, is at a site
+-- of the tree of its statement.
 use Rattle.std.{specs.Prelude.{◌≡◌, ◌+◌, ◌++◌, ℕ, List, [], ◌∷◌, length, Option, Some, None, Ok, Err}, specs.List.{AllByRecursion, Contains, flat_map}}
 use Rattle.mob_ast.{specs.declared.refusal.Refusal.{Refusal}, specs.Trees.{StatementParts}}
-use Rattle.mob_grammar.specs.Held.{statement_held}
+use Rattle.mob_grammar.specs.Sites.{statement_sites}
 use Rattle.mob_typed.{specs.declared.typed.Agg.{Agg}, specs.Trees.{TypedTree, typed, TypedTrees, none, more}, specs.Selects.{TypedSelectParts}}
 use Rattle.mob_typed.specs.Statements.{StatementOut, nothing, new_table, new_index, new_rows, rows_from, deletion, query, plan_of, ScriptOut}
 use Rattle.mob_typing.{specs.Statements.{typed_script}, specs.WellTyped.{expressions_of}}
 
--- the tree with this number, from 1, holds this place
-pub record IsPlaceIn (trees : List StatementParts) (n place : ℕ) : Type 0 where
+-- this place is a site of the tree with this number, from 1
+pub record IsSiteIn (trees : List StatementParts) (n place : ℕ) : Type 0 where
   pub front : List StatementParts
   pub own : StatementParts
   pub behind : List StatementParts
   pub parts : trees ≡ front ++ own ∷ behind
   pub number : length front + 1 ≡ n
-  pub held : Contains (statement_held own) place
+  pub site : Contains (statement_sites own) place
 
--- a refusal names the statement whose tree holds its place
+-- a refusal is at a site of the tree of the statement that it names
 abbrev pub IsPlacedRefusal : List StatementParts → Refusal → Type 0
-IsPlacedRefusal trees e = IsPlaceIn trees e.statement e.place
+IsPlacedRefusal trees e = IsSiteIn trees e.statement e.place
 
--- each refusal of typing is at a place that the tree of its statement holds
-abbrev pub TypingRefusesAtPlaces : Type 0
-TypingRefusesAtPlaces = (trees : List StatementParts) (e : Refusal) → typed_script trees ≡ Err e → IsPlacedRefusal trees e
+-- each refusal of typing is at a site of the tree of its statement
+abbrev pub TypingRefusesAtSites : Type 0
+TypingRefusesAtSites = (trees : List StatementParts) (e : Refusal) → typed_script trees ≡ Err e → IsPlacedRefusal trees e
 
 -- the places of the operators of a typed expression, constants and columns included
 abbrev mutual
@@ -58,7 +58,6 @@ abbrev pub OperatorsStand : (ℕ → ℕ → Type 0) → ℕ → List StatementO
 OperatorsStand At n [] = Unit {0}
 OperatorsStand At n (s ∷ ss) = AllByRecursion (At n) (operators_of s) × OperatorsStand At (n + 1) ss
 
--- each operator and each aggregate of a typed script is at a place that the tree of its statement
--- holds
-abbrev pub TypingHoldsOperators : Type 0
-TypingHoldsOperators = (trees : List StatementParts) (out : ScriptOut) → typed_script trees ≡ Ok out → OperatorsStand (IsPlaceIn trees) 1 out.statements
+-- each operator and each aggregate of a typed script is at a site of the tree of its statement
+abbrev pub OperatorsAreAtSites : Type 0
+OperatorsAreAtSites = (trees : List StatementParts) (out : ScriptOut) → typed_script trees ≡ Ok out → OperatorsStand (IsSiteIn trees) 1 out.statements

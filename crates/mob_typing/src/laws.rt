@@ -1,5 +1,5 @@
 //! Laws of typed scripts: their types, their names and their places. No code runs here.
-ghost use Rattle.mob_typing.specs.Stands.{TypingHoldsOperators, TypingRefusesAtPlaces};
+ghost use Rattle.mob_typing.specs.Stands.{OperatorsAreAtSites, TypingRefusesAtSites};
 ghost use Rattle.mob_typing.specs.WellTyped.{TypingGivesWellTyped, TypingKeepsNamesApart};
 
 /// Each number in a typed script names something that exists and has the type it needs: a constant,
@@ -12,9 +12,10 @@ pub fn scripts_are_well_typed()
     ensures names { TypingKeepsNamesApart }
 {}
 
-/// A refusal of a name or a type names the statement whose tree holds its place. Each operator and
-/// each aggregate of a typed script is at a place that the tree of its statement holds.
-pub fn places_are_held()
-    ensures refusals { TypingRefusesAtPlaces }
-    ensures operators { TypingHoldsOperators }
+/// A refusal of a name or a type is at a site of the tree of the statement that it names: the place
+/// of a node, a word or a string. Each operator and each aggregate of a typed script is at a site
+/// of the tree of its statement.
+pub fn places_are_sites()
+    ensures refusals { TypingRefusesAtSites }
+    ensures operators { OperatorsAreAtSites }
 {}

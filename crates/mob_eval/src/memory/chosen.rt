@@ -7,6 +7,7 @@ use crate::memory::remembered::Remembering;
 use crate::memory::{Memory, remember};
 use mob_ast::SqlType;
 use mob_operators::Op;
+use mob_slice::Mode;
 use mob_typed::TExpr;
 use mob_value::Store;
 use std::alloc::{AllocError, Global};
@@ -185,11 +186,12 @@ fn reach_of(e: &TExpr) -> NamedPlaces {
     reach
 }
 
-// What is remembered of an operator: its outcomes or its boxes.
+// What is remembered of an operator: its outcomes, its boxes or its covers.
 #[derive(Clone, Copy)]
 enum Remembered {
     Outcome,
     Box,
+    Covers,
 }
 
 // An operator that may be remembered: its place in the script, and the place of FROM that it names.
@@ -200,10 +202,12 @@ struct Chosen {
     what: Remembered,
 }
 
-fn is_box(what: Remembered) -> bool {
+// A number for each thing that is remembered.
+fn number_of(what: Remembered) -> u8 {
     match what {
-        Remembered::Outcome => false,
-        Remembered::Box => true,
+        Remembered::Outcome => 0,
+        Remembered::Box => 1,
+        Remembered::Covers => 2,
     }
 }
 
@@ -212,7 +216,7 @@ fn is_again(one: &Chosen, other: &Chosen) -> bool {
     if one.at != other.at {
         return false;
     }
-    is_box(one.what) == is_box(other.what)
+    number_of(one.what) == number_of(other.what)
 }
 
 // Adds an operator, unless one with its place in the script is in the list.
@@ -236,9 +240,24 @@ fn place_named(e: &TExpr, again: bool) -> Option<Option<u32>> {
     }
 }
 
-// The operands of `&&` whose boxes may be remembered: moving points.
-fn choose_boxes(e: &TExpr, again: bool, chosen: &mut Vec<Chosen>) -> Result<(), AllocError> {
-    let Op::Overlap = e.op else {
+// What may be remembered of the operands of an operator.
+fn of_operands(op: Op, mode: Mode) -> Option<Remembered> {
+    match (op, mode) {
+        (Op::Overlap, _) => Some(Remembered::Box),
+        (Op::EDwithin, Mode::Wide) => Some(Remembered::Covers),
+        (Op::NearestApproachSquared, Mode::Wide) => Some(Remembered::Covers),
+        _ => None,
+    }
+}
+
+// The operands whose boxes or covers may be remembered: moving points.
+fn choose_operands(
+    e: &TExpr,
+    mode: Mode,
+    again: bool,
+    chosen: &mut Vec<Chosen>,
+) -> Result<(), AllocError> {
+    let Some(what) = of_operands(e.op, mode) else {
         return Ok(());
     };
     for arg in &e.args {
@@ -246,7 +265,7 @@ fn choose_boxes(e: &TExpr, again: bool, chosen: &mut Vec<Chosen>) -> Result<(), 
             let one = Chosen {
                 at: arg.place,
                 place,
-                what: Remembered::Box,
+                what,
             };
             add(one, chosen)?;
         }
@@ -255,7 +274,7 @@ fn choose_boxes(e: &TExpr, again: bool, chosen: &mut Vec<Chosen>) -> Result<(), 
 }
 
 // The largest operators of an expression that may be remembered.
-fn choose(e: &TExpr, again: bool, chosen: &mut Vec<Chosen>) -> Result<(), AllocError> {
+fn choose(e: &TExpr, mode: Mode, again: bool, chosen: &mut Vec<Chosen>) -> Result<(), AllocError> {
     if e.args.is_empty() || chosen.len() >= MOST {
         return Ok(());
     }
@@ -267,9 +286,9 @@ fn choose(e: &TExpr, again: bool, chosen: &mut Vec<Chosen>) -> Result<(), AllocE
         };
         return add(one, chosen);
     }
-    choose_boxes(e, again, chosen)?;
+    choose_operands(e, mode, again, chosen)?;
     for arg in &e.args {
-        choose(arg, again, chosen)?;
+        choose(arg, mode, again, chosen)?;
     }
     Ok(())
 }
@@ -297,12 +316,17 @@ fn is_twice(places: &[u32], place: u32) -> bool {
 
 // The operators of several expressions. In a query of one table, only an expression that occurs
 // twice is evaluated again on a row, such as that of a column to which a key refers.
-fn chosen_of(alloc: Global, several: bool, roots: &[&TExpr]) -> Result<Vec<Chosen>, AllocError> {
+fn chosen_of(
+    alloc: Global,
+    mode: Mode,
+    several: bool,
+    roots: &[&TExpr],
+) -> Result<Vec<Chosen>, AllocError> {
     let places = places_of(alloc, roots)?;
     let mut chosen = Vec::new(alloc);
     for root in roots {
         let again = several || is_twice(places.as_slice(), root.place);
-        choose(*root, again, &mut chosen)?;
+        choose(*root, mode, again, &mut chosen)?;
     }
     Ok(chosen)
 }
@@ -347,17 +371,26 @@ fn remember_one<K: Remembering>(
                     rows,
                     &mut memory.boxes,
                 ),
+                Remembered::Covers => remember(
+                    alloc,
+                    chosen.at,
+                    chosen.place,
+                    rows,
+                    &mut memory.covers,
+                ),
             }
         }
         _ => Ok(()),
     }
 }
 
-/// A memory for the operators of these expressions that name at most one table of FROM, and for the
-/// boxes of such operands of `&&`. It remembers about eight, and none that shares its place in the
+/// A memory for the operators of these expressions that name at most one table of FROM, for the
+/// boxes of such operands of `&&`, and in the wide mode for the covers of such operands of eDwithin
+/// and nearestApproachSquared. It remembers about eight, and none that shares its place in the
 /// script with a different one. If an allocation fails, it remembers fewer.
 pub fn memory_of<K: Remembering>(
     alloc: Global,
+    mode: Mode,
     store: &Store,
     from: &[u32],
     roots: &[&TExpr],
@@ -365,7 +398,7 @@ pub fn memory_of<K: Remembering>(
     requires roots { K.recollection.roots ≡ map root_seen roots.now }
 {
     let mut memory = Memory::new(alloc);
-    let Ok(chosen) = chosen_of(alloc, from.len() > 1, roots) else {
+    let Ok(chosen) = chosen_of(alloc, mode, from.len() > 1, roots) else {
         return memory;
     };
     for one in &chosen {

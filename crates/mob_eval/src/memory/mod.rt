@@ -1,13 +1,16 @@
-//! The memory: the outcomes of remembered operators, and the boxes of remembered operands.
+//! The memory: the outcomes of remembered operators, and the boxes and covers of remembered
+//! operands.
 ghost use Rattle.std.specs.Prelude.{IfSome};
 ghost use Rattle.mob_meaning.specs.Depends.{HasRow};
 ghost use Rattle.mob_eval.specs.Remembered.{IsMemoOf, IsOfPlace};
 
 pub mod chosen;
 pub mod own_box;
+pub mod own_covers;
 pub mod remembered;
 
 use crate::memory::own_box::ToldBox;
+use crate::memory::own_covers::ToldCovers;
 use crate::memory::remembered::{Outcomes, Remembering};
 use mob_outcome::memos::{Memo, Told};
 use once_cell::race::OnceBox;
@@ -44,12 +47,13 @@ impl<K: Remembering, T> Model for Slot<K, T> {
     ghost invariant = { λ s. IsOfPlace K.recollection s.at s.place };
 }
 
-/// The outcomes of the remembered operators of a query, and the boxes of remembered operands.
-/// Workers share it without waiting for each other.
+/// The outcomes of the remembered operators of a query, and the boxes and covers of remembered
+/// operands. Workers share it without waiting for each other.
 #[derive(Drop)]
 pub struct Memory<K: Remembering> {
     slots: Vec<Slot<K, Told<Outcomes<K>>>>,
     boxes: Vec<Slot<K, ToldBox<K>>>,
+    covers: Vec<Slot<K, ToldCovers<K>>>,
     taken: AtomicU64,
 }
 
@@ -125,7 +129,7 @@ impl<K: Remembering, T: Drop> Slot<K, T> {
 impl<K: Remembering> Memory<K> {
     /// The memory if it remembers something, else none: then no operator looks for a slot.
     pub fn in_use(&self) -> Option<&Memory<K>> {
-        if self.slots.is_empty() && self.boxes.is_empty() {
+        if self.slots.is_empty() && self.boxes.is_empty() && self.covers.is_empty() {
             return None;
         }
         Some(self)
@@ -136,6 +140,7 @@ impl<K: Remembering> Memory<K> {
         Memory {
             slots: Vec::new(alloc),
             boxes: Vec::new(alloc),
+            covers: Vec::new(alloc),
             taken: AtomicU64::new(0),
         }
     }
@@ -206,6 +211,21 @@ pub fn box_memo_of<'a, K: Remembering>(
 {
     match memory {
         Some(memory) => memo_in(alloc, &memory.boxes, &memory.taken, at, tuple),
+        None => None,
+    }
+}
+
+/// The memo of the operand at a place in the script on a tuple, if its covers are remembered.
+pub fn covers_memo_of<'a, K: Remembering>(
+    alloc: Global,
+    memory: Option<&'a Memory<K>>,
+    at: u32,
+    tuple: &[u32],
+) -> Option<Memo<'a, ToldCovers<K>>>
+    ensures memo { IfSome result (λ c. IsMemoOf K.recollection at tuple.now c.at c.place c.row) }
+{
+    match memory {
+        Some(memory) => memo_in(alloc, &memory.covers, &memory.taken, at, tuple),
         None => None,
     }
 }

@@ -1,7 +1,7 @@
 //! The function `gap`.
 ghost use Rattle.std.specs.Prelude.{◌≡◌, true, is_some};
 ghost use Rattle.mob_frac.specs.Formula.{IsFormula, square_parts};
-ghost use Rattle.mob_near.specs.Distances.{length_squared};
+ghost use Rattle.mob_legs.specs.Legs.{length_squared};
 ghost use Rattle.mob_knn.specs.Gaps.{range_gap, range_gap_parts, area_gap, area_gap_parts, are_apart, exact_or_nil, gap_of, IsGap};
 
 use crate::gaps::kind::Gap;

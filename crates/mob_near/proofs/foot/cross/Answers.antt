@@ -1,4 +1,4 @@
-use Rattle.mob_near.proofs.Formulas.{cross_last}
+use Rattle.mob_legs.proofs.Formulas.{cross_last}
 use Rattle.mob_near.proofs.foot.cross.Goals as goal
 
 pub returns : goal.returns

@@ -1,4 +1,4 @@
-use Rattle.mob_near.proofs.Formulas.{dot_last}
+use Rattle.mob_legs.proofs.Formulas.{dot_last}
 use Rattle.mob_near.proofs.foot.dot.Goals as goal
 
 pub returns : goal.returns

@@ -1,6 +1,6 @@
 use Rattle.std.proofs.Common.{rules, ◌∙◌, sym, true≢false}
 use Rattle.mob_ratio.proofs.Order.{same_exact}
-use Rattle.mob_near.proofs.Formulas.{way_is_long}
+use Rattle.mob_legs.proofs.Formulas.{way_is_long}
 use Rattle.mob_near.proofs.foot.foot_reaches.Goals as goal
 
 pub div-requires : goal.div-requires

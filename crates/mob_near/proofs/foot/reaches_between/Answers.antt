@@ -1,5 +1,5 @@
 use Rattle.std.proofs.lemmas.Result.{err_from_is_err_and}
-use Rattle.mob_near.{specs.Legs.{foot_of, foot_reaches, reach_quotients}, proofs.Formulas.{foot_unfit, foot_last}}
+use Rattle.mob_legs.{specs.Legs.{foot_of, foot_reaches, reach_quotients}, proofs.Formulas.{foot_unfit, foot_last}}
 use Rattle.mob_near.proofs.foot.reaches_between.Goals as goal
 
 pub returns-in_err-foot : goal.returns-in_err-foot

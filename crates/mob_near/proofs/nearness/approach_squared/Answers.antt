@@ -2,7 +2,8 @@ use Rattle.std.{specs.List.{AllByRecursion}, proofs.Common.{sym, subst}, proofs.
 use Rattle.mob_span.specs.Pieces.{PiecesAreClear}
 use Rattle.mob_slice.{specs.Lines.{plane_value_of}, specs.Sides.{operand_of, pieces, piece_of, given_at}}
 use Rattle.mob_lift.{specs.Pieces.{pieces_left}, proofs.Walking.{walking_end, walking_fails}}
-use Rattle.mob_near.{specs.Approaches.{IsApproach}, specs.Entries.{entries_of_approach}, specs.Legs.{nearest_of, piece_approach}, proofs.OnPieces.{IsHeld, all_nearest}}
+use Rattle.mob_legs.specs.Legs.{nearest_of, piece_approach}
+use Rattle.mob_near.{specs.Approaches.{IsApproach}, specs.Entries.{entries_of_approach}, proofs.OnPieces.{IsHeld, all_nearest}}
 use Rattle.mob_near.proofs.AllNearest.{is_approach}
 use Rattle.mob_near.proofs.nearness.approach_squared.Goals as goal
 

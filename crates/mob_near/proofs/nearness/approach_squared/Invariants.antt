@@ -1,7 +1,8 @@
 use Rattle.std.specs.List.{AllByRecursion}
 use Rattle.mob_lift.{specs.Pieces.{pieces_left}, proofs.Walking.{IsWalking}}
 use Rattle.mob_slice.specs.Sides.{operand_of, pieces}
-use Rattle.mob_near.{specs.Entries.{entries_of_approach}, specs.Legs.{nearest_of, piece_approach}, proofs.OnPieces.{IsHeld}}
+use Rattle.mob_legs.specs.Legs.{nearest_of, piece_approach}
+use Rattle.mob_near.{specs.Entries.{entries_of_approach}, proofs.OnPieces.{IsHeld}}
 use Rattle.mob_near.proofs.nearness.approach_squared.Given as goal
 
 abbrev pub invariant-loop-piece : goal.invariant-loop-piece

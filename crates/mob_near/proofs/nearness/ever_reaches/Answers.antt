@@ -3,7 +3,8 @@ use Rattle.mob_ratio.{specs.Order.{up_to}, specs.Sign.{nil}, proofs.Order.{not-u
 use Rattle.mob_span.specs.Pieces.{PiecesAreClear}
 use Rattle.mob_slice.{specs.Lines.{plane_value_of}, specs.Sides.{operand_of, pieces, piece_of, given_at}}
 use Rattle.mob_lift.{specs.Pieces.{pieces_left}, specs.Sometime.{IsEver, either}, proofs.Walking.{walking_end, walking_fails}, proofs.AllPieces.{is_ever}}
-use Rattle.mob_near.{specs.Distances.{distance_squared}, specs.Entries.{entries_of_reach}, specs.Legs.{piece_reaches}, proofs.OnPieces.{IsHeld, all_reached}}
+use Rattle.mob_legs.specs.Legs.{piece_reaches}
+use Rattle.mob_near.{specs.Distances.{distance_squared}, specs.Entries.{entries_of_reach}, proofs.OnPieces.{IsHeld, all_reached}}
 use Rattle.mob_near.proofs.nearness.ever_reaches.Goals as goal
 
 pub returns-clause-value : goal.returns-clause-value

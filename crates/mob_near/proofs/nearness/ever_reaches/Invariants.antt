@@ -1,7 +1,8 @@
 use Rattle.std.specs.List.{AllByRecursion}
 use Rattle.mob_lift.{specs.Pieces.{pieces_left}, specs.Sometime.{either}, proofs.Walking.{IsWalking}}
 use Rattle.mob_slice.specs.Sides.{operand_of, pieces}
-use Rattle.mob_near.{specs.Entries.{entries_of_reach}, specs.Legs.{piece_reaches}, proofs.OnPieces.{IsHeld}}
+use Rattle.mob_legs.specs.Legs.{piece_reaches}
+use Rattle.mob_near.{specs.Entries.{entries_of_reach}, proofs.OnPieces.{IsHeld}}
 use Rattle.mob_near.proofs.nearness.ever_reaches.Given as goal
 
 abbrev pub invariant-loop-piece : goal.invariant-loop-piece

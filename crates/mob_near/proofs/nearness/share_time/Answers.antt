@@ -2,7 +2,8 @@ use Rattle.std.proofs.Common.{ap, ◌∙◌, subst}
 use Rattle.mob_span.specs.Pieces.{PiecesAreClear}
 use Rattle.mob_slice.specs.Sides.{operand_of, piece_of}
 use Rattle.mob_lift.specs.Pieces.{pieces_left}
-use Rattle.mob_near.{specs.Legs.{are_some}, proofs.Answering.{common_exact, next_tells}}
+use Rattle.mob_legs.specs.Legs.{are_some}
+use Rattle.mob_near.proofs.Answering.{common_exact, next_tells}
 use Rattle.mob_near.proofs.nearness.share_time.Goals as goal
 
 pub returns-clause-common : goal.returns-clause-common

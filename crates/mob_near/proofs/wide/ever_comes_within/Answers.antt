@@ -2,7 +2,8 @@ use Rattle.std.{specs.List.{AllByRecursion}, specs.Prelude.{[], true, Some}, pro
 use Rattle.mob_span.specs.Pieces.{PiecesAreClear}
 use Rattle.mob_slice.specs.Sides.{operand_of, pieces, piece_of}
 use Rattle.mob_lift.{specs.Pieces.{pieces_left}, specs.Sometime.{either}, proofs.Walking.{walking_end}}
-use Rattle.mob_near.{specs.Legs.{piece_reaches}, proofs.OnPieces.{IsHeld}, proofs.Widely.{ever_is, hit_is}}
+use Rattle.mob_legs.specs.Legs.{piece_reaches}
+use Rattle.mob_near.{proofs.OnPieces.{IsHeld}, proofs.Widely.{ever_is, hit_is}}
 use Rattle.mob_near.proofs.wide.ever_comes_within.Goals as goal
 
 pub returns : goal.returns

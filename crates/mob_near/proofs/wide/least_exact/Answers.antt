@@ -2,7 +2,8 @@ use Rattle.std.{specs.List.{AllByRecursion}, specs.Prelude.{[]}, proofs.Common.{
 use Rattle.mob_span.specs.Pieces.{PiecesAreClear}
 use Rattle.mob_slice.specs.Sides.{operand_of, pieces}
 use Rattle.mob_lift.{specs.Pieces.{pieces_left}, proofs.Walking.{walking_end}}
-use Rattle.mob_near.{specs.Legs.{nearest_of, piece_approach}, proofs.OnPieces.{IsHeld}, proofs.Widely.{nearest_is, least_all}}
+use Rattle.mob_legs.specs.Legs.{nearest_of, piece_approach}
+use Rattle.mob_near.{proofs.OnPieces.{IsHeld}, proofs.Widely.{nearest_is, least_all}}
 use Rattle.mob_near.proofs.wide.least_exact.Goals as goal
 
 pub returns-clause-value : goal.returns-clause-value

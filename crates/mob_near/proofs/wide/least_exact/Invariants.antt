@@ -2,7 +2,8 @@ use Rattle.std.{specs.List.{AllByRecursion}, specs.Prelude.{[]}}
 use Rattle.mob_span.specs.Pieces.{PiecesAreClear}
 use Rattle.mob_lift.{specs.Pieces.{pieces_left}, proofs.Walking.{IsWalking}}
 use Rattle.mob_slice.specs.Sides.{operand_of, pieces}
-use Rattle.mob_near.{specs.Legs.{nearest_of, piece_approach}, proofs.OnPieces.{IsHeld}}
+use Rattle.mob_legs.specs.Legs.{nearest_of, piece_approach}
+use Rattle.mob_near.proofs.OnPieces.{IsHeld}
 use Rattle.mob_near.proofs.wide.least_exact.Given as goal
 
 abbrev pub invariant-loop-piece : goal.invariant-loop-piece

@@ -7,7 +7,7 @@ use Rattle.mob_tail.proofs.GroupLoop.{IsGroupedSoFar, number_within, next_groupe
 use Rattle.mob_tail.proofs.grouping.grouped_tuples.Goals as goal
 
 pub loop-place-init : goal.loop-place-init
-loop-place-init c = record { held = c.requires.start; fits = refl }
+loop-place-init c = record { are = c.requires.start; fits = refl }
 
 pub loop-place-preserved : goal.loop-place-preserved
 loop-place-preserved c =
@@ -47,7 +47,7 @@ returns c =
     let select = select_seen c.args.select.now in
     let all = take_all at.place c.args.kept.now c.loop-place-test.false in
     record {
-      groups = subst (λ z. AreGroupsOf select c.args.store.now c.args.terms.now (keys_on select c.args.store.now c.args.terms.now c.args.kept.now) z at.groups.items) all at.invariant.held;
+      groups = subst (λ z. AreGroupsOf select c.args.store.now c.args.terms.now (keys_on select c.args.store.now c.args.terms.now c.args.kept.now) z at.groups.items) all at.invariant.are;
       fits = subst (λ z. IsGroupedFault select c.args.store.now c.args.terms.now z _) all at.invariant.fits;
       fault = tt;
     }

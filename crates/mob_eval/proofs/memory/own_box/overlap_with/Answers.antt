@@ -1,3 +1,4 @@
+use Rattle.std.proofs.Common.{[]}
 use Rattle.mob_eval.{specs.Views.{scene_of}, proofs.Recalled.{two_operands}}
 use Rattle.mob_clip.proofs.OwnBoxes.{overlap_is}
 use Rattle.mob_eval.proofs.memory.own_box.overlap_with.Goals as goal
@@ -8,10 +9,10 @@ returns-in-len2 g c =
 
 pub box_with-one-requires : goal.box_with-one-requires
 box_with-one-requires g c =
-    let two = two_operands g.K.Remembering.recollection (scene_of c.args.view.now) c.args.operands.now c.one-item.result c.other-item.result c.args.left.now c.args.right.now c.in-len2.len_at_least c.in-len2.len_below c.one-item.is c.other-item.is c.requires.fits c.requires.given in
+    let two = two_operands g.K.Remembering.recollection (scene_of c.args.view.now) c.args.operands.now c.one-item.result c.other-item.result c.args.left.now c.args.right.now [] c.in-len2.len_at_least c.one-item.is c.other-item.is c.requires.fits c.requires.given in
     record { fits = two.fits; value = two.value }
 
 pub box_with-other-requires : goal.box_with-other-requires
 box_with-other-requires g c =
-    let two = two_operands g.K.Remembering.recollection (scene_of c.args.view.now) c.args.operands.now c.one-item.result c.other-item.result c.args.left.now c.args.right.now c.in-len2.len_at_least c.in-len2.len_below c.one-item.is c.other-item.is c.requires.fits c.requires.given in
+    let two = two_operands g.K.Remembering.recollection (scene_of c.args.view.now) c.args.operands.now c.one-item.result c.other-item.result c.args.left.now c.args.right.now [] c.in-len2.len_at_least c.one-item.is c.other-item.is c.requires.fits c.requires.given in
     record { fits = two.fits_too; value = two.value_too }

@@ -1,0 +1,3 @@
+pub mod Formulas
+pub mod Broadly
+pub mod Covering

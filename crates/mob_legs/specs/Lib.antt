@@ -1,0 +1,4 @@
+pub mod Legs
+pub mod Broad
+pub mod Covers
+pub mod Covering
