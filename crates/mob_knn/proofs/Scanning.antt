@@ -4,11 +4,10 @@ use Rattle.std.{proofs.Common.{arith, ap, sym, ◌∙◌, subst, inl, inr, true�
 use Rattle.mob_list.{proofs.Each.{each_both, each_more, each_on}, proofs.Entries.{each_of_all, all_by_each, first_in, later_in, none_in, which_in}}
 use Rattle.mob_ratio.{specs.Ratio.{Ratio}, specs.Order.{before, up_to, same}, proofs.Order.{before-trans, before-up_to, before-weak, same_exact, up_to-before, up_to-equal, up_to-self}}
 use Rattle.mob_slice.{specs.Lines.{plane_value_of}, specs.Sides.{Slices, given_at}}
-use Rattle.mob_near.specs.Approaches.{IsApproach}
 use Rattle.mob_stbox.specs.Boxes.{BoxOf}
 use Rattle.mob_value.specs.ValueBoxes.{IsBoxOf}
-use Rattle.mob_knn.{specs.Gaps.{gap_of, gap_reaches}, specs.declared.gaps.kind.Gap.{Gap}, specs.declared.gaps.kind.Gap.TheVariants.{Apart, AtLeast}}
-use Rattle.mob_knn.specs.Nearest.{TripOf, Asked, AreAllRows, AreFirstRows, AreNearest, HasApproach, IsAskedBox, IsRising, nearer}
+use Rattle.mob_knn.{specs.Gaps.{gap_of, gap_reaches}, specs.declared.gaps.kind.Gap.TheVariants.{Apart, AtLeast}}
+use Rattle.mob_knn.specs.Nearest.{TripOf, Asked, AreFirstRows, AreNearest, HasApproach, IsAskedBox, IsRising, nearer}
 use Rattle.mob_knn.{specs.Scans.{AreAllBelow, IsBelowFirst, IsConsidered, IsItsApproach, IsPlaceOf, put_in}, proofs.Bounds.{approach_reaches}, proofs.Known.{asked_covers}, proofs.OneNearest.{cut_first}, proofs.Rows.{one_approach}, proofs.Searching.{nearer_before, nearer_level}}
 
 abbrev Row : Type 0

@@ -1,5 +1,5 @@
 -- mobnear is a program over a table of trips, and its faults end a run.
-use Rattle.std.{specs.Prelude.{◌≡◌, ℕ, List, Option, true, refl}, specs.List.{AllByRecursion}, proofs.Common.{sym, subst}}
+use Rattle.std.{specs.Prelude.{◌≡◌, ℕ, List, Option, true, refl}, specs.List.{AllByRecursion}, proofs.Common.{subst}}
 use Rattle.mob_value.specs.declared.value.Value.{Value}
 use Rattle.mob_list.{specs.Faults.{OnCause}, specs.declared.fault.Fault.{Fault}}
 use Rattle.mob_slice.specs.declared.formula.Formula.{Formula}
@@ -9,7 +9,7 @@ use Rattle.mob_frac.specs.Fits.{Fits}
 use Rattle.mob_ratio.specs.Ratio.{Ratio}
 use Rattle.mob_knn.{specs.Nearest.{Asked, AreNearest, HasApproach}, proofs.OneNearest.{one_first}}
 use Rattle.mob_trips.specs.Rows.{Trip, trips_in}
-use Rattle.mob_near_run.{specs.NearAnswers.{ArePrintable, IsPassedIn, IsRowPassed, IsUnprintable, NearWrites, target_operand}, specs.NearProgram.{near_program}, specs.declared.settings.NearSettings.{NearSettings}, proofs.Targets.{near_one}}
+use Rattle.mob_near_run.{specs.NearAnswers.{IsPassedIn, IsRowPassed, IsUnprintable, target_operand}, specs.NearProgram.{near_program}, specs.declared.settings.NearSettings.{NearSettings}, proofs.Targets.{near_one}}
 
 pub fault_ends : (settings : NearSettings) (rows : List (List Value)) (fault : Fault (ℕ × Formula)) (ending : TripsEnding) → EndsAt fault ending → OnCause (λ f. IsRowPassed settings rows f.0 f.1) fault → EndsOn near_program settings rows ending
 fault_ends settings rows = ends_at near_program settings rows (λ f. IsRowPassed settings rows f.0 f.1) (λ f h. (f.0, refl, h))

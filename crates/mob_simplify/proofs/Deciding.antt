@@ -3,7 +3,7 @@ use Rattle.std.{specs.Prelude.{◌≡◌, ◌≢◌, true, [], ◌∷◌, pos, r
 use Rattle.mob_ratio.{specs.Ratio.{Ratio, whole, ◌+ℚ◌, ◌-ℚ◌, ◌*ℚ◌, ◌/ℚ◌, ◌<ℚ◌, ◌≤ℚ◌}, specs.Order.{before, up_to}, specs.Sign.{nil}, specs.Quadratic.{one}, specs.Line.{line_at}, proofs.LineAt.{line_at-quotient}}
 use Rattle.mob_ratio.{proofs.Field.{mul_assoc, lt_of_mul_pos}, proofs.Divide.{div-mul, sub_ne-zero, mul_cancel}, proofs.Order.{before-lt, before-trans, before-weak, le-test, not-up_to-le}}
 use Rattle.mob_ratio.{proofs.Convex.{above_ne, mul_lt, sub_lt, le_of_mul_pos}, proofs.Ring.{at, lit, ◌⊕◌, ◌⊗◌, ◌⊖◌}, proofs.Rings.{ring_ℚ}}
-use Rattle.mob_near.specs.Distances.{length_squared}
+use Rattle.mob_legs.specs.Legs.{length_squared}
 use Rattle.mob_simplify.{specs.Breaks.{off_course}, specs.Skips.{DecidesFor, spare_beside}, specs.declared.breaks.Break.{Break}}
 use Rattle.mob_simplify.proofs.Convexity.{above, going, gone_after, gone_until, is_gone, within_at}
 

@@ -1,7 +1,7 @@
 -- The tests that are skipped, and the breaks that are not held any longer.
 use Rattle.std.{specs.Prelude.{◌≡◌, Bool, true, false, ◌&&◌, List, [], ◌∷◌, ◌++◌, refl}, specs.List.{AllByRecursion}, proofs.Common.{ap, sym, ◌∙◌, subst, append_assoc, append-nil}}
 use Rattle.mob_list.proofs.Each.{each_both, each_on}
-use Rattle.mob_ratio.{specs.Ratio.{Ratio, ◌*ℚ◌}, specs.Order.{before, up_to}, proofs.Order.{before-trans, before-weak, up_to-before, up_to-self}}
+use Rattle.mob_ratio.{specs.Ratio.{Ratio, ◌*ℚ◌}, specs.Order.{before, up_to}, proofs.Order.{before-weak, up_to-before, up_to-self}}
 use Rattle.mob_simplify.{specs.Breaks.{off_course, passes_within}, specs.Skips.{AreSure, DecideAlike, DecidesFor, IsInCircle, IsKnownBetween, has_velocity, is_sure, rate_east, rate_north, velocities_near}}
 use Rattle.mob_simplify.{specs.declared.breaks.Break.{Break}, specs.declared.velocities.Sure.{Sure}, specs.declared.velocities.Sure.TheVariants.{All}, proofs.InTurn.{IsWithin}, proofs.Squares.{near_by_square}}
 

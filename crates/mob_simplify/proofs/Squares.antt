@@ -1,11 +1,10 @@
 -- A course whose velocity is in the square of a break is near the break.
 use Rattle.std.{specs.Prelude.{◌≡◌, true, [], ◌∷◌, pos, refl}, proofs.Common.{ap, sym, ◌∙◌, subst}}
-use Rattle.mob_ratio.{specs.Gcd.{gcd, gcd_steps}, specs.Lowest.{in_lowest_terms}, specs.Ratio.{Ratio, over, whole, ◌+ℚ◌, ◌-ℚ◌, ◌*ℚ◌, ◌/ℚ◌, ◌<ℚ◌, ◌≤ℚ◌}, specs.Order.{before, up_to}, specs.Sign.{nil}, specs.Line.{line_at}, proofs.LineAt.{line_at-quotient}}
-use Rattle.mob_ratio.{proofs.Field.{le_by, le_trans, le_of_lt, mul_assoc}, proofs.Divide.{div-mul, sub_ne-zero, whole_ne-zero}, proofs.Order.{before-lt, before-trans, le-test, not-up_to-le}}
-use Rattle.mob_ratio.{proofs.Convex.{add_le, mul_le, sub_le, sub_lt, square_le, le_mul_pos, le_of_mul_pos}, proofs.Ring.{at, lit, ◌⊕◌, ◌⊗◌, ◌⊖◌}, proofs.Rings.{ring_ℚ}}
+use Rattle.mob_ratio.{specs.Gcd.{gcd, gcd_steps}, specs.Lowest.{in_lowest_terms}, specs.Ratio.{Ratio, over, whole, ◌+ℚ◌, ◌-ℚ◌, ◌*ℚ◌, ◌/ℚ◌, ◌≤ℚ◌}, specs.Order.{before, up_to}, specs.Sign.{nil}, specs.Line.{line_at}, proofs.LineAt.{line_at-quotient}}
+use Rattle.mob_ratio.{proofs.Field.{le_by, le_trans, le_of_lt}, proofs.Divide.{div-mul, sub_ne-zero, whole_ne-zero}, proofs.Order.{before-lt, before-trans, le-test, not-up_to-le}}
+use Rattle.mob_ratio.{proofs.Convex.{add_le, mul_le, sub_le, square_le, le_mul_pos, le_of_mul_pos}, proofs.Ring.{at, lit, ◌⊕◌, ◌⊗◌, ◌⊖◌}, proofs.Rings.{ring_ℚ}}
 use Rattle.mob_frac.specs.Fits.{ratio}
-use Rattle.mob_near.specs.Distances.{length_squared}
-use Rattle.mob_simplify.{specs.Breaks.{off_course}, specs.Skips.{IsInCircle, has_velocity, rate, rate_east, rate_north, time_to, velocities_near}, specs.declared.breaks.Break.{Break}}
+use Rattle.mob_simplify.{specs.Breaks.{off_course}, specs.Skips.{IsInCircle, has_velocity, rate, rate_east, rate_north, velocities_near}, specs.declared.breaks.Break.{Break}}
 use Rattle.mob_simplify.{proofs.Convexity.{above, is_gone}, proofs.Rectangles.{bounded}}
 
 -- ---- the square in the circle

@@ -3,7 +3,7 @@ ghost use Rattle.std.specs.Prelude.{◌≡◌, true, IfOk};
 ghost use Rattle.mob_ratio.specs.Line.{line_at};
 ghost use Rattle.mob_ratio.specs.Order.{before, up_to};
 ghost use Rattle.mob_ratio.specs.Ratio.{◌-ℚ◌, ◌*ℚ◌};
-ghost use Rattle.mob_near.specs.Distances.{length_squared};
+ghost use Rattle.mob_legs.specs.Legs.{length_squared};
 ghost use Rattle.mob_simplify.specs.Breaks.{off_course};
 ghost use Rattle.mob_simplify.specs.Reaches.{IsBreakReach, IsSquared};
 

@@ -1,11 +1,11 @@
 -- With `--wide` the tests of a row have no parts, and the text stays.
-use Rattle.std.{specs.Prelude.{◌≡◌, [], ◌∷◌, ℕ, ℤ, List, Some, None, true, refl}, specs.List.{AllZip, AllByRecursion}, proofs.lemmas.Option.{none-some}, proofs.Common.{ap, sym, ◌∙◌, subst, inl, inr}}
+use Rattle.std.{specs.Prelude.{◌≡◌, [], ◌∷◌, ℕ, ℤ, List, Some, None, refl}, specs.List.{AllZip, AllByRecursion}, proofs.lemmas.Option.{none-some}, proofs.Common.{ap, sym, ◌∙◌, subst, inl, inr}}
 use Rattle.mob_ratio.specs.Ratio.{Ratio}
-use Rattle.mob_slice.{specs.Entries.{IsFirst}, specs.declared.formula.Formula.{Formula}, specs.declared.mode.Mode.{Mode}, specs.declared.mode.Mode.TheVariants.{Wide}, proofs.Firsts.{one_first}}
+use Rattle.mob_slice.{specs.Entries.{IsFirst}, specs.declared.formula.Formula.{Formula}, specs.declared.mode.Mode.TheVariants.{Wide}}
 use Rattle.mob_value.{specs.declared.value.Value.{Value}, specs.declared.value.Value.TheVariants.{MovingPoint}}
 use Rattle.mob_simplify.{proofs.Found.{found}, proofs.OneRuns.{one_thin}}
 use Rattle.mob_trips.specs.Modes.{trips_mode}
-use Rattle.mob_thin_run.{specs.ThinRows.{AreThinRows, IsThinText, IsThinValue, OnTests, PassesFirst, RowTestPasses, RowTestsFit, table_text}, specs.WideThin.{HasOneThinText, WideStopsNowhere, WideWritesTheSameTable}}
+use Rattle.mob_thin_run.{specs.ThinRows.{AreThinRows, IsThinText, IsThinValue, OnTests, RowTestPasses, RowTestsFit, table_text}, specs.WideThin.{HasOneThinText, WideStopsNowhere, WideWritesTheSameTable}}
 
 -- ---- no part stops
 no_formula : (f : Formula) → IsFirst [] (Some f) → ⊥

@@ -1,6 +1,6 @@
-use Rattle.std.proofs.Common.{rules, drop, ◌+◌, ◌≡◌, [], ◌∷◌, ◌++◌, arith}
+use Rattle.std.proofs.Common.{rules, drop, ◌+◌, arith}
 use Rattle.mob_list.proofs.Entries.{drop_read}
-use Rattle.mob_simplify.proofs.Sifting.{sifting_start, sifting_drop, sifting_keep, sifting_end}
+use Rattle.mob_simplify.proofs.Sifting.{sifting_start, sifting_drop, sifting_keep}
 use Rattle.mob_simplify.proofs.holding.sifted.Goals as goal
 
 pub loop-b-init : goal.loop-b-init

@@ -1,5 +1,4 @@
-use Rattle.std.proofs.Common.{rules, sym, ◌∙◌}
-use Rattle.mob_simplify.specs.Breaks.{start_of}
+use Rattle.std.proofs.Common.{sym, ◌∙◌}
 use Rattle.mob_simplify.proofs.Stepping.{after_start, before_end, held_before, next_known, next_value, not_going}
 use Rattle.mob_simplify.proofs.skipping.next_stays.Goals as goal
 
