@@ -417,9 +417,9 @@ or_none : (o : Option Ratio) → o ≡ nearer_of o None
 or_none None = refl
 or_none (Some a) = refl
 
-module _ (left rest : List (PieceOf (Slice PlaneLine) (Slice PlaneLine))) (m : PieceOf (Slice PlaneLine) (Slice PlaneLine)) (o all : Option Ratio) (a : Ratio) where
-  pub piece_counted : left ≡ m ∷ rest → nearer_of o (least_approach (map both_move left)) ≡ all → a ≡ nearest_of o (piece_approach (both_move m)) → nearer_of (Some a) (least_approach (map both_move rest)) ≡ all
-  piece_counted e h k = ap (λ z. nearer_of (Some z) (least_approach (map both_move rest))) k ∙ piece_nearer o (least_approach (map both_move rest)) all (piece_approach (both_move m)) (ap (λ l. nearer_of o (least_approach (map both_move l))) (sym e) ∙ h)
+module _ (left rest : List (PieceOf (Slice PlaneLine) (Slice PlaneLine))) (m : PieceOf (Slice PlaneLine) (Slice PlaneLine)) (o n all : Option Ratio) where
+  pub piece_counted : left ≡ m ∷ rest → nearer_of o (least_approach (map both_move left)) ≡ all → n ≡ Some (nearest_of o (piece_approach (both_move m))) → nearer_of n (least_approach (map both_move rest)) ≡ all
+  piece_counted e h k = ap (λ z. nearer_of z (least_approach (map both_move rest))) k ∙ piece_nearer o (least_approach (map both_move rest)) all (piece_approach (both_move m)) (ap (λ l. nearer_of o (least_approach (map both_move l))) (sym e) ∙ h)
 
 pub pieces_counted : (left : List (PieceOf (Slice PlaneLine) (Slice PlaneLine))) (o all : Option Ratio) → left ≡ [] → nearer_of o (least_approach (map both_move left)) ≡ all → o ≡ all
 pieces_counted left o all e h = or_none o ∙ ap (λ l. nearer_of o (least_approach (map both_move l))) (sym e) ∙ h

@@ -273,8 +273,7 @@ fn runs_nearer(
             left: Side::Moving(met.left),
             right: Side::Moving(met.right),
         };
-        let here = nearer_directly(alloc, &piece, nearest, last)?;
-        nearest = Some(here);
+        nearer_directly(alloc, &piece, &mut nearest, last)?;
     }
     Ok(nearest)
 }

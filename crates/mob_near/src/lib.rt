@@ -16,6 +16,7 @@ mod leg;
 mod nearness;
 mod piece;
 pub mod sql;
+mod testing;
 mod wide;
 
 pub use covered::{approach_covered, ever_within_covered, least_covered};

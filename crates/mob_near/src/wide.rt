@@ -1,6 +1,6 @@
 //! Nearness in numbers of any size, as with `--wide`. A piece is decided in `Frac`s, and only if a
 //! step of that overflows, in `Broad`s. Pieces that cannot matter are skipped.
-ghost use Rattle.std.specs.Prelude.{◌≡◌, ◌||◌, true, false, None, IfOk, IfSome};
+ghost use Rattle.std.specs.Prelude.{◌≡◌, ◌||◌, true, false, None, Some, IfOk, IfSome};
 ghost use Rattle.mob_ratio.specs.Order.{before, up_to, smaller, greater};
 ghost use Rattle.mob_ratio.specs.Ratio.{◌+ℚ◌, ◌*ℚ◌};
 ghost use Rattle.mob_ratio.specs.Sign.{nil};
@@ -19,6 +19,7 @@ ghost use Rattle.mob_near.specs.Wide.{IsGivenOf, approach_entries_in, least_appr
 use crate::known::{LastFound, nothing, square_of};
 use crate::nearness::{never, share_time};
 use crate::piece::{piece_approach, piece_reaches};
+use crate::testing::{Testing, at_once, is_due, learn};
 use mob_frac::Frac;
 use mob_legs::{broad_approach, broad_reaches};
 use mob_lift::either;
@@ -176,15 +177,29 @@ pub(crate) fn comes_within_directly(
     }
 }
 
-/// Whether the squared distance is at most `square`, that of `d`, at some instant of the piece. A
-/// piece whose rectangles are too far apart is not computed.
+// Whether a test is due and shows that the rectangles of the two sides' slices lie beyond the
+// distance `d` of each other.
+fn is_skipped(piece: &Piece<'_, PlaneLine, PlaneLine>, d: &Frac, testing: &mut Testing) -> bool
+    ensures far { result ≡ true → is_beyond d.now (piece_covers (piece_of piece.now)).0 (piece_covers (piece_of piece.now)).1 ≡ true }
+{
+    if !is_due(testing) {
+        return false;
+    }
+    let far = is_far(piece, d);
+    learn(testing, far);
+    far
+}
+
+// Whether the squared distance is at most `square`, that of `d`, at some instant of the piece. A
+// piece is not computed if a test shows that its rectangles are too far apart.
 #[tactic(auto, using(crate::proofs::Widely::far_piece))]
-pub(crate) fn comes_within(
+fn comes_within(
     alloc: Global,
     piece: &Piece<'_, PlaneLine, PlaneLine>,
     d: &Frac,
     square: &Exact,
     last: &mut LastFound,
+    testing: &mut Testing,
 ) -> Result<bool, AllocError>
     requires holds { HoldsPiece (λ c. c.from) (λ c. c.to) (λ c. c.from) (λ c. c.to) (piece_of piece.now) }
     requires some { has_instant piece.now.span ≡ true }
@@ -192,14 +207,14 @@ pub(crate) fn comes_within(
     requires square { square.now ≡ d.now *ℚ d.now }
     ensures value { IfOk result (λ b. b ≡ piece_reaches square.now (piece_of piece.now)) }
 {
-    if is_far(piece, d) {
+    if is_skipped(piece, d, testing) {
         return Ok(false);
     }
     comes_within_directly(alloc, piece, d, square, last)
 }
 
 // Whether the squared distance is at most `square`, that of `d`, at some common instant. The walk
-// stops at the first piece that has one.
+// stops at the first piece that has one, and tests the rectangles of pieces while that skips some.
 fn ever_comes_within(
     alloc: Global,
     a: Operand<'_, PlaneLine>,
@@ -214,8 +229,9 @@ fn ever_comes_within(
 {
     let mut found = None;
     let mut last = nothing();
+    let mut testing = at_once();
     for piece in Pieces::new(a, b) {
-        let here = match comes_within(alloc, &piece, d, square, &mut last) {
+        let here = match comes_within(alloc, &piece, d, square, &mut last, &mut testing) {
             Ok(here) => here,
             Err(fault) => return Err(fault),
         };
@@ -315,107 +331,158 @@ fn is_beyond_found(
     Ok(!nearer)
 }
 
-// The smaller of two numbers.
-fn smaller_exact(alloc: Global, here: Exact, found: Exact) -> Result<Exact, AllocError>
-    ensures value { IfOk result (λ m. m ≡ smaller here found) }
+// Lowers the result so far to a number, if that is no larger.
+fn lower(alloc: Global, here: Exact, found: &mut Exact) -> Result<(), AllocError>
+    ensures value { IfOk result (λ _. found.new ≡ smaller here found.old) }
 {
     let less = found.is_below(alloc, &here)?;
     if less {
-        return Ok(found);
+        return Ok(());
     }
-    Ok(here)
+    *found = here;
+    Ok(())
 }
 
-// The smaller of the result so far and that of one more piece that does not fit `Frac`s: in
-// `Broad`s, unless its rectangles are no nearer.
+// Lowers the result so far to a `Frac`, if that is no larger. If both are `Frac`s, they are compared
+// first, so that usually nothing is moved.
+fn lower_to(alloc: Global, here: &Frac, found: &mut Exact) -> Result<(), AllocError>
+    ensures value { IfOk result (λ _. found.new ≡ smaller here.now found.old) }
+{
+    let Some(known) = found.as_frac() else {
+        return lower(alloc, Exact::of(here), found);
+    };
+    if known.is_before(here) {
+        return Ok(());
+    }
+    *found = Exact::of(here);
+    Ok(())
+}
+
+// Lowers the result so far to that of one more piece that does not fit `Frac`s: in `Broad`s, unless
+// its rectangles are no nearer.
 #[tactic(auto, using(crate::proofs::Widely::beyond_piece))]
 fn nearer_broadly(
     alloc: Global,
     piece: &Piece<'_, PlaneLine, PlaneLine>,
-    found: Exact,
-) -> Result<Exact, AllocError>
+    found: &mut Exact,
+) -> Result<(), AllocError>
     requires holds { HoldsPiece (λ c. c.from) (λ c. c.to) (λ c. c.from) (λ c. c.to) (piece_of piece.now) }
     requires some { has_instant piece.now.span ≡ true }
-    ensures value { IfOk result (λ m. m ≡ smaller (piece_approach (piece_of piece.now)) found) }
+    ensures value { IfOk result (λ _. found.new ≡ smaller (piece_approach (piece_of piece.now)) found.old) }
 {
-    let beyond = is_beyond_found(alloc, piece, &found)?;
+    let beyond = is_beyond_found(alloc, piece, found)?;
     if beyond {
-        return Ok(found);
+        return Ok(());
     }
     let here = approach_broadly(alloc, piece)?;
-    smaller_exact(alloc, here, found)
+    lower(alloc, here, found)
 }
 
-// The smaller of the result so far and that of one more piece, which is computed in `Frac`s without
-// a look at its rectangles.
+// Lowers the result so far to that of one more piece, which is computed in `Frac`s without a look at
+// its rectangles.
 fn nearer_than_directly(
     alloc: Global,
     piece: &Piece<'_, PlaneLine, PlaneLine>,
-    found: Exact,
+    found: &mut Exact,
     last: &mut LastFound,
-) -> Result<Exact, AllocError>
+) -> Result<(), AllocError>
     requires holds { HoldsPiece (λ c. c.from) (λ c. c.to) (λ c. c.from) (λ c. c.to) (piece_of piece.now) }
     requires some { has_instant piece.now.span ≡ true }
-    ensures value { IfOk result (λ m. m ≡ smaller (piece_approach (piece_of piece.now)) found) }
+    ensures value { IfOk result (λ _. found.new ≡ smaller (piece_approach (piece_of piece.now)) found.old) }
 {
     match piece_approach(alloc, piece, last) {
-        Ok(here) => smaller_exact(alloc, Exact::of(&here), found),
+        Ok(here) => lower_to(alloc, &here, found),
         Err(_) => nearer_broadly(alloc, piece, found),
     }
 }
 
-/// The smaller of the result so far and that of one more piece, which is computed in `Frac`s
-/// without a look at its rectangles: that serves pieces that are likely near.
+// Sets the result so far to that of the first piece.
+fn nearest_first(
+    alloc: Global,
+    piece: &Piece<'_, PlaneLine, PlaneLine>,
+    found: &mut Option<Exact>,
+    last: &mut LastFound,
+) -> Result<(), AllocError>
+    requires holds { HoldsPiece (λ c. c.from) (λ c. c.to) (λ c. c.from) (λ c. c.to) (piece_of piece.now) }
+    ensures value { IfOk result (λ _. found.new ≡ Some (piece_approach (piece_of piece.now))) }
+{
+    let here = approach_wide_on(alloc, piece, last)?;
+    *found = Some(here);
+    Ok(())
+}
+
+/// Lowers the result so far to that of one more piece, which is computed in `Frac`s without a look
+/// at its rectangles: that serves pieces that are likely near.
 pub(crate) fn nearer_directly(
     alloc: Global,
     piece: &Piece<'_, PlaneLine, PlaneLine>,
-    found: Option<Exact>,
+    found: &mut Option<Exact>,
     last: &mut LastFound,
-) -> Result<Exact, AllocError>
+) -> Result<(), AllocError>
     requires holds { HoldsPiece (λ c. c.from) (λ c. c.to) (λ c. c.from) (λ c. c.to) (piece_of piece.now) }
     requires some { has_instant piece.now.span ≡ true }
-    ensures value { IfOk result (λ m. m ≡ nearest_of found (piece_approach (piece_of piece.now))) }
+    ensures value { IfOk result (λ _. found.new ≡ Some (nearest_of found.old (piece_approach (piece_of piece.now)))) }
 {
     match found {
         Some(found) => nearer_than_directly(alloc, piece, found, last),
-        None => approach_wide_on(alloc, piece, last),
+        None => nearest_first(alloc, piece, found, last),
     }
 }
 
-// The smaller of the result so far and that of one more piece.
+// Whether a test is due and shows that the rectangles of the two sides' slices are at least as far
+// apart as `found`.
+fn is_no_nearer(
+    alloc: Global,
+    piece: &Piece<'_, PlaneLine, PlaneLine>,
+    found: &Exact,
+    testing: &mut Testing,
+) -> Result<bool, AllocError>
+    ensures beyond { IfOk result (λ b. b ≡ true → up_to found.now (cover_gap (piece_covers (piece_of piece.now)).0 (piece_covers (piece_of piece.now)).1) ≡ true) }
+{
+    if !is_due(testing) {
+        return Ok(false);
+    }
+    let beyond = is_beyond_found(alloc, piece, found)?;
+    learn(testing, beyond);
+    Ok(beyond)
+}
+
+// Lowers the result so far to that of one more piece.
 #[tactic(auto, using(crate::proofs::Widely::beyond_piece))]
 fn nearer_than(
     alloc: Global,
     piece: &Piece<'_, PlaneLine, PlaneLine>,
-    found: Exact,
+    found: &mut Exact,
     last: &mut LastFound,
-) -> Result<Exact, AllocError>
+    testing: &mut Testing,
+) -> Result<(), AllocError>
     requires holds { HoldsPiece (λ c. c.from) (λ c. c.to) (λ c. c.from) (λ c. c.to) (piece_of piece.now) }
     requires some { has_instant piece.now.span ≡ true }
-    ensures value { IfOk result (λ m. m ≡ smaller (piece_approach (piece_of piece.now)) found) }
+    ensures value { IfOk result (λ _. found.new ≡ smaller (piece_approach (piece_of piece.now)) found.old) }
 {
-    let beyond = is_beyond_found(alloc, piece, &found)?;
+    let beyond = is_no_nearer(alloc, piece, found, testing)?;
     if beyond {
-        return Ok(found);
+        return Ok(());
     }
     nearer_than_directly(alloc, piece, found, last)
 }
 
-/// The smaller of the result so far and that of one more piece. A piece whose rectangles are no
-/// nearer is not computed.
-pub(crate) fn nearer(
+// Lowers the result so far to that of one more piece. A piece is not computed if a test shows that
+// its rectangles are no nearer.
+fn nearer(
     alloc: Global,
     piece: &Piece<'_, PlaneLine, PlaneLine>,
-    found: Option<Exact>,
+    found: &mut Option<Exact>,
     last: &mut LastFound,
-) -> Result<Exact, AllocError>
+    testing: &mut Testing,
+) -> Result<(), AllocError>
     requires holds { HoldsPiece (λ c. c.from) (λ c. c.to) (λ c. c.from) (λ c. c.to) (piece_of piece.now) }
     requires some { has_instant piece.now.span ≡ true }
-    ensures value { IfOk result (λ m. m ≡ nearest_of found (piece_approach (piece_of piece.now))) }
+    ensures value { IfOk result (λ _. found.new ≡ Some (nearest_of found.old (piece_approach (piece_of piece.now)))) }
 {
     match found {
-        Some(found) => nearer_than(alloc, piece, found, last),
-        None => approach_wide_on(alloc, piece, last),
+        Some(found) => nearer_than(alloc, piece, found, last, testing),
+        None => nearest_first(alloc, piece, found, last),
     }
 }
 
@@ -434,11 +501,9 @@ pub fn least_exact(
 {
     let mut nearest = None;
     let mut last = nothing();
+    let mut testing = at_once();
     for piece in Pieces::new(a, b) {
-        nearest = match nearer(alloc, &piece, nearest, &mut last) {
-            Ok(here) => Some(here),
-            Err(fault) => return Err(fault),
-        };
+        nearer(alloc, &piece, &mut nearest, &mut last, &mut testing)?;
     }
     Ok(nearest)
 }

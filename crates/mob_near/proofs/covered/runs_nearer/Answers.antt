@@ -19,7 +19,7 @@ loop-met-preserved c = record {
   goes = search rules;
   ends = search rules;
   hold = walked_next _ _ _ c.in-Some.ensures.steps c.loop-met.invariant.hold;
-  rest = piece_counted _ _ _ _ _ _ c.in-Some.ensures.steps c.loop-met.invariant.rest c.in_ok-here.ensures.value;
+  rest = piece_counted _ _ _ _ _ _ c.in-Some.ensures.steps c.loop-met.invariant.rest c.in_ok-nearer_directly.ensures.value;
 }
 
 pub returns : goal.returns
