@@ -1,5 +1,6 @@
 //! Nearness in numbers of any size, as with `--wide`. A piece is decided in `Frac`s, and only if a
-//! step of that overflows, in `Broad`s. Pieces that cannot matter are skipped.
+//! step of that overflows, in `Broad`s. A walk skips pieces whose rectangles cannot matter, and tests
+//! rectangles as often as that pays.
 ghost use Rattle.std.specs.Prelude.{◌≡◌, ◌||◌, true, false, None, Some, IfOk, IfSome};
 ghost use Rattle.mob_ratio.specs.Order.{before, up_to, smaller, greater};
 ghost use Rattle.mob_ratio.specs.Ratio.{◌+ℚ◌, ◌*ℚ◌};
@@ -214,7 +215,7 @@ fn comes_within(
 }
 
 // Whether the squared distance is at most `square`, that of `d`, at some common instant. The walk
-// stops at the first piece that has one, and tests the rectangles of pieces while that skips some.
+// stops at the first piece that has one.
 fn ever_comes_within(
     alloc: Global,
     a: Operand<'_, PlaneLine>,
@@ -245,8 +246,8 @@ fn ever_comes_within(
 
 /// Whether the two points are within the distance `d` of each other at some instant at which both
 /// are defined, in numbers of any size. It is that of `ever_within`, without its overflows. The
-/// walk stops at the first piece that has such an instant, and skips pieces that are too far apart.
-/// The only error is a failed allocation: it allocates only where a step of a piece overflows.
+/// walk stops at the first piece that has such an instant, and skips most pieces that are too far
+/// apart. The only error is a failed allocation: it allocates only where a step of a piece overflows.
 pub fn ever_within_wide(
     alloc: Global,
     a: Operand<'_, PlaneLine>,
@@ -487,9 +488,9 @@ fn nearer(
 }
 
 /// The greatest lower bound of the squared distance of the two points over all instants at which
-/// both are defined, of any size. `None` exactly if no such instant exists. Pieces whose rectangles
-/// are no nearer than the result so far are skipped. The only error is a failed allocation: it
-/// allocates only where a step of a piece overflows.
+/// both are defined, of any size. `None` exactly if no such instant exists. The walk skips most
+/// pieces whose rectangles are no nearer than the result so far. The only error is a failed
+/// allocation: it allocates only where a step of a piece overflows.
 pub fn least_exact(
     alloc: Global,
     a: Operand<'_, PlaneLine>,
