@@ -5,6 +5,7 @@ pub mod Apart
 pub mod Far
 pub mod Runs
 pub mod Widely
+pub mod Turning
 pub mod Products
 pub mod Stretches
 pub mod Judging

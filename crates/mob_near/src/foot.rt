@@ -1,5 +1,5 @@
 //! The point of a segment that is nearest to (0, 0).
-ghost use Rattle.std.specs.Prelude.{◌≡◌, ◌&&◌};
+ghost use Rattle.std.specs.Prelude.{◌≡◌, ◌&&◌, IfOk};
 ghost use Rattle.mob_ratio.specs.Ratio.{◌+ℚ◌, ◌-ℚ◌, ◌*ℚ◌};
 ghost use Rattle.mob_frac.specs.Formula.{IsFormula, approach_parts, within_parts};
 ghost use Rattle.mob_ratio.specs.Quadratic.{absolute};
@@ -109,4 +109,33 @@ pub fn square_between(leg: &Leg) -> Result<Option<Frac>, Overflow>
     let ey = leg.y1.sub(&leg.y0)?;
     let foot = foot_by(&leg.x0, &leg.y0, &ex, &ey)?;
     foot_square(&foot)
+}
+
+// Whether the nearest point of a leg lies strictly between its ends. It is `Overflow` only if a step
+// does not fit. Where the leg does not approach at its start, that takes one product of vectors.
+#[tactic(auto, using(crate::proofs::Turning::recedes, crate::proofs::Turning::turns))]
+fn turns_between(leg: &Leg) -> Result<bool, Overflow>
+    ensures value { IfOk result (λ b. b ≡ is_on_the_way (foot_of leg.now)) }
+{
+    let ex = leg.x1.sub(&leg.x0)?;
+    let ey = leg.y1.sub(&leg.y0)?;
+    let along = dot(&leg.x0, &ex, &leg.y0, &ey)?;
+    if !along.is_before(&Frac::zero()) {
+        return Ok(false);
+    }
+    let length = dot(&ex, &ex, &ey, &ey)?;
+    let beyond = length.add(&along)?;
+    Ok(Frac::zero().is_before(&beyond))
+}
+
+/// That of `square_between`. It is `Overflow` only if a step does not fit, and takes no step that
+/// the result does not need: most nearest points lie at an end.
+pub fn square_if_between(leg: &Leg) -> Result<Option<Frac>, Overflow>
+    ensures value { IfOk result (λ o. o ≡ foot_square (foot_of leg.now)) }
+{
+    let between = turns_between(leg)?;
+    if !between {
+        return Ok(None);
+    }
+    square_between(leg)
 }

@@ -6,7 +6,7 @@ ghost use Rattle.mob_slice.specs.Sides.{HoldsPiece, piece_of};
 ghost use Rattle.mob_near.specs.Entries.{entries_of_reach, entries_of_approach};
 ghost use Rattle.mob_legs.specs.Legs.{piece_reaches, piece_approach};
 
-use crate::foot::{reaches_between, square_between};
+use crate::foot::{reaches_between, square_between, square_if_between};
 use crate::known::LastFound;
 use crate::leg::{leg_on, squares_at_ends};
 use mob_frac::Frac;
@@ -85,6 +85,27 @@ pub fn piece_approach(
         return Ok(squares.first);
     }
     match square_between(&leg) {
+        Ok(between) => Ok(infimum_by(&squares, between)),
+        Err(_) => Err(Formula::F5),
+    }
+}
+
+/// That of `piece_approach`. The fault only says that a step does not fit: no step is taken that the
+/// result does not need.
+pub fn piece_approach_alone(
+    alloc: Global,
+    piece: &Piece<'_, PlaneLine, PlaneLine>,
+    last: &mut LastFound,
+) -> Result<Frac, Formula>
+    requires holds { HoldsPiece (λ c. c.from) (λ c. c.to) (λ c. c.from) (λ c. c.to) (piece_of piece.now) }
+    ensures value { IfOk result (λ m. m ≡ piece_approach (piece_of piece.now)) }
+{
+    let leg = leg_on(alloc, piece, last)?;
+    let squares = squares_at_ends(&leg, &mut last.squared)?;
+    if !piece.span.is_long() {
+        return Ok(squares.first);
+    }
+    match square_if_between(&leg) {
         Ok(between) => Ok(infimum_by(&squares, between)),
         Err(_) => Err(Formula::F5),
     }

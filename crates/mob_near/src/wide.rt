@@ -19,7 +19,7 @@ ghost use Rattle.mob_near.specs.Wide.{IsGivenOf, approach_entries_in, least_appr
 
 use crate::known::{LastFound, nothing, square_of};
 use crate::nearness::{never, share_time};
-use crate::piece::{piece_approach, piece_reaches};
+use crate::piece::{piece_approach_alone, piece_reaches};
 use crate::testing::{Testing, at_once, is_due, learn};
 use mob_frac::Frac;
 use mob_legs::{broad_approach, broad_reaches};
@@ -65,7 +65,7 @@ fn approach_wide_on(
     requires holds { HoldsPiece (λ c. c.from) (λ c. c.to) (λ c. c.from) (λ c. c.to) (piece_of piece.now) }
     ensures value { IfOk result (λ m. m ≡ piece_approach (piece_of piece.now)) }
 {
-    match piece_approach(alloc, piece, last) {
+    match piece_approach_alone(alloc, piece, last) {
         Ok(least) => Ok(Exact::of(&least)),
         Err(_) => approach_broadly(alloc, piece),
     }
@@ -391,7 +391,7 @@ fn nearer_than_directly(
     requires some { has_instant piece.now.span ≡ true }
     ensures value { IfOk result (λ _. found.new ≡ smaller (piece_approach (piece_of piece.now)) found.old) }
 {
-    match piece_approach(alloc, piece, last) {
+    match piece_approach_alone(alloc, piece, last) {
         Ok(here) => lower_to(alloc, &here, found),
         Err(_) => nearer_broadly(alloc, piece, found),
     }
