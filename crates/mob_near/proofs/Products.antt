@@ -1,7 +1,6 @@
 -- A total over the pieces that two lists share is that over the pieces of their runs.
 use Rattle.std.{specs.Prelude.{◌≡◌, Bool, true, false, cond, ◌&&◌, List, [], ◌∷◌, ◌++◌, refl}, specs.List.{AllByRecursion, filter}}
-use Rattle.std.proofs.Common.{ap, sym, ◌∙◌, subst, map}
-use Rattle.std.proofs.lemmas.Bool.{false_from_ne_true}
+use Rattle.std.proofs.Common.{ap, sym, ◌∙◌, map}
 use Rattle.mob_ratio.specs.Ratio.{Ratio}
 use Rattle.mob_span.{specs.Span.{SpanOf, has, has_instant}, specs.Neighbours.{is_inside}, specs.Meet.{meet_of}, specs.Meets.{PieceOf, shared_pieces}}
 use Rattle.mob_span.{proofs.SpanLemmas.{meet_none}, proofs.Insides.{inside_has}, proofs.Shared.{piece, row}}

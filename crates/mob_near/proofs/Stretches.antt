@@ -1,9 +1,9 @@
 -- Two moving points by the runs of their covers.
-use Rattle.std.{specs.Prelude.{◌≡◌, ◌||◌, ◌+◌, ◌-◌, ◌≤◌, ℕ, zero, suc, Bool, true, false, cond, List, [], ◌∷◌, ◌++◌, map, length, take, drop, slice_range, Option, Some, None, Result, Ok, Err, IfOk, IsTrue, ◌↔◌, MatchOption, refl}, specs.List.{AllByRecursion}, specs.Option.{is_some}}
+use Rattle.std.{specs.Prelude.{◌≡◌, ◌||◌, ◌+◌, ◌-◌, ℕ, zero, suc, Bool, true, false, cond, List, [], ◌∷◌, ◌++◌, map, length, take, drop, slice_range, Option, Some, None, Result, Ok, Err, IfOk, IsTrue, ◌↔◌, MatchOption, refl}, specs.List.{AllByRecursion}, specs.Option.{is_some}}
 use Rattle.std.proofs.Common.{arith, ap, sym, ◌∙◌, subst, true≢false, length-drop, take-append-drop, drop-drop}
 use Rattle.mob_list.proofs.Each.{each_on, each_map}
 use Rattle.mob_ratio.{specs.Ratio.{Ratio, ◌+ℚ◌, ◌*ℚ◌}, specs.Order.{before, up_to, smaller}, specs.Sign.{nil}, proofs.Order.{up_to-trans}}
-use Rattle.mob_span.{specs.Chained.{OfHead, Chained}, specs.Neighbours.{is_inside, is_clear}, specs.Span.{SpanOf, has_instant}, specs.Meets.{PieceOf, shared_pieces}, specs.Pieces.{PiecesAreClear}, proofs.MeetLaws.{meets_clear, meets_hold}}
+use Rattle.mob_span.{specs.Chained.{OfHead, Chained}, specs.Neighbours.{is_inside, is_clear}, specs.Span.{has_instant}, specs.Meets.{PieceOf, shared_pieces}, specs.Pieces.{PiecesAreClear}, proofs.MeetLaws.{meets_clear, meets_hold}}
 use Rattle.mob_slice.{specs.Sides.{Slices, pieces}, specs.Lines.{plane_value_of}, specs.Slices.{IsSound, IsRisingInTime, IsClearOf, value_at}, specs.declared.line.PlaneLine.{PlaneLine}, specs.declared.slice.Slice.{Slice}}
 use Rattle.mob_slice.proofs.Orders.{all_sound, ordered-clear}
 use Rattle.mob_lift.{specs.Pieces.{both_move}, specs.Sometime.{either, IsEver, HaveCommon}, proofs.Walking.{walked}}
