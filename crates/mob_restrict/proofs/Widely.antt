@@ -30,15 +30,15 @@ module _ {C B : Type 0} (value : C → Ratio → Ratio → Ratio → B) (lines :
       let cuts = none_back (record { formula = F2; parts = at_ends (λ t. gap_parts (slice_gaps value gaps x s t)) s.span } ∷ []) (entry_of_roots s.span fs ∷ entry_of_cuts lines s s.span fs ∷ []) h in
       given_fits (value_changes value gaps relates x s) (changes_fit s.span fs (λ t. relates (slice_value value s t) x) (none_one (entry_of_roots s.span fs) (none_front (entry_of_roots s.span fs ∷ []) (entry_of_cuts lines s s.span fs ∷ []) cuts)))
 
-  module _ {start end : C → B} (want : Bool) (s : Slice C) {V : Type 0} (items : V → List (Slice C)) where
-    abbrev wanted : Ratio → Option B
-    wanted t = kept_value want (relates (slice_value value s t) x) (slice_value value s t)
+  abbrev wanted : Bool → Slice C → Ratio → Option B
+  wanted want s t = kept_value want (relates (slice_value value s t) x) (slice_value value s t)
 
-    pub kept_narrow : (v : V) → IsKeptBy value start end items wanted s.span (entries_of_value value lines gaps x s) (Ok v) → IsKeptBy value start end items wanted s.span (given_values value gaps relates x s) (Ok v)
+  module _ {start end : C → B} (want : Bool) (s : Slice C) {V : Type 0} (items : V → List (Slice C)) where
+    pub kept_narrow : (v : V) → IsKeptBy value start end items (wanted want s) s.span (entries_of_value value lines gaps x s) (Ok v) → IsKeptBy value start end items (wanted want s) s.span (given_values value gaps relates x s) (Ok v)
     kept_narrow v h = (h.0, values_narrow s h.1)
 
     -- where they all fit, the result is the same
-    pub kept_alike : IsFirst (entries_of_value value lines gaps x s) None → (q : Result V (Fault Formula)) → IsKeptBy value start end items wanted s.span (entries_of_value value lines gaps x s) q → IsKeptBy value start end items wanted s.span (given_values value gaps relates x s) q
+    pub kept_alike : IsFirst (entries_of_value value lines gaps x s) None → (q : Result V (Fault Formula)) → IsKeptBy value start end items (wanted want s) s.span (entries_of_value value lines gaps x s) q → IsKeptBy value start end items (wanted want s) s.span (given_values value gaps relates x s) q
     kept_alike fits (Ok v) h = kept_narrow v h
     kept_alike fits (Err (Because f)) h = none_some f (one_first (entries_of_value value lines gaps x s) None (Some f) fits h)
     kept_alike fits (Err NoMemory) h = tt
