@@ -3,7 +3,7 @@
 use Rattle.std.{specs.Prelude.{◌≡◌, ◌⊎◌, Bool, true, false, cond, ◌&&◌, Contains, List, [], ◌∷◌, filter, map, None, Some, Option, pos, IfSome, refl}, specs.List.{AllByRecursion}, specs.declared.cmp.Ordering.{Ordering}}
 use Rattle.std.{proofs.Common.{arith, ap, inl, inr, sym, ◌∙◌, subst, true≢false}, proofs.lemmas.Bool.{and_from, and_parts}}
 use Rattle.mob_list.proofs.Entries.{all_by_each, each_of_all, first_in, flat-Contains, later_in, none_in, which_in}
-use Rattle.mob_ratio.{specs.Gcd.{gcd, gcd_steps}, specs.Ratio.{Ratio, inverse, over, turned as turned_round, whole, ◌+ℚ◌, ◌*ℚ◌, ◌/ℚ◌}, specs.Order.{before, greater, same, smaller}, specs.Sign.{opposite, root_at, sign_on}}
+use Rattle.mob_ratio.{specs.Gcd.{gcd, gcd_steps}, specs.Lowest.{in_lowest_terms}, specs.Ratio.{Ratio, inverse, over, turned, whole, ◌+ℚ◌, ◌*ℚ◌, ◌/ℚ◌}, specs.Order.{before, greater, same, smaller}, specs.Sign.{opposite, root_at, sign_on}}
 use Rattle.mob_ratio.{proofs.Clear.{clear1, cleared}, proofs.Field.{midpoint, mul_comm}, proofs.IntRing.{linear}, proofs.Order.{before-back, before-differ, before-differ-back, before-lt, before-neither, before-self, before-trans, before-up_to, between, lt-before, up_to-before}}
 use Rattle.mob_frac.{specs.Fits.{Fits}, specs.Formula.{AllFit, inner_root_parts}, proofs.Fits.{fits_unless}, proofs.Fitting.{all_both, all_first, all_second}}
 use Rattle.mob_span.{specs.Span.{SpanOf, has, has_instant}, specs.Neighbours.{is_inside}, proofs.Insides.{inner_has, inside_has}}
@@ -71,7 +71,7 @@ changes_fit s functions meets h = fit_each (changes_inside meets s functions) (�
 
 -- ---- a test by signs is constant on each cell
 half : inverse (whole (pos 2)) ≡ over (pos 1) 2
-unfolding inverse turned_round whole over gcd gcd_steps
+unfolding inverse turned whole over gcd gcd_steps in_lowest_terms
 half = refl
 
 half_is : (l u : Ratio) → (l +ℚ u) /ℚ whole (pos 2) ≡ over (pos 1) 2 *ℚ (l +ℚ u)

@@ -57,6 +57,24 @@ where
     }
 }
 
+// The comparison on one piece, of steady courses.
+fn on_steps_wide<C: HasCoordinates + Drop>(
+    alloc: Global,
+    piece: &Piece<'_, C, C>,
+    rel: Rel,
+) -> Result<Vec<Slice<Steady<bool>>>, Fault<Formula>>
+where
+    C::Base: Drop,
+    requires steady { C.STEADY ≡ true }
+    requires asked { MayAsk C.ordered rel }
+    ensures given { IsGiven steady_value steady_limit steady_limit (λ v. v.items) (on_sides C.value_of C.value_of (C.relation rel) (piece_of piece.now)) piece.now.span (given_changes C.value_of C.gaps_of (C.relation rel) (piece_of piece.now)) result }
+{
+    // A method call gives the proof the invariant of a span.
+    let _ = piece.span.lower();
+    let value = C::relates(rel, piece.left.start(), piece.right.start());
+    single(alloc, piece.span, value)
+}
+
 // The comparison on one piece.
 fn on_piece_wide<C: HasCoordinates + Drop>(
     alloc: Global,
@@ -70,10 +88,7 @@ where
     ensures given { IsGiven steady_value steady_limit steady_limit (λ v. v.items) (on_sides C.value_of C.value_of (C.relation rel) (piece_of piece.now)) piece.now.span (given_changes C.value_of C.gaps_of (C.relation rel) (piece_of piece.now)) result }
 {
     if C::STEADY {
-        // A method call gives the proof the invariant of a span.
-        let _ = piece.span.lower();
-        let value = C::relates(rel, piece.left.start(), piece.right.start());
-        return single(alloc, piece.span, value);
+        return on_steps_wide::<C>(alloc, piece, rel);
     }
     on_lines_wide::<C>(alloc, piece, rel)
 }

@@ -4,7 +4,7 @@ use Rattle.std.proofs.Common.{ap, sym, ◌∙◌}
 use Rattle.mob_list.{specs.declared.fault.Fault.{Fault}, specs.declared.fault.Fault.TheVariants.{Because, NoMemory}}
 use Rattle.mob_ratio.specs.Ratio.{Ratio}
 use Rattle.mob_span.{specs.Meets.{PieceOf}, proofs.Insides.{inside_self}}
-use Rattle.mob_slice.{specs.Comparison.{IsComparison, gap_parts}, specs.Course.{IsCourse}, specs.Cut.{slice_value}, specs.Entries.{IsFirst}, specs.Modes.{by_mode, entry_given}, specs.OnPiece.{IsKeptBy}, specs.Sides.{at_ends, SideOf, Moves, Stays, HoldsPiece}, specs.Slices.{IsSound}}
+use Rattle.mob_slice.{specs.Comparison.{IsComparison, gap_parts}, specs.Course.{IsCourse}, specs.Cut.{slice_value}, specs.Entries.{IsFirst}, specs.Modes.{by_mode, entry_given}, specs.OnPiece.{AreKeptOn, IsKeptBy}, specs.Sides.{at_ends, SideOf, Moves, Stays, HoldsPiece}, specs.Slices.{IsSound}}
 use Rattle.mob_slice.{specs.declared.comparison.Gaps.{Gaps}, specs.declared.comparison.Rel.{Rel}, specs.declared.comparison.Rel.TheVariants.{Eq}, specs.declared.formula.Formula.{Formula}, specs.declared.formula.Formula.TheVariants.{F2}, specs.declared.mode.Mode.{Mode}, specs.declared.mode.Mode.TheVariants.{Narrow, Wide}, specs.declared.slice.Slice.{Slice}}
 use Rattle.mob_slice.proofs.{Firsts.{one_first}, Narrowing.{given_fits}, OnOnePiece.{kept_behind}, Options.{none_some}}
 use Rattle.mob_cells.{specs.declared.turning.Turning.{Turning}, specs.Gaps.{gap_ends}, specs.Kept.{entry_of_cuts, entry_of_roots}, specs.Restricted.{kept_value}, specs.Turnings.{IsTurning, kept_turned, turn_numbers}}
@@ -33,15 +33,15 @@ module _ {C B : Type 0} (value : C → Ratio → Ratio → Ratio → B) (lines :
   abbrev wanted : Bool → Slice C → Ratio → Option B
   wanted want s t = kept_value want (relates (slice_value value s t) x) (slice_value value s t)
 
-  module _ {start end : C → B} (want : Bool) (s : Slice C) {V : Type 0} (items : V → List (Slice C)) where
-    pub kept_narrow : (v : V) → IsKeptBy value start end items (wanted want s) s.span (entries_of_value value lines gaps x s) (Ok v) → IsKeptBy value start end items (wanted want s) s.span (given_values value gaps relates x s) (Ok v)
+  module _ {start end : C → B} (want : Bool) (s : Slice C) where
+    pub kept_narrow : (v : List (Slice C)) → AreKeptOn value start end (wanted want s) s.span v × IsFirst (entries_of_value value lines gaps x s) None → AreKeptOn value start end (wanted want s) s.span v × IsFirst (given_values value gaps relates x s) None
     kept_narrow v h = (h.0, values_narrow s h.1)
 
     -- where they all fit, the result is the same
-    pub kept_alike : IsFirst (entries_of_value value lines gaps x s) None → (q : Result V (Fault Formula)) → IsKeptBy value start end items (wanted want s) s.span (entries_of_value value lines gaps x s) q → IsKeptBy value start end items (wanted want s) s.span (given_values value gaps relates x s) q
-    kept_alike fits (Ok v) h = kept_narrow v h
-    kept_alike fits (Err (Because f)) h = none_some f (one_first (entries_of_value value lines gaps x s) None (Some f) fits h)
-    kept_alike fits (Err NoMemory) h = tt
+    pub kept_alike : {V : Type 0} (items : V → List (Slice C)) → IsFirst (entries_of_value value lines gaps x s) None → (q : Result V (Fault Formula)) → IsKeptBy value start end items (wanted want s) s.span (entries_of_value value lines gaps x s) q → IsKeptBy value start end items (wanted want s) s.span (given_values value gaps relates x s) q
+    kept_alike items fits (Ok v) h = kept_narrow (items v) h
+    kept_alike items fits (Err (Because f)) h = none_some f (one_first (entries_of_value value lines gaps x s) None (Some f) fits h)
+    kept_alike items fits (Err NoMemory) h = tt
 
 -- ---- by the results on the slice
 module _ {C B : Type 0} {steady copies : Bool} {value : C → Ratio → Ratio → Ratio → B} {start end : C → B} {can_make : B → B → Type 0} {make : B → B → C} {continues : C → C → Ratio → Ratio → Ratio → Bool} {parts : C → Ratio → Ratio → Ratio → List Ratio} (laws : IsCourse steady copies value start end can_make make continues parts)
