@@ -6,6 +6,7 @@ use Rattle.mob_ratio.{specs.Ratio.{Ratio}, specs.Order.{before, up_to, same}, pr
 use Rattle.mob_slice.{specs.Lines.{plane_value_of}, specs.Sides.{Slices, given_at}}
 use Rattle.mob_stbox.specs.Boxes.{BoxOf}
 use Rattle.mob_value.specs.ValueBoxes.{IsBoxOf}
+use Rattle.mob_near.specs.Approaches.{IsApproach}
 use Rattle.mob_knn.{specs.Gaps.{gap_of, gap_reaches}, specs.declared.gaps.kind.Gap.TheVariants.{Apart, AtLeast}}
 use Rattle.mob_knn.specs.Nearest.{TripOf, Asked, AreFirstRows, AreNearest, HasApproach, IsAskedBox, IsRising, nearer}
 use Rattle.mob_knn.{specs.Scans.{AreAllBelow, IsBelowFirst, IsConsidered, IsItsApproach, IsPlaceOf, put_in}, proofs.Bounds.{approach_reaches}, proofs.Known.{asked_covers}, proofs.OneNearest.{cut_first}, proofs.Rows.{one_approach}, proofs.Searching.{nearer_before, nearer_level}}
@@ -29,7 +30,7 @@ put_by_place x (r ∷ rs) (suc place) h =
 -- what holds of it and of all holds after it is put in
 module _ (P : Row → Type 0) (x : Row) (its : P x) where
   each_by : (r : Row) (rs : List Row) → P r → AllByRecursion P rs → AllByRecursion P (put_in x rs) → (b : Bool) → AllByRecursion P (cond b (x ∷ r ∷ rs) (r ∷ put_in x rs))
-  each_by r rs h hs more true = (its, h, hs)
+  each_by r rs h hs more true = (its, (h, hs))
   each_by r rs h hs more false = (h, more)
 
   pub put_each : (rs : List Row) → AllByRecursion P rs → AllByRecursion P (put_in x rs)
@@ -233,6 +234,10 @@ module _ (asked : Asked) (area : BoxOf) (trip : TripOf) (b : BoxOf) (its : IsAsk
 
   pub far_out : (k : ℕ) (rs : List Row) (g : Ratio) → AtLeast g ≡ gap_of b area → AreAllBelow k g rs → (m : Ratio) → IsItsApproach asked (Some trip) m → AreAllBelow k m rs
   far_out k rs g e all m h = more_below k g m rs (subst (λ z. gap_reaches z m ≡ true) (sym e) (reaches m h)) all
+
+-- a trip without an approach
+pub none_there : (asked : Asked) (trip : TripOf) (k : ℕ) (rs : List Row) → IsApproach (given_at plane_value_of (Slices trip)) (given_at plane_value_of asked) None → (m : Ratio) → IsItsApproach asked (Some trip) m → AreAllBelow k m rs
+none_there asked trip k rs none m h = absurd (none h.0)
 
 -- ---- the loop over rows
 pub each_taken : {A : Type 0} (P : A → Type 0) (xs : List A) (i : ℕ) (x : A) → i < length xs → x ≡ get_or xs i x → AllByRecursion P (take i xs) → P x → AllByRecursion P (take (i + 1) xs)

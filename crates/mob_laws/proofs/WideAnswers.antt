@@ -1,12 +1,13 @@
 -- `--wide` changes no answer of a run.
 use Rattle.std.proofs.Common.{◌≡◌, subst, ℕ, ℤ, List, [], ◌∷◌, Option, Ok, sym}
+use Rattle.mob_slice.specs.Modes.{mode_of}
 use Rattle.mob_arguments.specs.declared.options.Settings.{Settings}
 use Rattle.mob_typed.specs.Statements.{StatementOut, deletion, query, plan_of}
 use Rattle.mob_load.specs.Loads.{LoadsScript}
 use Rattle.mob_meaning.specs.declared.terms.Terms.{Terms}
 use Rattle.mob_statements.specs.Statements.{Ran}
 use Rattle.mob_shell.{specs.Inputs.{FilesBy, ScriptBy}, specs.Runs.{RunState, RunsStatement, StatementLeaves, StatementWrites, begin}}
-use Rattle.mob_shell.specs.Terms.{mode_of, terms_of}
+use Rattle.mob_shell.specs.Terms.{terms_of}
 use Rattle.mob_laws.{specs.WideAnswers.{AsksForWide, WideEndsTheSame, WideReadsTheSame, WideWritesTheSame}, proofs.WideQueries.{answer_wide, kept_wide, narrow_terms, wide_terms}}
 
 -- ---- statements

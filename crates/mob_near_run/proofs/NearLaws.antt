@@ -2,8 +2,8 @@
 use Rattle.std.{specs.Prelude.{◌≡◌, ℕ, List, Option, true, refl}, specs.List.{AllByRecursion}, proofs.Common.{subst}}
 use Rattle.mob_value.specs.declared.value.Value.{Value}
 use Rattle.mob_list.{specs.Faults.{OnCause}, specs.declared.fault.Fault.{Fault}}
-use Rattle.mob_slice.specs.declared.formula.Formula.{Formula}
-use Rattle.mob_trips.{specs.Endings.{EndsAt, EndsOn}, specs.Modes.{trips_mode}, specs.Program.{IsExactWith, IsTripsProgram}, specs.declared.ending.TripsEnding.{TripsEnding}, proofs.Whole.{ends_at}}
+use Rattle.mob_slice.{specs.Modes.{mode_of}, specs.declared.formula.Formula.{Formula}}
+use Rattle.mob_trips.{specs.Endings.{EndsAt, EndsOn}, specs.Program.{IsExactWith, IsTripsProgram}, specs.declared.ending.TripsEnding.{TripsEnding}, proofs.Whole.{ends_at}}
 use Rattle.mob_list.proofs.Each.{one_of}
 use Rattle.mob_frac.specs.Fits.{Fits}
 use Rattle.mob_ratio.specs.Ratio.{Ratio}
@@ -29,7 +29,7 @@ printed_apart trips asked k row near f are fit h =
 
 pub is_exact : (settings : NearSettings) → settings.wide ≡ true → IsExactWith near_program settings
 is_exact settings wide = record {
-  written_stops = λ rows text names f h k. printed_apart (trips_in rows) (target_operand settings.to) settings.k k.0 h.0 f h.1 h.2 (subst (λ z. IsPassedIn (trips_mode z) (trips_in rows) (target_operand settings.to) settings.k k.0 f) wide k.2);
+  written_stops = λ rows text names f h k. printed_apart (trips_in rows) (target_operand settings.to) settings.k k.0 h.0 f h.1 h.2 (subst (λ z. IsPassedIn (mode_of z) (trips_in rows) (target_operand settings.to) settings.k k.0 f) wide k.2);
   written_limits = λ rows text names h k. k;
   stopped_limits = λ rows names others f h k. k;
 }

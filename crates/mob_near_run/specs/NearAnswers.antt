@@ -3,12 +3,12 @@ use Rattle.std.{specs.Prelude.{◌≡◌, ◌∷◌, ◌++◌, ℕ, ℤ, List, [
 use Rattle.mob_ratio.specs.Ratio.{Ratio}
 use Rattle.mob_numeral.specs.NumberText.{number_text}
 use Rattle.mob_frac.specs.Fits.{Fits}
-use Rattle.mob_slice.{specs.Sides.{Slices, Base}, specs.declared.formula.Formula.{Formula}, specs.declared.formula.Formula.TheVariants.{Given}, specs.declared.mode.Mode.{Mode}, specs.declared.mode.Mode.TheVariants.{Narrow, Wide}}
+use Rattle.mob_slice.{specs.Modes.{mode_of}, specs.Sides.{Slices, Base}, specs.declared.formula.Formula.{Formula}, specs.declared.formula.Formula.TheVariants.{Given}, specs.declared.mode.Mode.{Mode}, specs.declared.mode.Mode.TheVariants.{Narrow, Wide}}
 use Rattle.mob_value.specs.declared.value.Value.{Value}
 use Rattle.mob_literal.specs.Fields.{field_text}
 use Rattle.mob_records.specs.AnswerText.{answer_text}
 use Rattle.mob_knn.specs.Nearest.{Asked, AreNearest, IsPassed}
-use Rattle.mob_trips.{specs.Modes.{trips_mode}, specs.Rows.{Trip, id_of, id_at, trips_in}}
+use Rattle.mob_trips.specs.Rows.{Trip, id_of, id_at, trips_in}
 use Rattle.mob_near_run.{specs.declared.settings.NearSettings.{NearSettings}, specs.declared.settings.Target.{Target}, specs.declared.settings.Target.TheVariants.{Moving, Fixed}}
 
 abbrev pub target_operand : Target → Asked
@@ -54,4 +54,4 @@ IsPassedIn Narrow trips asked k row formula = IsPassed trips asked k row formula
 IsPassedIn Wide trips asked k row formula = IsUnprintable trips asked k row formula
 
 abbrev pub IsRowPassed : NearSettings → List (List Value) → ℕ → Formula → Type 0
-IsRowPassed settings rows row formula = IsPassedIn (trips_mode settings.wide) (trips_in rows) (target_operand settings.to) settings.k row formula
+IsRowPassed settings rows row formula = IsPassedIn (mode_of settings.wide) (trips_in rows) (target_operand settings.to) settings.k row formula

@@ -20,8 +20,8 @@ use mob_numeral::write_number;
 use mob_records::counted_text;
 use mob_rtree::RTree;
 use mob_scalar::Epoch;
-use mob_slice::{Formula, Mode, Moving, Operand, PlaneLine};
-use mob_trips::{id_text, split_rows, trips_mode};
+use mob_slice::{Formula, Mode, Moving, Operand, PlaneLine, mode_of};
+use mob_trips::{id_text, split_rows};
 use mob_value::{Rows, Value};
 use mob_wide::Exact;
 use std::alloc::{AllocError, Global};
@@ -227,7 +227,7 @@ pub fn near_text(
     let (ids, trips) = split_rows(alloc, rows)?;
     let found = found_in(
         alloc,
-        trips_mode(settings.wide),
+        mode_of(settings.wide),
         trips.as_slice(),
         &settings.to,
         settings.k,

@@ -74,8 +74,8 @@ fn target(alloc: Global, text: &str, epoch: &Epoch) -> Result<Option<Target>, Al
 
 /// The settings that the arguments give, the first of which is the program's name: `--k K` with a
 /// whole number from 1 to 1000, `--to TEXT` with a point or a moving point, `--epoch DATE`, and
-/// `--wide` without a value. `--k` and `--to` are required, and each option may be given once. `--epoch` applies to TEXT,
-/// wherever it is given.
+/// `--wide` without a value. `--k` and `--to` are required, and each option may be given once.
+/// `--epoch` applies to TEXT, wherever it is given.
 ///
 /// `None` exactly if the arguments are not accepted. The only error is a failed allocation.
 pub fn settings(alloc: Global, words: &[String]) -> Result<Option<NearSettings>, AllocError>

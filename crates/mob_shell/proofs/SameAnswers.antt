@@ -4,6 +4,7 @@ use Rattle.mob_arguments.specs.declared.options.Settings.{Settings}
 use Rattle.mob_typed.{specs.Selects.{TypedSelectParts}, specs.Statements.{ScriptOut}}
 use Rattle.mob_value.specs.declared.store.Store.{Store}
 use Rattle.mob_catalog.{specs.Catalogue.{Catalogue, live_of, live_rows, with_changed, with_deleted, without_rows}, specs.declared.catalog.TableHead.{TableHead}}
+use Rattle.mob_slice.specs.Modes.{mode_of}
 use Rattle.mob_meaning.specs.Scene.{scene}
 use Rattle.mob_join.{specs.Deleted.{first_rows}, specs.KeptTuples.{AreThoseThatMeet}, specs.Query.{IsKept, IsMet, IsMetAt, condition_at, conditions}, proofs.KeptTuples.{those_once}}
 use Rattle.mob_tail.specs.Answers.{IsAnswerOnKept}
@@ -16,7 +17,7 @@ use Rattle.mob_shell.specs.SameAnswers.{DifferInWorkers, IndexesAnswerTheSame, I
 use Rattle.mob_shell.specs.StepOutcomes.{OneAnswer}
 use Rattle.mob_statements.specs.Statements.{Ran}
 use Rattle.mob_meaning.specs.declared.terms.Terms.{Terms}
-use Rattle.mob_shell.specs.Terms.{mode_of, terms_of}
+use Rattle.mob_shell.specs.Terms.{terms_of}
 
 -- ---- workers
 

@@ -1,9 +1,14 @@
 -- The entries of an operator in the two modes. In the narrow mode each step of each formula is a
 -- part. In the wide mode, that of `--wide`, the parts are the numbers that the operator gives on
 -- one piece, whatever the steps on the way to them.
-use Rattle.std.specs.Prelude.{List, [], ◌∷◌}
+use Rattle.std.specs.Prelude.{Bool, true, false, List, [], ◌∷◌}
 use Rattle.mob_ratio.specs.Ratio.{Ratio}
 use Rattle.mob_slice.{specs.Entries.{Entry}, specs.declared.formula.Formula.TheVariants.{Given}, specs.declared.mode.Mode.{Mode}, specs.declared.mode.Mode.TheVariants.{Narrow, Wide}}
+
+-- `--wide` asks for the wide mode
+abbrev pub mode_of : Bool → Mode
+mode_of false = Narrow
+mode_of true = Wide
 
 -- the first in the narrow mode, the second in the wide one
 abbrev pub by_mode : {A : Type 0} → Mode → A → A → A

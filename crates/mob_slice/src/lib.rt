@@ -35,7 +35,7 @@ pub use course::Course;
 pub use course::base_value::BaseValue;
 pub use formula::Formula;
 pub use line::{Line, PlaneLine};
-pub use mode::Mode;
+pub use mode::{Mode, mode_of};
 pub use moving::Moving;
 pub use operand::Operand;
 pub use part::{One, Pair, Part};

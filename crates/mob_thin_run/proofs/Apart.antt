@@ -2,10 +2,10 @@
 use Rattle.std.{specs.Prelude.{◌∷◌, [], ℕ, List, Some, None, refl}, specs.List.{AllByRecursion}, proofs.lemmas.Option.{none-some}, proofs.Common.{subst, inl, inr}}
 use Rattle.mob_list.proofs.Each.{one_of}
 use Rattle.mob_ratio.specs.Ratio.{Ratio}
-use Rattle.mob_slice.{specs.Entries.{Entry, IsFirst}, specs.declared.formula.Formula.{Formula}, specs.declared.mode.Mode.{Mode}, proofs.Firsts.{one_first}}
+use Rattle.mob_slice.{specs.Entries.{Entry, IsFirst}, specs.Modes.{mode_of}, specs.declared.formula.Formula.{Formula}, specs.declared.mode.Mode.{Mode}, proofs.Firsts.{one_first}}
 use Rattle.mob_value.{specs.declared.value.Value.{Value}, specs.declared.value.Value.TheVariants.{MovingPoint}}
 use Rattle.mob_simplify.{specs.Thinned.{tests_by_mode}, proofs.OneRuns.{one_runs}}
-use Rattle.mob_trips.{specs.Modes.{trips_mode}, specs.Program.{IsTripsProgram, IsExactWith}}
+use Rattle.mob_trips.specs.Program.{IsTripsProgram, IsExactWith}
 use Rattle.mob_thin_run.{specs.ThinProgram.{thin_program}, specs.declared.settings.ThinSettings.{ThinSettings}, specs.ThinRows.{OnTests, RowTestsFit, RowTestPasses, PassesFirst}}
 use Rattle.mob_thin_run.proofs.OneSetting.{one_setting}
 
@@ -29,13 +29,13 @@ fits_apart mode d rows n f h k = row_apart mode d k.here f (one_of (RowTestsFit 
 pub is_program : IsTripsProgram thin_program
 is_program = record {
   one = one_setting;
-  fits_stops = λ s rows names f h k. fits_apart (trips_mode s.wide) s.within rows k.0 f h k.2;
+  fits_stops = λ s rows names f h k. fits_apart (mode_of s.wide) s.within rows k.0 f h k.2;
   fits_limits = λ s rows names h k. k;
 }
 
 pub is_exact : (s : ThinSettings) → IsExactWith thin_program s
 is_exact s = record {
-  written_stops = λ rows text names f h k. fits_apart (trips_mode s.wide) s.within rows k.0 f h.0 k.2;
+  written_stops = λ rows text names f h k. fits_apart (mode_of s.wide) s.within rows k.0 f h.0 k.2;
   written_limits = λ rows text names h k. k;
   stopped_limits = λ rows names others f h k. k;
 }

@@ -1,10 +1,9 @@
 -- With `--wide` the tests of a row have no parts, and the text stays.
 use Rattle.std.{specs.Prelude.{◌≡◌, [], ◌∷◌, ℕ, ℤ, List, Some, None, refl}, specs.List.{AllZip, AllByRecursion}, proofs.lemmas.Option.{none-some}, proofs.Common.{ap, sym, ◌∙◌, subst, inl, inr}}
 use Rattle.mob_ratio.specs.Ratio.{Ratio}
-use Rattle.mob_slice.{specs.Entries.{IsFirst}, specs.declared.formula.Formula.{Formula}, specs.declared.mode.Mode.TheVariants.{Wide}}
+use Rattle.mob_slice.{specs.Entries.{IsFirst}, specs.Modes.{mode_of}, specs.declared.formula.Formula.{Formula}, specs.declared.mode.Mode.TheVariants.{Wide}}
 use Rattle.mob_value.{specs.declared.value.Value.{Value}, specs.declared.value.Value.TheVariants.{MovingPoint}}
 use Rattle.mob_simplify.{proofs.Found.{found}, proofs.OneRuns.{one_thin}}
-use Rattle.mob_trips.specs.Modes.{trips_mode}
 use Rattle.mob_thin_run.{specs.ThinRows.{AreThinRows, IsThinText, IsThinValue, OnTests, RowTestPasses, RowTestsFit, table_text}, specs.WideThin.{HasOneThinText, WideStopsNowhere, WideWritesTheSameTable}}
 
 -- ---- no part stops
@@ -21,7 +20,7 @@ row_passes d (v ∷ row) f (inl h) = value_passes d v f h
 row_passes d (v ∷ row) f (inr h) = row_passes d row f h.1
 
 pub stops_nowhere : WideStopsNowhere
-stops_nowhere settings rows names f e h = row_passes settings.within h.2.here f (subst (λ z. RowTestPasses (trips_mode z) settings.within h.2.here f) e h.2.passes)
+stops_nowhere settings rows names f e h = row_passes settings.within h.2.here f (subst (λ z. RowTestPasses (mode_of z) settings.within h.2.here f) e h.2.passes)
 
 -- ---- all parts fit
 value_fits : (d : Ratio) (v : Value) → OnTests Wide d v (λ tests. IsFirst tests None)
@@ -41,7 +40,7 @@ text_moves d e day dawn rows text h k is = subst (λ z. IsThinText z dawn rows t
 
 pub writes_the_same : WideWritesTheSameTable
 writes_the_same one other rows text differ h = (
-  subst (λ z. AllByRecursion (RowTestsFit (trips_mode z) other.within) rows) (sym differ.asks) (rows_fit other.within rows),
+  subst (λ z. AllByRecursion (RowTestsFit (mode_of z) other.within) rows) (sym differ.asks) (rows_fit other.within rows),
   text_moves one.within other.within one.epoch other.epoch rows text differ.within differ.epoch h.1,
 )
 

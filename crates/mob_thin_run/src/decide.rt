@@ -8,7 +8,8 @@ ghost use Rattle.mob_thin_run.specs.ThinProgram.{thin_program};
 use crate::command::settings;
 use crate::rows::thin_text;
 use mob_outside::{Sink, Source};
-use mob_trips::{TripsEnding, ending_of, put_text, read_trips, trips_mode};
+use mob_slice::mode_of;
+use mob_trips::{TripsEnding, ending_of, put_text, read_trips};
 use std::alloc::Global;
 
 /// Judges the arguments, reads the table, simplifies its trips and writes the text. Returns the
@@ -32,7 +33,7 @@ pub fn decide<S: Source, K: Sink>(
     };
     let text = match thin_text(
         alloc,
-        trips_mode(settings.wide),
+        mode_of(settings.wide),
         &rows,
         &settings.within,
         &settings.epoch,

@@ -1,7 +1,7 @@
-use Rattle.std.proofs.Common.{drop, ◌+◌, arith, ap, not, sym, ◌∙◌}
+use Rattle.std.{proofs.Common.{drop, length, ◌≤◌, ◌+◌, arith, ap, not, sym, ◌∙◌}, proofs.lemmas.List.{drop_all}}
 use Rattle.mob_list.proofs.Entries.{drop_read}
 use Rattle.mob_ratio.specs.Order.{up_to}
-use Rattle.mob_knn.proofs.Scanning.{each_taken, place_here}
+use Rattle.mob_knn.proofs.Scanning.{each_taken, place_here, place_last}
 use Rattle.mob_knn.proofs.scan.place_of.Goals as goal
 
 pub returns-then-below-clause-place : goal.returns-then-below-clause-place
@@ -20,3 +20,11 @@ loop-row-preserved c =
       count = ap (λ n. n + 1) count;
       behind = rw count (each_taken (λ r. up_to r.1 c.args.m.now ≡ true) xs at.row-index c.row-item.result (omega arith) c.row-item.is (rw count at at.invariant.behind) (ap not (sym c.in_ok-below.ensures.value ∙ c.if-below.false)));
     }
+
+pub returns-clause-place : goal.returns-clause-place
+returns-clause-place c =
+    let at = c.loop-row in
+    let xs = c.args.rows.now in
+    let count = at.invariant.count in
+    let past : length xs ≤ at.place = omega (arith, count) in
+    place_last c.args.m.now xs at.place (drop_all at.place xs past) at.invariant.behind

@@ -4,7 +4,7 @@ use Rattle.mob_knn.{specs.Nearest.{HasApproach}, proofs.Scanning.{scanned_next, 
 use Rattle.mob_knn.proofs.scan.scanned.Goals as goal
 
 pub loop-trip-init : goal.loop-trip-init
-loop-trip-init c = record { count = omega arith; seen = scanning_start c.args.k (HasApproach c.args.trips.now (operand_of c.args.asked.now)) c.new.result.items c.new.ensures.items }
+loop-trip-init c = record { count = omega arith; seen = scanning_start c.args.k (HasApproach c.args.trips.now (operand_of c.args.asked.now)) c.new-best.result.items c.new-best.ensures.items }
 
 pub consider-requires : goal.consider-requires
 consider-requires c = record {
