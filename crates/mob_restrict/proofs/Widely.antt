@@ -33,15 +33,15 @@ module _ {C B : Type 0} (value : C → Ratio → Ratio → Ratio → B) (lines :
   abbrev wanted : Bool → Slice C → Ratio → Option B
   wanted want s t = kept_value want (relates (slice_value value s t) x) (slice_value value s t)
 
-  module _ {start end : C → B} (want : Bool) (s : Slice C) where
-    pub kept_narrow : (v : List (Slice C)) → AreKeptOn value start end (wanted want s) s.span v × IsFirst (entries_of_value value lines gaps x s) None → AreKeptOn value start end (wanted want s) s.span v × IsFirst (given_values value gaps relates x s) None
+  module _ (want : Bool) (s : Slice C) where
+    pub kept_narrow : {start end : C → B} (v : List (Slice C)) → AreKeptOn value start end (wanted want s) s.span v × IsFirst (entries_of_value value lines gaps x s) None → AreKeptOn value start end (wanted want s) s.span v × IsFirst (given_values value gaps relates x s) None
     kept_narrow v h = (h.0, values_narrow s h.1)
 
     -- where they all fit, the result is the same
-    pub kept_alike : {V : Type 0} (items : V → List (Slice C)) → IsFirst (entries_of_value value lines gaps x s) None → (q : Result V (Fault Formula)) → IsKeptBy value start end items (wanted want s) s.span (entries_of_value value lines gaps x s) q → IsKeptBy value start end items (wanted want s) s.span (given_values value gaps relates x s) q
-    kept_alike items fits (Ok v) h = kept_narrow (items v) h
-    kept_alike items fits (Err (Because f)) h = none_some f (one_first (entries_of_value value lines gaps x s) None (Some f) fits h)
-    kept_alike items fits (Err NoMemory) h = tt
+    pub kept_alike : {V : Type 0} (start end : C → B) (items : V → List (Slice C)) → IsFirst (entries_of_value value lines gaps x s) None → (q : Result V (Fault Formula)) → IsKeptBy value start end items (wanted want s) s.span (entries_of_value value lines gaps x s) q → IsKeptBy value start end items (wanted want s) s.span (given_values value gaps relates x s) q
+    kept_alike start end items fits (Ok v) h = kept_narrow (items v) h
+    kept_alike start end items fits (Err (Because f)) h = none_some f (one_first (entries_of_value value lines gaps x s) None (Some f) fits h)
+    kept_alike start end items fits (Err NoMemory) h = tt
 
 -- ---- by the results on the slice
 module _ {C B : Type 0} {steady copies : Bool} {value : C → Ratio → Ratio → Ratio → B} {start end : C → B} {can_make : B → B → Type 0} {make : B → B → C} {continues : C → C → Ratio → Ratio → Ratio → Bool} {parts : C → Ratio → Ratio → Ratio → List Ratio} (laws : IsCourse steady copies value start end can_make make continues parts)
