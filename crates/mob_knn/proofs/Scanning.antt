@@ -136,6 +136,10 @@ pub record IsScanning (k i : ℕ) (has : ℕ → Ratio → Type 0) (best : List 
   pub first : best ≡ take k all
   pub every : (row : ℕ) (m : Ratio) → row < i → has row m → Contains all (row, m) ⊎ AreAllBelow k m (take k all)
 
+none_taken : (k : ℕ) → ◌≡◌ {A = List Row} [] (take k [])
+none_taken zero = refl
+none_taken (suc k) = refl
+
 pub scanning_start : (k : ℕ) (has : ℕ → Ratio → Type 0) (best : List Row) → best ≡ [] → IsScanning k 0 has best
 scanning_start k has best e = record {
   all = [];
@@ -144,10 +148,6 @@ scanning_start k has best e = record {
   first = e ∙ none_taken k;
   every = λ row m lt h. absurd (omega (arith, lt));
 }
-  where
-    none_taken : (k : ℕ) → [] ≡ take k []
-    none_taken zero = refl
-    none_taken (suc k) = refl
 
 row_cases : (row i : ℕ) → row < i + 1 → (row < i) ⊎ (row ≡ i)
 row_cases row zero lt = inr (omega (arith, lt))

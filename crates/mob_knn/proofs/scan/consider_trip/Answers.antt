@@ -7,7 +7,7 @@ pub returns-then-out : goal.returns-then-out
 returns-then-out c = record { considered = inl (rw c.as_slice.ensures.value at (c.in_ok-out.ensures.out c.if-out.true), refl) }
 
 pub returns-in-Some : goal.returns-in-Some
-returns-in-Some c = record { considered = on_ok_weaker c.put.result (λ e. inr (c.in-Some.m, c.in-Some.ensures.value, e)) c.put.ensures.put }
+returns-in-Some c = record { considered = on_ok_weaker c.put.result (λ e. inr (c.in-Some.m, rw c.in-Some.is at c.in_ok-m.ensures.value, e)) c.put.ensures.put }
 
 pub returns-in-None : goal.returns-in-None
-returns-in-None c = record { considered = inl (none_there (operand_of c.args.asked.now) c.args.trip.now c.args.k c.args.best.now.items c.in-None.ensures.value, refl) }
+returns-in-None c = record { considered = inl (none_there (operand_of c.args.asked.now) c.args.trip.now c.args.k c.args.best.now.items (rw c.in-None.is at c.in_ok-m.ensures.value), refl) }

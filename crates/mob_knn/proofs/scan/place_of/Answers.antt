@@ -1,4 +1,4 @@
-use Rattle.std.{proofs.Common.{drop, length, ◌≤◌, ◌+◌, arith, ap, not, sym, ◌∙◌}, proofs.lemmas.List.{drop_all}}
+use Rattle.std.{proofs.Common.{◌≡◌, true, drop, length, ◌≤◌, ◌+◌, arith, ap, not, sym, ◌∙◌}, proofs.lemmas.List.{drop_all}}
 use Rattle.mob_list.proofs.Entries.{drop_read}
 use Rattle.mob_ratio.specs.Order.{up_to}
 use Rattle.mob_knn.proofs.Scanning.{each_taken, place_here, place_last}

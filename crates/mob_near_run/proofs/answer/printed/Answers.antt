@@ -9,7 +9,7 @@ loop-row-init c = record { printed = c.new-printed.ensures.empty; fit = tt }
 
 pub returns-in_err-printed_row-clause-large : goal.returns-in_err-printed_row-clause-large
 returns-in_err-printed_row-clause-large c =
-    let p = err_from_is_err_and c.from_residual-in_err-printed_row.result c.from_residual-in_err-printed_row.ensures.1 in
+    let p = err_from_is_err_and c.from_residual.result c.from_residual.ensures.1 in
     rw (p.1, p.2) (stopped_row c.args.rows.now c.loop-row.row-index c.row-item.result (omega arith) c.row-item.is c.loop-row.invariant.fit c.in_err-printed_row.field-0.0 c.in_err-printed_row.ensures.large)
 
 pub loop-row-preserved : goal.loop-row-preserved
